@@ -5,7 +5,7 @@ its own, and closes each item with a brace at the item's depth. Both ways must l
 
 - Each token of an erased file is a token of its source, in the same order. Its comments are lines of the
   source, in the same order.
-- No token is left out but those of contracts, of ghosts, and of the items and the lines named here. An `impl Drop`
+- No token is left out but those of contracts, of ghosts, of the bounds of types, and of the items and the lines named here. An `impl Drop`
   that is left out drops fields alone.
 - What is private to a crate of Rattle is private to a module.
 - Each source is erased, but for those named here, and no other file claims to be.
@@ -118,6 +118,8 @@ OTHERWISE = [
     ("use std::marker::{Model, Send, Sync};", ""),
     ("fn fmt<W: fmt::Write>(&self, f: &mut fmt::Formatter<W>)", "fn fmt(&self, f: &mut fmt::Formatter<'_>)"),
 ]
+# the first line of a type, up to the bound of its keys, which is left out
+BOUND = re.compile(r"(?<=\n)((?:pub |pub\(crate\) )?(?:struct|enum) [^\n]*?K): IntKey")
 PRELUDE = "use crate::memory::prelude::*;"
 NOTE = "// Only Rust has what follows. It is tested, not proved."
 NOTED = re.compile(r"(pub )?mod (mending|written);")
@@ -190,6 +192,7 @@ def code_of_source(text, source):
     """The lines of code that a source has for Rust."""
     for theirs, ours in OTHERWISE:
         text = text.replace(theirs, ours)
+    text = BOUND.sub(r"\1", text)
     lines, kept, i = without_contracts(text.split("\n")), [], 0
     while i < len(lines):
         line = lines[i].strip()

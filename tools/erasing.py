@@ -1,4 +1,4 @@
-"""The rules by which a Rattle source becomes Rust. Each only leaves text out, but for the last three.
+"""The rules by which a Rattle source becomes Rust. Each only leaves text out, but for rules 7 to 9.
 
 1.  A ghost is left out, with its doc comment: `ghost use ..;`, `ghost name = {..};`, `ghost name: {..},`.
     So is a block of a doc comment, which shows calls as Rattle makes them.
@@ -15,6 +15,8 @@
 8.  A path names a module in place of a crate: `intmap_table::`, `crate::`, `pub(crate)` and `std::`.
 9.  A file that uses anything uses the names of `memory` too. It gets the lines of ADDED, each of which
     names a file written by hand.
+10. A `struct` or an `enum` leaves out the bound of its keys, which Rust needs where a call is made alone. So a struct
+    of a program can have a map, and name no bound.
 
 What no rule knows ends the erasing: a word of Rattle that is left, an `unsafe`, an unknown `impl Drop`, a
 module or an item that isn't there.
@@ -283,6 +285,11 @@ def with_added(text, where):
     return text + (f"\n{ADDED_NOTE}\n" + "\n".join(lines) + "\n" if lines else "")
 
 
+def without_bounds(text):
+    """Rule 10."""
+    return re.sub(r"^((?:pub(?:\([^)]*\))? )?(?:struct|enum) \w+<[^>]*?\bK): IntKey\b", r"\1", text, flags=re.M)
+
+
 def tidied(text):
     """The text without the empty lines that the rules left."""
     text = re.sub(r"[ \t]+\n", "\n", text)
@@ -298,7 +305,7 @@ def erased(text, crate, name, by_hand):
     text = tidied(without_ghosts(without_shown(text)))
     text = tidied(without_uncalled(without_impls(text), f"{crate}/{name}"))
     text = without_attributes(text).replace(FMT, FMT_OF_RUST)
-    text = without_markers(without_modules(text, crate, name, by_hand))
+    text = without_bounds(without_markers(without_modules(text, crate, name, by_hand)))
     for token in TOKEN.findall(text):
         if token in RATTLE:
             raise Refused(f"`{token}` is left")

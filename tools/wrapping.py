@@ -10,8 +10,8 @@ import re
 PAGE = "README.md"
 # the lines of tests, which begin with the name of a call
 TESTS = "tests/calls/table.rs"
-# what isn't the public layer: the proved text, what it stands on, and the same calls by the names of the original
-BELOW = ("proved", "memory", "guard.rs", "check", "original")
+# what isn't the public layer: the proved text, and what it stands on
+BELOW = ("proved", "memory", "guard.rs")
 
 # Public calls of the proved map and set that no public call of the crate makes, and why.
 LEFT = {
@@ -41,14 +41,8 @@ LEFT = {
     "IntSet::extend_from_set": "`extend` takes references to keys",
 }
 
-# What a file has for the feature `check` alone: a statement, an item or a block behind its attribute.
-CHECKED = re.compile(
-    r"^( *)#\[cfg\(feature = \"check\"\)\]\n"
-    r"(?:\1\{\n(?:\1 .*\n)*\1\}\n|\1\S.*;\n|\1\S.*\n(?:\1 .*\n)*\1[^\s{].*\n)",
-    re.M,
-)
-# What it has without that feature.
-UNCHECKED = re.compile(r"^( *)#\[cfg\(not\(feature = \"check\"\)\)\]\n(?:\1\{\n((?:\1 .*\n)*)\1\}\n)?", re.M)
+# A proved call under the guard that mends a map or a set after a panic.
+GUARDED = re.compile(r"guarded\(&mut (self\.\w+), \|(\w+)\| \2\.(\w+\((?:[^()]|\(\))*\))\)")
 # A name that a body gives to one call and returns.
 NAMED = re.compile(r"let (\w+) = ([^;{}]*); ([^;]*\b\1\b[^;]*)$")
 
@@ -57,8 +51,8 @@ CRATES, NOT_CALLS = ["intmap", "intmap_set"], ("/laws.rt", "/decimal.rt", "/json
 # How a public call of the crate reaches a proved one of a type: the files, and what is before the name.
 OF_MAP, OF_SET, OF_ENTRY = r"(map|traits|iter|entry)(/|\.rs)", r"set(/|\.rs)", r"entry(/|\.rs)"
 REACHED = {
-    "IntMap": (OF_MAP, r"(self\.map\.|guard\.0\.|Proved::)"),
-    "IntSet": (OF_SET, r"(self\.set\.|guard\.0\.|Proved::)"),
+    "IntMap": (OF_MAP, r"(self\.map\.|Proved::)"),
+    "IntSet": (OF_SET, r"(self\.set\.|Proved::)"),
     "Entry": (OF_ENTRY, r"(self\.proved\(\)|entry_of\(found\))\."),
     "OccupiedEntry": (r"entry/occupied\.rs", r"self\.0\."),
     "VacantEntry": (r"entry/vacant\.rs", r"(self\.0|vacant_entry\(key, slot\))\."),
@@ -73,19 +67,17 @@ FORWARDS = [
     r"(?:Ok\()?[\w$]+ \{ (?:map|set|inner): CALL\??,? \}\)?",
     r"Debug::fmt\(&self\.inner, f\)",
     r"Entry::of\(CALL\)",
-    r"let guard = Mending\(&mut self\.(?:map|set)\); (?:let result = )?CALL; mem::forget\(guard\);"
-    r"(?: result| granted\(result\))?",
 ]
 # A call of another public call of the crate, which is what that one is.
 PASSES_ON = r"(?:granted\()?(?:self\.|Int(?:Map|Set)::)(\w+)\([\w, ]*\)\)?;?"
 # the types and the calls whose loans of values are written by hand below `proved`
 LENT = {"IterMut", "ValuesMut", "iter_mut", "values_mut", "get_disjoint_mut"}
 # The public calls of sets whose part below `proved` is written by hand, over one proved call of the map.
-OVER_MAP = {"`IntSet`": ["get"], "`set::ExtractIf`": ["next"]}
+OVER_MAP = {"`IntSet`": ["get", "load", "load_factor_thousandths", "try_set_load_factor_thousandths"], "`set::ExtractIf`": ["next"]}
 # Calls in a body that are proved, or public calls of the crate. Lengths are beside the point, and what mends.
-CALLS = r"(self\.(?:map|set|0|inner)|self|guard\.0|Proved|Int(?:Map|Set))(?:\.|::)(\w+)\("
+CALLS = r"(self\.(?:map|set|0|inner)|self|Proved|Int(?:Map|Set))(?:\.|::)(\w+)\("
 BESIDE = {"len", "capacity", "proved", "parted"}
-AGAIN = r"guard\.0\.(entry_of|vacant_entry)\([\w, ]*\)"
+AGAIN = r"\bmap\.(entry_of|vacant_entry)\([\w, ]*\)"
 
 KINDS = ["Is one proved call", "One proved call, and more by hand", "By hand"]
 RULE = "---|---|---|---"
@@ -102,8 +94,12 @@ def layer(folder):
     for path in sorted(glob.glob(f"{folder}/src/**/*.rs", recursive=True)):
         name = os.path.relpath(path, f"{folder}/src")
         if not name.startswith(BELOW):
-            lines = UNCHECKED.sub(r"\2", CHECKED.sub("", text_of(path))).split("\n")
+            lines = GUARDED.sub(r"\1.\3", text_of(path)).split("\n")
             found[name] = "\n".join(it for it in lines if not it.lstrip().startswith("//"))
+    macros = {it[1]: it[0] for text in found.values() for it in re.finditer(r"^macro_rules! (\w+) \{\n(?:.*\n)*?\}\n", text, re.M)}
+    for name, text in found.items():
+        elsewhere = [it for it in macros if re.search(rf"^{it}!", text, re.M) and macros[it] not in text]
+        found[name] = "".join(macros[it] for it in elsewhere) + text
     return found
 
 
@@ -149,12 +145,13 @@ def public_calls(text):
                     returned = re.sub(rf"{{ {named[1]} }}", f"{{ {named[1]}: {named[1]} }}", named[3])
                     returned = re.sub(rf"\b{named[1]}\b(?!:)", lambda _: named[2], returned)
                     code = code[: named.start()] + returned
+                code = code.replace("Self::", f"{of}::")
                 yield re.sub(r"\$\w+", name, of), re.sub(r"\$\w+", name, trait), call[2], code
 
 
 def is_proved(body):
     """Whether a body is one proved call."""
-    return any(re.fullmatch(it.replace("CALL", CALL), body.replace("guard.0.", "self.map.")) for it in FORWARDS)
+    return any(re.fullmatch(it.replace("CALL", CALL), body) for it in FORWARDS)
 
 
 def kind_of(body, trait, bodies, seen=()):

@@ -4,8 +4,6 @@
 /// `PartialEq` and `Eq`, so don't derive these yourself. Derive others above it, such as `Debug`. A
 /// key has the number of its field, so equal numbers are of equal keys.
 ///
-/// # Examples
-///
 /// ```
 /// use intmap_proved::{IntMap, int_key};
 ///
@@ -34,9 +32,9 @@
 ///
 /// Whoever chooses the keys can choose thousands of one slot, and then each call compares thousands
 /// of keys. `scrambled by` a secret, a key has the number that [`scramble`](crate::scramble) makes
-/// of that of its field. So two keys of one slot for one secret have two slots for another. The
-/// secret is an expression, which each call on a key evaluates. It must be the same number as long
-/// as there are maps with such keys, so take a `static`:
+/// of that of its field, so which keys share a slot depends on the secret. The secret is an
+/// expression, which each call on a key evaluates. It must be the same number as long as there are
+/// maps with such keys, so take a `static`:
 ///
 /// ```
 /// use intmap_proved::{IntMap, int_key};
@@ -82,14 +80,14 @@ macro_rules! int_key {
 /// Returns the number that a secret puts in the place of a number. For each secret, different
 /// numbers stay different.
 ///
-/// # Secrecy
+/// # What is known of it
 ///
-/// It keeps those out who choose keys and learn nothing else: without the secret, they can't choose
-/// many keys with equal low bits. It is no cipher. Who sees the order of iteration, or measures the
-/// time of calls, may learn the secret, or enough of it to choose such keys. Where that matters, or
-/// one secret serves many parties, take std's map with its `RandomState`.
-///
-/// # Examples
+/// It is the mixing of SplitMix64 behind an exclusive or with the secret. In a test, fewer than 10 of
+/// 1,000 keys with 12, 32 or 44 equal low bits share a slot. It is no cipher, and nobody has shown
+/// that who doesn't know the secret can't choose many keys of one slot. Who sees the order of
+/// iteration, or measures the time of calls, may learn the secret, or enough of it to choose such
+/// keys. Where that matters, or one secret serves many parties, take std's map with its
+/// `RandomState`.
 ///
 /// ```
 /// use intmap_proved::scramble;

@@ -1,8 +1,9 @@
 //! The guard of the calls that run a caller's code in the middle of a change: that of a closure, of
-//! a drop, or of a key's `number`. Entries have it too, in their insertions.
+//! a drop, or of a key's `number`.
 use crate::IntKey;
 use crate::proved::map::IntMap;
 use crate::proved::set::IntSet;
+use core::mem;
 
 /// What can be mended after a panic.
 pub(crate) trait Mend {
@@ -21,8 +22,8 @@ impl<K: IntKey> Mend for IntSet<K> {
     }
 }
 
-/// Mends a map or a set as it is dropped, which only a panic does: a call that returns forgets it.
-pub(crate) struct Mending<'a, T: Mend>(pub(crate) &'a mut T);
+/// Mends a map or a set as it is dropped, which only a panic does.
+struct Mending<'a, T: Mend>(&'a mut T);
 
 impl<T: Mend> Drop for Mending<'_, T> {
     #[cold]
@@ -30,4 +31,13 @@ impl<T: Mend> Drop for Mending<'_, T> {
     fn drop(&mut self) {
         self.0.mend();
     }
+}
+
+/// Makes a call, and mends the map or the set if the call panics.
+#[inline(always)]
+pub(crate) fn guarded<T: Mend, R>(whole: &mut T, call: impl FnOnce(&mut T) -> R) -> R {
+    let guard = Mending(whole);
+    let result = call(guard.0);
+    mem::forget(guard);
+    result
 }

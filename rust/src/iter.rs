@@ -19,24 +19,21 @@
 //! assert_eq!(map.into_iter().len(), 2);
 //! ```
 use crate::IntKey;
-#[cfg(feature = "check")]
-use crate::check::iter as proved;
 use crate::memory::clone;
-#[cfg(not(feature = "check"))]
 use crate::proved::map::iter as proved;
 use core::fmt::{self, Debug, Formatter};
 use core::iter::FusedIterator;
 
 /// Writes an iterator that counts the items that are left.
-macro_rules! iterators {
+macro_rules! counted {
     ($(
         $(#[$doc:meta])*
-        $name:ident [$($generics:tt)*] [$($args:tt)*] -> $item:ty;
+        $name:ident [$($generics:tt)*] [$($args:tt)*] $inner:ty => $item:ty;
     )*) => { $(
         $(#[$doc])*
         #[must_use = "iterators are lazy and do nothing unless consumed"]
-        pub struct $name<$($generics)*> {
-            pub(crate) inner: proved::$name<$($args)*>,
+        pub struct $name<$($args)*> {
+            pub(crate) inner: $inner,
             pub(crate) left: usize,
         }
 
@@ -45,12 +42,9 @@ macro_rules! iterators {
 
             #[inline]
             fn next(&mut self) -> Option<$item> {
-                let item = self.inner.next();
-                #[cfg(feature = "check")]
-                crate::check::steps(self.left, item.is_some());
-                let item = item?;
+                // before the step, in which the drop of a value may panic
                 self.left = self.left.saturating_sub(1);
-                Some(item)
+                self.inner.next()
             }
 
             #[inline]
@@ -65,7 +59,31 @@ macro_rules! iterators {
     )* };
 }
 
-iterators! {
+/// Writes the text of an iterator that can't be cloned: how many items are left.
+macro_rules! owned {
+    ($($name:ident [$($generics:tt)*] [$($args:tt)*])*) => { $(
+        impl<$($generics)*> Debug for $name<$($args)*> {
+            fn fmt(&self, f: &mut Formatter<'_>) -> fmt::Result {
+                f.debug_struct(stringify!($name)).field("left", &self.left).finish()
+            }
+        }
+    )* };
+}
+
+/// Writes an iterator without items. It allocates nothing.
+macro_rules! empty {
+    ($($name:ident [$($generics:tt)*] [$($args:tt)*])*) => { $(
+        impl<$($generics)*> Default for $name<$($args)*> {
+            fn default() -> Self {
+                $name { inner: Default::default(), left: 0 }
+            }
+        }
+    )* };
+}
+
+pub(crate) use {counted, empty, owned};
+
+counted! {
     /// The pairs of a map, made by [`IntMap::iter`](crate::IntMap::iter).
     ///
     /// ```
@@ -73,7 +91,7 @@ iterators! {
     /// let mut pairs = map.iter();
     /// assert_eq!((pairs.len(), pairs.next()), (2, Some((&0, &'a'))));
     /// ```
-    Iter ['a, K: IntKey, V] ['a, K, V] -> (&'a K, &'a V);
+    Iter ['a, K: IntKey, V] ['a, K, V] proved::Iter<'a, K, V> => (&'a K, &'a V);
 
     /// The pairs of a map, whose values can be changed, made by
     /// [`IntMap::iter_mut`](crate::IntMap::iter_mut).
@@ -83,7 +101,7 @@ iterators! {
     /// *map.iter_mut().next().unwrap().1 = 'z';
     /// assert_eq!(map[0], 'z');
     /// ```
-    IterMut ['a, K: IntKey, V] ['a, K, V] -> (&'a K, &'a mut V);
+    IterMut ['a, K: IntKey, V] ['a, K, V] proved::IterMut<'a, K, V> => (&'a K, &'a mut V);
 
     /// The keys of a map, made by [`IntMap::keys`](crate::IntMap::keys).
     ///
@@ -91,7 +109,7 @@ iterators! {
     /// let map = intmap_proved::IntMap::from([(0u64, 'a'), (1, 'b')]);
     /// assert_eq!(format!("{:?}", map.keys()), "[0, 1]");
     /// ```
-    Keys ['a, K: IntKey, V] ['a, K, V] -> &'a K;
+    Keys ['a, K: IntKey, V] ['a, K, V] proved::Keys<'a, K, V> => &'a K;
 
     /// The values of a map, made by [`IntMap::values`](crate::IntMap::values).
     ///
@@ -99,7 +117,7 @@ iterators! {
     /// let map = intmap_proved::IntMap::from([(0u64, 'a'), (1, 'b')]);
     /// assert_eq!(format!("{:?}", map.values()), "['a', 'b']");
     /// ```
-    Values ['a, K: IntKey, V] ['a, K, V] -> &'a V;
+    Values ['a, K: IntKey, V] ['a, K, V] proved::Values<'a, K, V> => &'a V;
 
     /// The values of a map, which can be changed, made by
     /// [`IntMap::values_mut`](crate::IntMap::values_mut).
@@ -108,7 +126,7 @@ iterators! {
     /// let mut map = intmap_proved::IntMap::from([(0u64, 'a'), (1, 'b')]);
     /// assert_eq!(format!("{:?}", map.values_mut()), "ValuesMut { left: 2 }");
     /// ```
-    ValuesMut ['a, K: IntKey, V] ['a, K, V] -> &'a mut V;
+    ValuesMut ['a, K: IntKey, V] ['a, K, V] proved::ValuesMut<'a, K, V> => &'a mut V;
 
     /// Removes one pair of a map at each step and returns it, made by
     /// [`IntMap::drain`](crate::IntMap::drain). The pairs that it didn't return stay in the map.
@@ -118,7 +136,7 @@ iterators! {
     /// assert_eq!(map.drain().take(1).count(), 1);
     /// assert_eq!(map.len(), 1);
     /// ```
-    Drain ['a, K: IntKey, V] ['a, K, V] -> (K, V);
+    Drain ['a, K: IntKey, V] ['a, K, V] proved::Drain<'a, K, V> => (K, V);
 
     /// The pairs of a map by value, made by [`IntMap::into_iter`](IntoIterator::into_iter).
     ///
@@ -126,7 +144,15 @@ iterators! {
     /// let map = intmap_proved::IntMap::from([(0u64, 'a'), (1, 'b')]);
     /// assert_eq!(map.into_iter().len(), 2);
     /// ```
-    IntoIter [K: IntKey, V] [K, V] -> (K, V);
+    IntoIter [K: IntKey, V] [K, V] proved::IntoIter<K, V> => (K, V);
+
+    /// The keys of a map by value, made by [`IntMap::into_keys`](crate::IntMap::into_keys).
+    ///
+    /// ```
+    /// let map = intmap_proved::IntMap::from([(0u64, 'a'), (1, 'b')]);
+    /// assert_eq!(map.into_keys().last(), Some(1));
+    /// ```
+    IntoKeys [K: IntKey, V] [K, V] proved::IntoKeys<K, V> => K;
 
     /// The values of a map by value, made by [`IntMap::into_values`](crate::IntMap::into_values).
     ///
@@ -134,45 +160,48 @@ iterators! {
     /// let map = intmap_proved::IntMap::from([(0u64, 'a'), (1, 'b')]);
     /// assert_eq!(map.into_values().last(), Some('b'));
     /// ```
-    IntoValues [K: IntKey, V] [K, V] -> V;
+    IntoValues [K: IntKey, V] [K, V] proved::IntoValues<K, V> => V;
 }
 
-/// The keys of a map by value, made by [`IntMap::into_keys`](crate::IntMap::into_keys).
-///
-/// ```
-/// let map = intmap_proved::IntMap::from([(0u64, 'a'), (1, 'b')]);
-/// assert_eq!(map.into_keys().last(), Some(1));
-/// ```
-#[must_use = "iterators are lazy and do nothing unless consumed"]
-pub struct IntoKeys<K: IntKey, V> {
-    pub(crate) inner: proved::IntoKeys<K, V>,
-    pub(crate) left: usize,
+owned! {
+    IterMut ['a, K: IntKey, V] ['a, K, V]
+    ValuesMut ['a, K: IntKey, V] ['a, K, V]
+    Drain ['a, K: IntKey, V] ['a, K, V]
+    IntoIter [K: IntKey, V] [K, V]
+    IntoKeys [K: IntKey, V] [K, V]
+    IntoValues [K: IntKey, V] [K, V]
 }
 
-impl<K: IntKey, V> Iterator for IntoKeys<K, V> {
-    type Item = K;
-
-    #[inline]
-    fn next(&mut self) -> Option<K> {
-        #[cfg(feature = "check")]
-        let left = self.left;
-        // counted before the value is dropped, which may panic
-        self.left = self.len().saturating_sub(1);
-        let key = self.inner.next();
-        #[cfg(feature = "check")]
-        crate::check::steps(left, key.is_some());
-        key
-    }
-
-    #[inline]
-    fn size_hint(&self) -> (usize, Option<usize>) {
-        (self.left, Some(self.left))
-    }
+empty! {
+    Iter ['a, K: IntKey, V] ['a, K, V]
+    IterMut ['a, K: IntKey, V] ['a, K, V]
+    Keys ['a, K: IntKey, V] ['a, K, V]
+    Values ['a, K: IntKey, V] ['a, K, V]
+    ValuesMut ['a, K: IntKey, V] ['a, K, V]
+    IntoIter [K: IntKey, V] [K, V]
+    IntoKeys [K: IntKey, V] [K, V]
+    IntoValues [K: IntKey, V] [K, V]
 }
 
-impl<K: IntKey, V> ExactSizeIterator for IntoKeys<K, V> {}
+/// Writes clones of an iterator, and the text of the items that are left.
+macro_rules! shared {
+    ($($name:ident [$($bound:tt)*])*) => { $(
+        impl<K: IntKey, V> Clone for $name<'_, K, V> {
+            #[inline]
+            fn clone(&self) -> Self {
+                $name { inner: copied(&self.inner), left: self.left }
+            }
+        }
 
-impl<K: IntKey, V> FusedIterator for IntoKeys<K, V> {}
+        impl<K: IntKey + Debug, V $($bound)*> Debug for $name<'_, K, V> {
+            fn fmt(&self, f: &mut Formatter<'_>) -> fmt::Result {
+                Debug::fmt(&self.inner, f)
+            }
+        }
+    )* };
+}
+
+shared!(Iter [: Debug] Keys [] Values [: Debug]);
 
 /// Removes the pairs of a map that a closure picks, one at each step, made by
 /// [`IntMap::extract_if`](crate::IntMap::extract_if).
@@ -182,7 +211,7 @@ impl<K: IntKey, V> FusedIterator for IntoKeys<K, V> {}
 /// assert_eq!(map.extract_if(|key, _| key > 0).next(), Some((1, 'b')));
 /// ```
 #[must_use = "iterators are lazy and do nothing unless consumed"]
-pub struct ExtractIf<'a, K: IntKey, V, F> {
+pub struct ExtractIf<'a, K, V, F> {
     pub(crate) inner: proved::ExtractIf<'a, K, V, F>,
 }
 
@@ -206,46 +235,6 @@ impl<K: IntKey, V, F> Debug for ExtractIf<'_, K, V, F> {
     fn fmt(&self, f: &mut Formatter<'_>) -> fmt::Result {
         f.debug_struct("ExtractIf").finish_non_exhaustive()
     }
-}
-
-/// Writes clones of an iterator, and the text of the items that are left.
-macro_rules! shared {
-    ($($name:ident [$($bound:tt)*])*) => { $(
-        impl<K: IntKey, V> Clone for $name<'_, K, V> {
-            #[inline]
-            fn clone(&self) -> Self {
-                $name { inner: copied(&self.inner), left: self.left }
-            }
-        }
-
-        impl<K: IntKey + Debug, V $($bound)*> Debug for $name<'_, K, V> {
-            fn fmt(&self, f: &mut Formatter<'_>) -> fmt::Result {
-                Debug::fmt(&self.inner, f)
-            }
-        }
-    )* };
-}
-
-shared!(Iter [: Debug] Keys [] Values [: Debug]);
-
-/// Writes the text of an iterator that can't be cloned: how many items are left.
-macro_rules! owned {
-    ($($name:ident [$($args:tt)*])*) => { $(
-        impl<K: IntKey, V> Debug for $name<$($args)*> {
-            fn fmt(&self, f: &mut Formatter<'_>) -> fmt::Result {
-                f.debug_struct(stringify!($name)).field("left", &self.left).finish()
-            }
-        }
-    )* };
-}
-
-owned! {
-    IterMut ['_, K, V]
-    ValuesMut ['_, K, V]
-    Drain ['_, K, V]
-    IntoIter [K, V]
-    IntoKeys [K, V]
-    IntoValues [K, V]
 }
 
 /// A copy of an iterator that holds references alone. It doesn't allocate, so it doesn't fail.

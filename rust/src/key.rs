@@ -1,23 +1,26 @@
-//! The types of keys, and those of them that the proved text doesn't have.
+//! The types of keys: those that the proved text doesn't have, and a check of the rules of all.
 use core::net::Ipv4Addr;
 use core::num::{
     NonZeroI8, NonZeroI16, NonZeroI32, NonZeroI64, NonZeroIsize, NonZeroU8, NonZeroU16, NonZeroU32,
-    NonZeroU64, NonZeroUsize, Wrapping,
+    NonZeroU64, NonZeroUsize, Saturating, Wrapping,
 };
 
-/// The types that can be keys: integers of up to 64 bits, also as `NonZero` and `Wrapping`, `char`,
-/// `bool`, `Ipv4Addr`, and types of your own.
+/// The types that can be keys: integers of up to 64 bits, also as `NonZero`, `Wrapping` and
+/// `Saturating`, `char`, `bool`, `Ipv4Addr`, and types of your own.
+///
+/// A signed integer has the number of the equal `i64`, a `char` that of its code point, `false` 0
+/// and `true` 1. The last byte of an address counts ones, the one before it 256, and so on, so the
+/// addresses of a network differ in their low bits. What wraps a key has its number.
 ///
 /// # Keys of your own
 ///
 /// [`int_key!`](crate::int_key) makes a key of a struct with one field that is a key. Where you
 /// implement this trait by hand, two keys must be equal exactly if their numbers are, and a key's
-/// number must never change. If a type breaks this, then in its maps lookups may miss, pairs may be
-/// lost, lengths may be wrong, and calls may panic or find no memory. There is still no undefined
-/// behavior, and no value is dropped twice. If `number` panics, the map stays whole: the page of the
-/// crate says what that means.
-///
-/// # Examples
+/// number must never change. [`check_keys`](crate::check_keys) tells in a test whether some keys
+/// keep to this. If a type breaks it, then in its maps lookups may miss, pairs may be lost, lengths
+/// may be wrong or wrap below 0, and any call may panic or end the process, as for want of memory.
+/// There is still no undefined behavior, and no value is dropped twice. If `number` panics, the map
+/// stays whole: the page of the crate says what that means.
 ///
 /// A place on a board of 256 columns:
 ///
@@ -49,102 +52,70 @@ use core::num::{
 ///
 pub use crate::proved::map::IntKey;
 
-/// Makes a signed integer a key like the proved `i32` and `i64`: a negative one has the number that
-/// is `2 ^ 64` more.
-macro_rules! signed {
-    ($($key:ty)*) => { $(
-        #[doc = concat!("An `", stringify!($key), "` has the number of the equal `i64`.")]
-        ///
-        /// ```
-        /// use intmap_proved::IntKey;
-        ///
-        #[doc = concat!("assert_eq!((-1", stringify!($key), ").number(), u64::MAX);")]
-        #[doc = concat!("assert_eq!(21", stringify!($key), ".number(), 21);")]
-        /// ```
-        impl IntKey for $key {
+/// Checks by some keys that their type keeps to the rules of [`IntKey`]: that two of them are equal
+/// exactly if their numbers are, and that the number of none changes from one call to the next. It is
+/// for tests of a type that implements the trait by hand. The cost is *O*(*m*^2) for *m* keys.
+///
+/// # Errors
+///
+/// The first key that breaks a rule, behind an earlier key with which it does. Both are one key if
+/// its number changes, or if it isn't equal to itself.
+///
+/// ```
+/// use intmap_proved::{IntKey, check_keys};
+///
+/// #[derive(Clone, Copy, PartialEq, Eq, Debug)]
+/// struct Place(u16, u16);
+///
+/// impl IntKey for Place {
+///     fn number(&self) -> u64 {
+///         // too few columns
+///         u64::from(self.0) * 100 + u64::from(self.1)
+///     }
+/// }
+///
+/// assert_eq!(check_keys(&[Place(0, 99), Place(1, 1)]), Ok(()));
+/// assert_eq!(check_keys(&[Place(0, 101), Place(1, 1)]), Err((Place(0, 101), Place(1, 1))));
+/// ```
+pub fn check_keys<K: IntKey>(keys: &[K]) -> Result<(), (K, K)> {
+    for (place, key) in keys.iter().enumerate() {
+        let breaks = |other: &&K| (*other == key) != (other.number() == key.number());
+        if let Some(other) = keys[..=place].iter().find(breaks) {
+            return Err((*other, *key));
+        }
+    }
+    Ok(())
+}
+
+/// Makes types keys, each by the number that it has.
+macro_rules! keys {
+    ($($($name:ident)+: |$key:ident| $number:expr;)*) => { $( $(
+        impl IntKey for $name {
             #[inline(always)]
             fn number(&self) -> u64 {
-                *self as i64 as u64
+                let $key = self;
+                $number
             }
         }
-    )* };
+    )+ )* };
 }
 
-signed!(i8 i16 isize);
-
-/// A `char` has the number of its code point.
-///
-/// ```
-/// assert_eq!(intmap_proved::IntKey::number(&'a'), 97);
-/// ```
-impl IntKey for char {
-    #[inline(always)]
-    fn number(&self) -> u64 {
-        u64::from(*self)
-    }
+keys! {
+    i8 i16 isize: |key| *key as i64 as u64;
+    char bool: |key| u64::from(*key);
+    Ipv4Addr: |key| key.to_bits().number();
+    NonZeroU8 NonZeroU16 NonZeroU32 NonZeroU64 NonZeroUsize: |key| key.get().number();
+    NonZeroI8 NonZeroI16 NonZeroI32 NonZeroI64 NonZeroIsize: |key| key.get().number();
 }
 
-/// `false` has the number 0, and `true` the number 1.
-///
-/// ```
-/// assert_eq!(intmap_proved::IntKey::number(&true), 1);
-/// ```
-impl IntKey for bool {
-    #[inline(always)]
-    fn number(&self) -> u64 {
-        u64::from(*self)
-    }
-}
-
-/// The last byte of an address counts ones, the one before it 256, and so on. So the addresses of a
-/// network differ in their low bits.
-///
-/// ```
-/// let local = std::net::Ipv4Addr::LOCALHOST;
-/// assert_eq!(intmap_proved::IntKey::number(&local), 127 * 256 * 256 * 256 + 1);
-/// ```
-impl IntKey for Ipv4Addr {
-    #[inline(always)]
-    fn number(&self) -> u64 {
-        u64::from(self.to_bits())
-    }
-}
-
-/// Makes an integer that isn't zero a key.
-macro_rules! nonzero {
-    ($($key:ident)*) => { $(
-        /// It has the number of the integer that it is.
-        ///
-        /// ```
-        #[doc = concat!("use std::num::", stringify!($key), ";")]
-        /// use intmap_proved::IntKey;
-        ///
-        #[doc = concat!("let most = ", stringify!($key), "::MAX;")]
-        /// assert_eq!(most.number(), most.get().number());
-        /// ```
-        impl IntKey for $key {
-            #[inline(always)]
-            fn number(&self) -> u64 {
-                self.get().number()
-            }
-        }
-    )* };
-}
-
-nonzero! {
-    NonZeroU8 NonZeroU16 NonZeroU32 NonZeroU64 NonZeroUsize
-    NonZeroI8 NonZeroI16 NonZeroI32 NonZeroI64 NonZeroIsize
-}
-
-/// It has the number of the key that it wraps.
-///
-/// ```
-/// use intmap_proved::IntKey;
-/// use std::num::Wrapping;
-///
-/// assert_eq!((Wrapping(250u8) + Wrapping(7)).number(), 1);
-/// ```
 impl<K: IntKey> IntKey for Wrapping<K> {
+    #[inline(always)]
+    fn number(&self) -> u64 {
+        self.0.number()
+    }
+}
+
+impl<K: IntKey> IntKey for Saturating<K> {
     #[inline(always)]
     fn number(&self) -> u64 {
         self.0.number()

@@ -1,7 +1,5 @@
 //! The map, and its calls on one key.
 use crate::IntKey;
-#[cfg(feature = "check")]
-use crate::check::{self, List};
 use crate::memory::alloc::Global;
 use crate::proved::map::IntMap as Proved;
 use crate::refusal::{Cause, granted};
@@ -56,101 +54,56 @@ mod walk;
 /// map.remove(0);
 /// assert_eq!(format!("{map:?}"), "{8: 'c', 4: 'b'}");
 /// ```
-pub struct IntMap<K: IntKey, V> {
+pub struct IntMap<K, V> {
     pub(crate) map: Proved<K, V>,
 }
 
 impl<K: IntKey, V> IntMap<K, V> {
-    /// Returns an empty map of 4 slots, with a load factor of 0.909.
+    /// Returns an empty map of 4 slots, with a load factor of 0.909. The cost is *O*(1).
     ///
-    /// Unlike std's, it allocates, so [`Default`] and `mem::take` do too. A failed allocation is
-    /// handled as std does; [`try_new`](IntMap::try_new) returns it. The cost is *O*(1).
-    ///
-    /// # Proved
-    ///
-    /// The contract of [`try_new`](IntMap::try_new).
-    ///
-    /// # Examples
+    /// Unlike std's, it allocates, so [`Default`] and `mem::take` do too, and no map is a constant:
+    /// each slot is there from the start, and stable Rust makes no vector of them in a `const`.
+    /// Where [`try_new`](Self::try_new) fails, this call ends the process.
     ///
     /// ```
-    /// use intmap_proved::IntMap;
-    ///
-    /// let map: IntMap<u64, &str> = IntMap::new();
+    /// let map = intmap_proved::IntMap::<u64, &str>::new();
     /// assert_eq!((map.len(), map.capacity()), (0, 4));
     /// ```
     #[must_use]
     pub fn new() -> IntMap<K, V> {
-        granted(IntMap::try_new())
+        granted(Self::try_new())
     }
 
-    /// The same as [`new`](IntMap::new), but it returns a failure.
+    /// The same as [`new`](Self::new), or [`Cause::Memory`] if an allocation fails.
     ///
-    /// # Errors
-    ///
-    /// [`Cause::Memory`] if an allocation fails.
-    ///
-    /// # Proved
-    ///
-    /// The proved `IntMap::new` has the clauses `state` and `memory`.
-    ///
-    /// # Examples
-    ///
-    /// ```
-    /// use intmap_proved::{Cause, IntMap};
-    ///
-    /// let map: IntMap<u64, &str> = IntMap::try_new()?;
-    /// assert!(map.is_empty());
-    /// # Ok::<(), Cause>(())
-    /// ```
+    /// Proved of `IntMap::new`: `state`, `memory`.
     pub fn try_new() -> Result<IntMap<K, V>, Cause> {
-        let map = Proved::new(Global)?;
-        #[cfg(feature = "check")]
-        check::made("new", 4, &map);
-        Ok(IntMap { map })
+        Ok(IntMap { map: Proved::new(Global)? })
     }
 
     /// Returns an empty map, with a load factor of 0.909. Its capacity is the least power of two
-    /// that is at least `capacity`, and at least 2.
+    /// that is at least `capacity`, and at least 2. The cost is *O*(*c*): all slots are written at
+    /// once, each with 48 bytes if keys and values are `u64`.
     ///
-    /// The load factor isn't considered, so the insertion of `capacity` pairs may still double the
-    /// slots; [`with_room_for`](IntMap::with_room_for) considers it.
+    /// `capacity` counts slots, not pairs: the insertion of 128 pairs into a map that was made with
+    /// 128 doubles them. [`with_room_for`](Self::with_room_for) counts pairs.
     ///
-    /// A failed allocation is handled as std does; [`try_with_capacity`](IntMap::try_with_capacity)
-    /// returns it. The cost is *O*(*c*).
-    ///
-    /// # Panics
-    ///
-    /// If `capacity` is above 2^63.
-    ///
-    /// # Proved
-    ///
-    /// The contract of [`try_with_capacity`](IntMap::try_with_capacity).
-    ///
-    /// # Examples
+    /// Where [`try_with_capacity`](Self::try_with_capacity) fails, this call panics or ends the
+    /// process.
     ///
     /// ```
-    /// use intmap_proved::IntMap;
-    ///
-    /// let map: IntMap<u64, &str> = IntMap::with_capacity(20);
+    /// let map = intmap_proved::IntMap::<u64, &str>::with_capacity(20);
     /// assert_eq!(map.capacity(), 32);
     /// ```
     #[must_use]
     pub fn with_capacity(capacity: usize) -> IntMap<K, V> {
-        granted(IntMap::try_with_capacity(capacity))
+        granted(Self::try_with_capacity(capacity))
     }
 
-    /// The same as [`with_capacity`](IntMap::with_capacity), but it returns a failure.
+    /// The same as [`with_capacity`](Self::with_capacity), or [`Cause::TooLarge`] if `capacity` is
+    /// above 2^63, and otherwise [`Cause::Memory`] if an allocation fails.
     ///
-    /// # Errors
-    ///
-    /// [`Cause::TooLarge`] if `capacity` is above 2^63, and otherwise [`Cause::Memory`] if an
-    /// allocation fails.
-    ///
-    /// # Proved
-    ///
-    /// The proved `IntMap::with_capacity` has the clauses `state`, `capacity` and `too_large`.
-    ///
-    /// # Examples
+    /// Proved of `IntMap::with_capacity`: `state`, `capacity`, `too_large`.
     ///
     /// ```
     /// use intmap_proved::{Cause, IntMap};
@@ -160,47 +113,30 @@ impl<K: IntKey, V> IntMap<K, V> {
     /// assert_eq!(cause((1 << 63) + 1), Some(Cause::TooLarge));
     /// ```
     pub fn try_with_capacity(capacity: usize) -> Result<IntMap<K, V>, Cause> {
-        let made = Proved::with_capacity(Global, capacity);
-        #[cfg(feature = "check")]
-        check::with_capacity(capacity, made.as_ref());
-        Ok(IntMap { map: made? })
+        Ok(IntMap { map: Proved::with_capacity(Global, capacity)? })
     }
 
     /// Returns a reference to the value of the key, or `None` if the key is absent. The cost is
     /// *O*(*s*).
     ///
-    /// # Proved
-    ///
-    /// The proved `IntMap::get` has the clause `value`.
-    ///
-    /// # Examples
+    /// Proved of `IntMap::get`: `value`.
     ///
     /// ```
-    /// use intmap_proved::IntMap;
-    ///
-    /// let map = IntMap::from([(21u64, 'a')]);
+    /// let map = intmap_proved::IntMap::from([(21u64, 'a')]);
     /// assert_eq!((map.get(21), map.get(22)), (Some(&'a'), None));
     /// ```
     #[inline]
     pub fn get(&self, key: K) -> Option<&V> {
-        #[cfg(feature = "check")]
-        check::find("get", &self.map, key, self.map.get(key).map(|it| it as *const V));
         self.map.get(key)
     }
 
     /// Returns a mutable reference to the value of the key, or `None` if the key is absent. The
     /// cost is *O*(*s*).
     ///
-    /// # Proved
-    ///
-    /// The proved `IntMap::get_mut` has the clauses `writes_back`, `value`, `updates` and `len`.
-    ///
-    /// # Examples
+    /// Proved of `IntMap::get_mut`: `writes_back`, `value`, `updates`, `len`.
     ///
     /// ```
-    /// use intmap_proved::IntMap;
-    ///
-    /// let mut map = IntMap::from([(21u64, 1)]);
+    /// let mut map = intmap_proved::IntMap::from([(21u64, 1)]);
     /// if let Some(value) = map.get_mut(21) {
     ///     *value += 1;
     /// }
@@ -208,30 +144,17 @@ impl<K: IntKey, V> IntMap<K, V> {
     /// ```
     #[inline]
     pub fn get_mut(&mut self, key: K) -> Option<&mut V> {
-        #[cfg(feature = "check")]
-        let found = self.map.get_mut(key).map(|it| it as *const V);
-        #[cfg(feature = "check")]
-        check::find("get_mut", &self.map, key, found);
         self.map.get_mut(key)
     }
 
     /// Returns mutable references to the values of several keys at once, each `None` if its key is
-    /// absent. The cost is *O*(*s*) for each of the *m* keys, and *O*(*m* log *m*).
+    /// absent. It panics if two of the keys are equal and present. The cost is *O*(*s*) for each of
+    /// the *m* keys, and *O*(*m* log *m*).
     ///
-    /// # Panics
-    ///
-    /// If two of the keys are equal and present.
-    ///
-    /// # Proved
-    ///
-    /// In part: the search for each key is proved. The references are lent by hand.
-    ///
-    /// # Examples
+    /// Proved in part: the search for each key is proved. The references are lent by hand.
     ///
     /// ```
-    /// use intmap_proved::IntMap;
-    ///
-    /// let mut map = IntMap::from([(21u64, 1), (22, 2)]);
+    /// let mut map = intmap_proved::IntMap::from([(21u64, 1), (22, 2)]);
     /// if let [Some(one), Some(other), None] = map.get_disjoint_mut([22, 21, 23]) {
     ///     std::mem::swap(one, other);
     /// }
@@ -244,127 +167,76 @@ impl<K: IntKey, V> IntMap<K, V> {
     /// ```
     #[track_caller]
     pub fn get_disjoint_mut<const N: usize>(&mut self, keys: [K; N]) -> [Option<&mut V>; N] {
-        #[cfg(feature = "check")]
-        let found = self.map.get_disjoint_mut(keys).map(|it| it.map(|it| it as *const V));
-        #[cfg(feature = "check")]
-        check::find_each(&self.map, keys, found);
         self.map.get_disjoint_mut(keys)
     }
 
     /// Returns references to the key in the map and to its value, or `None` if the key is absent.
     /// The cost is *O*(*s*).
     ///
-    /// # Proved
-    ///
-    /// The proved `IntMap::get_key_value` has the clauses `key` and `value`.
-    ///
-    /// # Examples
+    /// Proved of `IntMap::get_key_value`: `key`, `value`.
     ///
     /// ```
-    /// use intmap_proved::IntMap;
-    ///
-    /// let map = IntMap::from([(21u64, 'a')]);
+    /// let map = intmap_proved::IntMap::from([(21u64, 'a')]);
     /// assert_eq!(map.get_key_value(21), Some((&21, &'a')));
     /// ```
     #[inline]
     pub fn get_key_value(&self, key: K) -> Option<(&K, &V)> {
-        #[cfg(feature = "check")]
-        check::find_pair(&self.map, key, self.map.get_key_value(key));
         self.map.get_key_value(key)
     }
 
     /// Returns references to the key and the value of the pair that iteration visits first, or
-    /// `None` if the map is empty. The cost is *O*(1 + *c*/64).
+    /// `None` if the map is empty. Its key isn't the least. The cost is *O*(1 + *c*/64).
     ///
-    /// # Proved
-    ///
-    /// The proved `IntMap::first_key_value` has the clause `value`.
-    ///
-    /// # Examples
+    /// Proved of `IntMap::first_key_value`: `value`.
     ///
     /// ```
-    /// use intmap_proved::IntMap;
-    ///
-    /// let map = IntMap::from([(4u64, 'b'), (0, 'a')]);
+    /// let map = intmap_proved::IntMap::from([(4u64, 'b'), (0, 'a')]);
     /// assert_eq!(map.first_key_value(), map.iter().next());
     /// ```
     pub fn first_key_value(&self) -> Option<(&K, &V)> {
-        #[cfg(feature = "check")]
-        check::find_first(&self.map, self.map.first_key_value());
         self.map.first_key_value()
     }
 
     /// Returns whether the key is present. The cost is *O*(*s*).
     ///
-    /// # Proved
-    ///
-    /// The proved `IntMap::contains_key` has the clause `value`.
-    ///
-    /// # Examples
+    /// Proved of `IntMap::contains_key`: `value`.
     ///
     /// ```
-    /// use intmap_proved::IntMap;
-    ///
-    /// let map = IntMap::from([(21u64, 'a')]);
+    /// let map = intmap_proved::IntMap::from([(21u64, 'a')]);
     /// assert!(map.contains_key(21) && !map.contains_key(22));
     /// ```
     #[inline]
     pub fn contains_key(&self, key: K) -> bool {
-        #[cfg(feature = "check")]
-        check::contains(&self.map, key, self.map.contains_key(key));
         self.map.contains_key(key)
     }
 
-    /// Removes the pair of the key, and returns its value, or `None` if the key is absent.
+    /// Removes the pair of the key, and returns its value, or `None` if the key is absent. The cost
+    /// is *O*(*s*).
     ///
     /// The last pair of the slot takes its place, and the other pairs keep their order. The
-    /// capacity and the [memory](IntMap#memory) stay. The cost is *O*(*s*).
+    /// capacity and the [memory](IntMap#memory) stay.
     ///
-    /// # Proved
-    ///
-    /// The proved `IntMap::remove` has the clauses `value`, `state`, `absent`, `updates` and `len`.
-    ///
-    /// # Examples
+    /// Proved of `IntMap::remove`: `value`, `state`, `absent`, `updates`, `len`.
     ///
     /// ```
-    /// use intmap_proved::IntMap;
-    ///
-    /// let mut map = IntMap::from([(21u64, 'a')]);
-    /// assert_eq!(map.remove(21), Some('a'));
-    /// assert_eq!(map.remove(21), None);
+    /// let mut map = intmap_proved::IntMap::from([(21u64, 'a')]);
+    /// assert_eq!((map.remove(21), map.remove(21)), (Some('a'), None));
     /// ```
     #[inline]
     pub fn remove(&mut self, key: K) -> Option<V> {
-        #[cfg(feature = "check")]
-        let before = List::of_some(&self.map);
-        let value = self.map.remove(key);
-        #[cfg(feature = "check")]
-        check::remove("remove", before, key, value.is_some(), &self.map);
-        value
+        self.map.remove(key)
     }
 
-    /// The same as [`remove`](IntMap::remove), but it returns the key beside its value.
+    /// The same as [`remove`](Self::remove), but it returns the key beside its value.
     ///
-    /// # Proved
-    ///
-    /// The proved `IntMap::remove_entry` has the clauses `key`, `value`, `state`, `absent`,
-    /// `updates` and `len`.
-    ///
-    /// # Examples
+    /// Proved of `IntMap::remove_entry`: `key`, `value`, `state`, `absent`, `updates`, `len`.
     ///
     /// ```
-    /// use intmap_proved::IntMap;
-    ///
-    /// let mut map = IntMap::from([(21u64, 'a')]);
+    /// let mut map = intmap_proved::IntMap::from([(21u64, 'a')]);
     /// assert_eq!(map.remove_entry(21), Some((21, 'a')));
     /// ```
     #[inline]
     pub fn remove_entry(&mut self, key: K) -> Option<(K, V)> {
-        #[cfg(feature = "check")]
-        let before = List::of_some(&self.map);
-        let pair = self.map.remove_entry(key);
-        #[cfg(feature = "check")]
-        check::remove("remove_entry", before, key, pair.is_some(), &self.map);
-        pair
+        self.map.remove_entry(key)
     }
 }

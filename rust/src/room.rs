@@ -1,6 +1,6 @@
-//! How many slots hold so many pairs.
+//! How many slots hold so many pairs, and load factors.
 
-/// The load factor of a new map and of every set, in thousandths.
+/// The load factor of a new map and of a new set, in thousandths.
 pub(crate) const FIRST_FACTOR: usize = 909;
 
 /// The least capacity of a map or a set.
@@ -11,4 +11,14 @@ pub(crate) const LEAST_SLOTS: usize = 2;
 pub(crate) fn slots_for(pairs: usize, factor: usize) -> usize {
     let least = pairs as u128 * 1000 / (factor as u128 + 1) + 1;
     usize::try_from(least).unwrap_or(usize::MAX)
+}
+
+/// A load factor in thousandths. A debug build tells what is no number of pairs for each slot.
+#[track_caller]
+pub(crate) fn thousandths_of(load_factor: f32) -> usize {
+    debug_assert!(
+        load_factor < 10.,
+        "{load_factor} is no load factor: it is a share, such as 0.75"
+    );
+    (load_factor * 1000.) as usize
 }

@@ -10,13 +10,10 @@
 //! assert_eq!(count(IntSet::from([1, 2]).union(&IntSet::from([2, 3]))), 3);
 //! ```
 use crate::IntKey;
-#[cfg(feature = "check")]
-use crate::check::{self, List};
-use crate::guard::Mending;
+use crate::guard::guarded;
 use crate::memory::alloc::Global;
 use crate::proved::set::IntSet as Proved;
 use crate::refusal::{Cause, granted};
-use core::mem;
 
 mod combine;
 mod iter;
@@ -36,8 +33,6 @@ pub use iter::{
 /// calls say of their cost, *n* is the number of members, *c* the capacity, and *s* the number of
 /// members in the slot of the key.
 ///
-/// # Examples
-///
 /// ```
 /// use intmap_proved::IntSet;
 ///
@@ -46,21 +41,13 @@ pub use iter::{
 /// assert_eq!(&first & &second, IntSet::from([2, 3]));
 /// assert!(first.contains(1) && !second.contains(1));
 /// ```
-pub struct IntSet<K: IntKey> {
+pub struct IntSet<K> {
     set: Proved<K>,
 }
 
 impl<K: IntKey> IntSet<K> {
-    /// Returns an empty set of 4 slots, with a load factor of 0.909.
-    ///
-    /// Unlike std's, it allocates. A failed allocation is handled as std does;
-    /// [`try_new`](IntSet::try_new) returns it. The cost is *O*(1).
-    ///
-    /// # Proved
-    ///
-    /// The contract of [`try_new`](IntSet::try_new).
-    ///
-    /// # Examples
+    /// Returns an empty set of 4 slots, with a load factor of 0.909. Unlike std's, it allocates.
+    /// The cost is *O*(1). Where [`try_new`](Self::try_new) fails, this call ends the process.
     ///
     /// ```
     /// let set = intmap_proved::IntSet::<u64>::new();
@@ -68,102 +55,44 @@ impl<K: IntKey> IntSet<K> {
     /// ```
     #[must_use]
     pub fn new() -> IntSet<K> {
-        granted(IntSet::try_new())
+        granted(Self::try_new())
     }
 
-    /// The same as [`new`](IntSet::new), but it returns a failure.
+    /// The same as [`new`](Self::new), or [`Cause::Memory`] if an allocation fails.
     ///
-    /// # Errors
-    ///
-    /// [`Cause::Memory`] if an allocation fails.
-    ///
-    /// # Proved
-    ///
-    /// The proved `IntSet::new` has the clauses `state` and `memory`.
-    ///
-    /// # Examples
-    ///
-    /// ```
-    /// use intmap_proved::{Cause, IntSet};
-    ///
-    /// assert!(IntSet::<u64>::try_new()?.is_empty());
-    /// # Ok::<(), Cause>(())
-    /// ```
+    /// Proved of `IntSet::new`: `state`, `memory`.
     pub fn try_new() -> Result<IntSet<K>, Cause> {
-        let set = Proved::new(Global)?;
-        #[cfg(feature = "check")]
-        check::made("new", 4, set.map());
-        Ok(IntSet { set })
+        Ok(IntSet { set: Proved::new(Global)? })
     }
 
     /// Returns an empty set, with a load factor of 0.909. Its capacity is the least power of two
-    /// that is at least `capacity`, and at least 2.
+    /// that is at least `capacity`, and at least 2. The cost is *O*(*c*): all slots are written at
+    /// once, each with 40 bytes for `u64` keys.
     ///
-    /// The load factor isn't considered, so the insertion of `capacity` keys may still double the
-    /// slots; [`with_room_for`](IntSet::with_room_for) considers it.
-    ///
-    /// A failed allocation is handled as std does; [`try_with_capacity`](IntSet::try_with_capacity)
-    /// returns it. The cost is *O*(*c*).
-    ///
-    /// # Panics
-    ///
-    /// If `capacity` is above 2^63.
-    ///
-    /// # Proved
-    ///
-    /// The contract of [`try_with_capacity`](IntSet::try_with_capacity).
-    ///
-    /// # Examples
+    /// `capacity` counts slots, not members, so the insertion of `capacity` keys may double them;
+    /// [`with_room_for`](Self::with_room_for) counts members. Where
+    /// [`try_with_capacity`](Self::try_with_capacity) fails, this call panics or ends the process.
     ///
     /// ```
     /// assert_eq!(intmap_proved::IntSet::<u64>::with_capacity(20).capacity(), 32);
     /// ```
     #[must_use]
     pub fn with_capacity(capacity: usize) -> IntSet<K> {
-        granted(IntSet::try_with_capacity(capacity))
+        granted(Self::try_with_capacity(capacity))
     }
 
-    /// The same as [`with_capacity`](IntSet::with_capacity), but it returns a failure.
+    /// The same as [`with_capacity`](Self::with_capacity), or [`Cause::TooLarge`] if `capacity` is
+    /// above 2^63, and otherwise [`Cause::Memory`] if an allocation fails.
     ///
-    /// # Errors
-    ///
-    /// [`Cause::TooLarge`] if `capacity` is above 2^63, and otherwise [`Cause::Memory`] if an
-    /// allocation fails.
-    ///
-    /// # Proved
-    ///
-    /// The proved `IntSet::with_capacity` has the clauses `state`, `capacity` and `too_large`.
-    ///
-    /// # Examples
-    ///
-    /// ```
-    /// use intmap_proved::{Cause, IntSet};
-    ///
-    /// assert_eq!(IntSet::<u64>::try_with_capacity(usize::MAX).err(), Some(Cause::TooLarge));
-    /// ```
+    /// Proved of `IntSet::with_capacity`: `state`, `capacity`, `too_large`.
     pub fn try_with_capacity(capacity: usize) -> Result<IntSet<K>, Cause> {
-        let made = Proved::with_capacity(Global, capacity);
-        #[cfg(feature = "check")]
-        check::with_capacity(capacity, made.as_ref().map(Proved::map));
-        Ok(IntSet { set: made? })
+        Ok(IntSet { set: Proved::with_capacity(Global, capacity)? })
     }
 
     /// Makes the key a member, and returns whether it is new. A new member is the last one of its
-    /// slot. The capacity changes as by [`IntMap::insert`](crate::IntMap::insert), and the other
-    /// members of a slot keep their order.
-    ///
-    /// A failed allocation is handled as std does; [`try_insert`](IntSet::try_insert) returns it.
-    /// The cost is that of [`IntMap::insert`](crate::IntMap::insert).
-    ///
-    /// # Panics
-    ///
-    /// If the set needs more than 2^63 slots.
-    ///
-    /// # Proved
-    ///
-    /// The contract of [`try_insert`](IntSet::try_insert).
-    ///
-    /// # Examples
+    /// slot. Cost and capacity are those of [`IntMap::insert`](crate::IntMap::insert), and the
+    /// other members of a slot keep their order. Where [`try_insert`](Self::try_insert) fails, this
+    /// call panics or ends the process.
     ///
     /// ```
     /// let mut set = intmap_proved::IntSet::new();
@@ -175,46 +104,20 @@ impl<K: IntKey> IntSet<K> {
         granted(self.try_insert(key))
     }
 
-    /// The same as [`insert`](IntSet::insert), but it returns a failure.
+    /// The same as [`insert`](Self::insert), or [`Cause::TooLarge`] if the set needs more than 2^63
+    /// slots or 2^64 members, [`Cause::Memory`] if an allocation fails. The set then stays as it
+    /// was. It never fails if the key is a member, nor if no member shares its slot and the capacity
+    /// stays.
     ///
-    /// # Errors
-    ///
-    /// [`Cause::TooLarge`] if the set needs more than 2^63 slots or 2^64 members,
-    /// [`Cause::Memory`] if an allocation fails. The set stays as it was. It never fails if the key
-    /// is a member, nor if no member shares its slot and the capacity stays.
-    ///
-    /// # Proved
-    ///
-    /// The proved `IntSet::insert` has the clauses `new`, `inserted`, `state`, `err`, `refused` and
-    /// `lone`.
-    ///
-    /// # Examples
-    ///
-    /// ```
-    /// use intmap_proved::{Cause, IntSet};
-    ///
-    /// assert!(IntSet::new().try_insert(21u64)?);
-    /// # Ok::<(), Cause>(())
-    /// ```
+    /// Proved of `IntSet::insert`: `new`, `inserted`, `state`, `err`, `refused`, `lone`.
     #[inline]
     pub fn try_insert(&mut self, key: K) -> Result<bool, Cause> {
-        #[cfg(feature = "check")]
-        let before = List::before(self.set.map(), key);
-        let guard = Mending(&mut self.set);
-        let result = guard.0.insert(key);
-        mem::forget(guard);
-        #[cfg(feature = "check")]
-        check::insert_member(before, key, &result, self.set.map());
-        result
+        guarded(&mut self.set, |set| set.insert(key))
     }
 
     /// Returns whether the key is a member. The cost is *O*(*s*).
     ///
-    /// # Proved
-    ///
-    /// The proved `IntSet::contains` has the clause `value`.
-    ///
-    /// # Examples
+    /// Proved of `IntSet::contains`: `value`.
     ///
     /// ```
     /// let set = intmap_proved::IntSet::from([21u64]);
@@ -222,20 +125,14 @@ impl<K: IntKey> IntSet<K> {
     /// ```
     #[inline]
     pub fn contains(&self, key: K) -> bool {
-        #[cfg(feature = "check")]
-        check::contains(self.set.map(), key, self.set.contains(key));
         self.set.contains(key)
     }
 
     /// Returns a reference to the member that is equal to the key, or `None` if there is none. The
     /// cost is *O*(*s*).
     ///
-    /// # Proved
-    ///
-    /// In part: it is [`IntMap::get_key_value`](crate::IntMap::get_key_value), on the map from each
-    /// member to `()`.
-    ///
-    /// # Examples
+    /// Proved in part: it is [`IntMap::get_key_value`](crate::IntMap::get_key_value), on the map
+    /// from each member to `()`.
     ///
     /// ```
     /// let set = intmap_proved::IntSet::from([21u64]);
@@ -243,26 +140,12 @@ impl<K: IntKey> IntSet<K> {
     /// ```
     #[inline]
     pub fn get(&self, key: K) -> Option<&K> {
-        #[cfg(feature = "check")]
-        check::find_member(self.set.map(), key, self.set.get(key));
         self.set.get(key)
     }
 
     /// Makes the key a member in place of the member that is equal to it, which it returns. It is
-    /// then the last one of its slot.
-    ///
-    /// A failed allocation is handled as std does; [`try_replace`](IntSet::try_replace) returns it.
-    /// The cost is that of [`insert`](IntSet::insert).
-    ///
-    /// # Panics
-    ///
-    /// If the set needs more than 2^63 slots.
-    ///
-    /// # Proved
-    ///
-    /// In part, as [`try_replace`](IntSet::try_replace).
-    ///
-    /// # Examples
+    /// then the last one of its slot. The cost is that of [`insert`](Self::insert). Where
+    /// [`try_replace`](Self::try_replace) fails, this call panics or ends the process.
     ///
     /// ```
     /// let mut set = intmap_proved::IntSet::from([21u64]);
@@ -273,46 +156,24 @@ impl<K: IntKey> IntSet<K> {
         granted(self.try_replace(key))
     }
 
-    /// The same as [`replace`](IntSet::replace), but it returns a failure.
+    /// The same as [`replace`](Self::replace), with the failures of [`try_insert`](Self::try_insert).
     ///
-    /// # Errors
-    ///
-    /// As for [`try_insert`](IntSet::try_insert).
-    ///
-    /// # Proved
-    ///
-    /// In part: a member is found by [`get`](IntSet::get), removed by [`remove`](IntSet::remove),
-    /// and the key inserted by [`try_insert`](IntSet::try_insert). Their order is by hand.
-    ///
-    /// # Examples
-    ///
-    /// ```
-    /// use intmap_proved::{Cause, IntSet};
-    ///
-    /// assert_eq!(IntSet::new().try_replace(21u64)?, None);
-    /// # Ok::<(), Cause>(())
-    /// ```
+    /// Proved in part: a member is found by [`get`](IntSet::get), removed by
+    /// [`remove`](IntSet::remove), and the key inserted by [`try_insert`](IntSet::try_insert).
+    /// Their order is by hand.
     pub fn try_replace(&mut self, key: K) -> Result<Option<K>, Cause> {
-        #[cfg(feature = "check")]
-        let before = List::before(self.set.map(), key);
         let replaced = self.get(key).copied();
         if replaced.is_some() {
             self.remove(key);
         }
-        let inserted = self.try_insert(key);
-        #[cfg(feature = "check")]
-        check::replace_member(before, key, (replaced, inserted.map(drop)), self.set.map());
-        inserted.map(|_| replaced)
+        self.try_insert(key)?;
+        Ok(replaced)
     }
 
     /// Removes the key, and returns whether it was a member. The last member of its slot takes its
     /// place. The others keep their order, and the capacity stays. The cost is *O*(*s*).
     ///
-    /// # Proved
-    ///
-    /// The proved `IntSet::remove` has the clauses `value`, `state`, `absent`, `updates` and `len`.
-    ///
-    /// # Examples
+    /// Proved of `IntSet::remove`: `value`, `state`, `absent`, `updates`, `len`.
     ///
     /// ```
     /// let mut set = intmap_proved::IntSet::from([21u64]);
@@ -321,21 +182,10 @@ impl<K: IntKey> IntSet<K> {
     /// ```
     #[inline]
     pub fn remove(&mut self, key: K) -> bool {
-        #[cfg(feature = "check")]
-        let before = List::of_some(self.set.map());
-        let was_member = self.set.remove(key);
-        #[cfg(feature = "check")]
-        check::remove("remove", before, key, was_member, self.set.map());
-        was_member
+        self.set.remove(key)
     }
 
-    /// The same as [`remove`](IntSet::remove), but it returns the key if it was a member.
-    ///
-    /// # Proved
-    ///
-    /// The contract of [`remove`](IntSet::remove).
-    ///
-    /// # Examples
+    /// The same as [`remove`](Self::remove), but it returns the key if it was a member.
     ///
     /// ```
     /// let mut set = intmap_proved::IntSet::from([21u64]);
@@ -348,11 +198,7 @@ impl<K: IntKey> IntSet<K> {
 
     /// Returns the number of members. The cost is *O*(1).
     ///
-    /// # Proved
-    ///
-    /// The proved `IntSet::len` has the clause `value`.
-    ///
-    /// # Examples
+    /// Proved of `IntSet::len`: `value`.
     ///
     /// ```
     /// assert_eq!(intmap_proved::IntSet::from([21u64, 21]).len(), 1);
@@ -364,11 +210,7 @@ impl<K: IntKey> IntSet<K> {
 
     /// Returns whether there is no member. The cost is *O*(1).
     ///
-    /// # Proved
-    ///
-    /// The proved `IntSet::is_empty` has the clause `value`.
-    ///
-    /// # Examples
+    /// Proved of `IntSet::is_empty`: `value`.
     ///
     /// ```
     /// assert!(intmap_proved::IntSet::<u64>::new().is_empty());

@@ -1,6 +1,4 @@
 //! What a map is to other code: defaults, clones, equality, text, `map[key]`, and collecting.
-#[cfg(feature = "check")]
-use crate::check;
 use crate::refusal::granted;
 use crate::{IntKey, IntMap};
 use core::fmt::{self, Debug, Formatter};
@@ -43,8 +41,6 @@ impl<K: IntKey, V: Clone> Clone for IntMap<K, V> {
         self.clear();
         granted(self.try_set_load_factor_thousandths(source.load_factor_thousandths()));
         self.extend(source.iter().map(|(key, value)| (*key, value.clone())));
-        #[cfg(feature = "check")]
-        check::copied("clone_from", &source.map, &self.map);
     }
 }
 
@@ -52,14 +48,11 @@ impl<K: IntKey, V: Clone> Clone for IntMap<K, V> {
 /// don't matter. The cost is *O*(*n s* + *c*).
 ///
 /// ```
-/// use intmap_proved::IntMap;
-///
+/// # use intmap_proved::IntMap;
 /// assert_eq!(IntMap::from([(0u64, 'a'), (4, 'b')]), IntMap::from([(4, 'b'), (0, 'a')]));
 /// ```
 impl<K: IntKey, V: PartialEq> PartialEq for IntMap<K, V> {
     fn eq(&self, other: &IntMap<K, V>) -> bool {
-        #[cfg(feature = "check")]
-        check::several::equal(&self.map, &other.map, self.map == other.map);
         self.map == other.map
     }
 }
@@ -115,8 +108,7 @@ impl<K: IntKey, V> Extend<(K, V)> for IntMap<K, V> {
 /// Inserts a copy of each pair, such as those of another map, as `extend` by pairs does.
 ///
 /// ```
-/// use intmap_proved::IntMap;
-///
+/// # use intmap_proved::IntMap;
 /// let mut map = IntMap::from([(21u64, 'a')]);
 /// map.extend(&IntMap::from([(22, 'b')]));
 /// assert_eq!(map.len(), 2);
@@ -132,8 +124,7 @@ impl<'a, K: IntKey, V: Copy> Extend<(&'a K, &'a V)> for IntMap<K, V> {
 /// failure.
 ///
 /// ```
-/// use intmap_proved::IntMap;
-///
+/// # use intmap_proved::IntMap;
 /// let map: IntMap<u64, char> = (0..20).zip('a'..).collect();
 /// assert_eq!((map.len(), map.capacity()), (20, 32));
 /// ```
@@ -146,8 +137,7 @@ impl<K: IntKey, V> FromIterator<(K, V)> for IntMap<K, V> {
 /// A map of the pairs of an array, as `collect` makes it. So a key keeps its last value.
 ///
 /// ```
-/// use intmap_proved::IntMap;
-///
+/// # use intmap_proved::IntMap;
 /// let map = IntMap::from([(21u64, 'a'), (21, 'b')]);
 /// assert_eq!((map.len(), map[21]), (1, 'b'));
 /// ```

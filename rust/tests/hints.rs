@@ -1,7 +1,7 @@
 //! How many items iterators say are left, at each step, and what their clones say.
 #![forbid(unsafe_code)]
 
-use intmap_proved::{IntMap, IntSet, original};
+use intmap_proved::{IntMap, IntSet};
 use std::cell::Cell;
 
 /// Takes so many items.
@@ -72,30 +72,6 @@ fn iterators_of_maps_say_how_many_are_left_at_each_step() {
             bounds("into_keys", steps, map.clone().into_keys());
             bounds("into_values", steps, map.clone().into_values());
             is_exact("drain", steps, map.drain());
-        }
-    }
-}
-
-/// After so many items nothing is said.
-fn says_nothing<I: Iterator>(of: &str, steps: usize, items: I) {
-    assert_eq!(behind(steps, items).size_hint(), (0, None), "{of}, {steps} steps");
-}
-
-#[test]
-fn iterators_of_the_original_say_nothing_at_each_step() {
-    for map in maps() {
-        for steps in 0..=map.len() + 1 {
-            let mut map = original::IntMap::from(map.clone());
-            says_nothing("iter", steps, map.iter());
-            says_nothing("keys", steps, map.keys());
-            says_nothing("values", steps, map.values());
-            says_nothing("iter_mut", steps, map.iter_mut());
-            says_nothing("values_mut", steps, map.values_mut());
-            says_nothing("a loop", steps, (&map).into_iter());
-            says_nothing("a loop that writes", steps, (&mut map).into_iter());
-            clones("iter", steps, map.iter());
-            says_nothing("into_iter", steps, map.clone().into_iter());
-            says_nothing("drain", steps, map.drain());
         }
     }
 }

@@ -30,31 +30,17 @@ impl Said {
         self.0.extend(text.bytes().map(u64::from));
     }
 
-    /// How many items an iterator says are left.
-    fn hint(&mut self, items: &impl Iterator) {
-        let (least, most) = items.size_hint();
-        self.size(least);
-        self.size(most.map_or(0, |most| most + 1));
-    }
-
-    /// The items of an iterator, of which at most some are taken, and what it says before each and
-    /// behind the last.
+    /// The items of an iterator, of which at most some are taken.
     fn items<I: Iterator>(&mut self, items: I, limit: usize, number: impl Fn(I::Item) -> u64) {
-        let mut items = items;
-        for _ in 0..limit {
-            self.hint(&items);
-            let Some(item) = items.next() else { break };
-            self.number(number(item));
-        }
-        self.hint(&items);
+        self.0.extend(items.take(limit).map(number));
     }
+}
 
-    /// The rest of an iterator behind some items, which are dropped.
-    fn behind<I: Iterator>(&mut self, mut items: I, taken: usize) -> I {
-        items.by_ref().take(taken).for_each(drop);
-        self.hint(&items);
-        items
-    }
+/// The rest of an iterator behind some items, which are dropped. It doesn't say how many are left:
+/// that is where the two crates differ, and with it the capacity of a map that is collected.
+fn behind<I: Iterator>(mut items: I, taken: usize) -> impl Iterator<Item = I::Item> {
+    items.by_ref().take(taken).for_each(drop);
+    std::iter::from_fn(move || items.next())
 }
 
 /// Makes a call. Returns what it returned, and the length and the capacity behind it.
@@ -187,22 +173,22 @@ fn on_several_maps<V: Value>(map: &mut IntMap<V>, given: &Given, said: &mut Said
         Call::Extend => map.extend(pairs),
         // the iterator says how many items there are
         Call::Collect => *map = pairs.collect(),
-        _ => collect_again(map, given, said),
+        _ => collect_again(map, given),
     }
 }
 
 /// Collects a map from an iterator of a map, from its begin or behind some of its items.
-fn collect_again<V: Value>(map: &mut IntMap<V>, given: &Given, said: &mut Said) {
+fn collect_again<V: Value>(map: &mut IntMap<V>, given: &Given) {
     let taken = if given.number.is_multiple_of(2) { 0 } else { (given.number >> 8) as usize % 50 };
     let pairs = given.pairs.iter().map(|(key, number)| (*key, V::of(*number)));
     *map = match given.key % 5 {
-        0 => said.behind(std::mem::take(map).into_iter(), taken).collect(),
-        1 => said.behind(std::mem::take(map).into_iter(), taken).chain(pairs).collect(),
-        2 => said.behind(map.drain(), taken).collect(),
-        3 => said.behind(map.iter(), taken).map(|(key, value)| (*key, value.clone())).collect(),
+        0 => behind(std::mem::take(map).into_iter(), taken).collect(),
+        1 => behind(std::mem::take(map).into_iter(), taken).chain(pairs).collect(),
+        2 => behind(map.drain(), taken).collect(),
+        3 => behind(map.iter(), taken).map(|(key, value)| (*key, value.clone())).collect(),
         _ => {
-            let values = said.behind(map.values(), taken).cloned();
-            said.behind(map.keys(), taken).copied().zip(values).collect()
+            let values = behind(map.values(), taken).cloned();
+            behind(map.keys(), taken).copied().zip(values).collect()
         }
     };
 }

@@ -143,6 +143,9 @@ pub struct Round {
     keys: u64,
     /// How many keys were counted for the present map.
     counted: u64,
+    /// How many slots the present map has, and whether a new key makes it grow.
+    slots: u64,
+    grows: bool,
 }
 
 impl Round {
@@ -150,12 +153,19 @@ impl Round {
         let mut random = Random(Random(seed).next());
         let zeros = 1 + random.below(16);
         let keys = [8, 60, 300, 3_000][random.below(4) as usize];
-        Round { random, kind, zeros, keys, counted: 0 }
+        Round { random, kind, zeros, keys, counted: 0, slots: 4, grows: false }
     }
 
     /// Keeps the number of keys to at most this.
     pub fn limit(&mut self, keys: u64) {
         self.keys = self.keys.min(keys);
+    }
+
+    /// Looks at the map before a call.
+    pub fn look(&mut self, pairs: usize, slots: usize, load_factor: f32) {
+        let pairs = pairs as u64 + 1;
+        self.slots = slots as u64;
+        self.grows = pairs & 4 == 4 && pairs * 1000 / self.slots > (load_factor * 1000.) as u64;
     }
 
     fn key(&mut self) -> u64 {
@@ -165,9 +175,13 @@ impl Round {
         self.kind.key_of(self.random.below(self.keys), self.zeros)
     }
 
-    /// The next key, an earlier one, or one that shares the slot of an earlier one for now.
+    /// The next key, an earlier one, or one that shares the slot of an earlier one for now. Where the
+    /// map grows, one in three shares a slot that this growth parts, or doesn't.
     fn counted_key(&mut self) -> u64 {
         let earlier = self.random.below(self.counted + 1);
+        if self.grows && self.random.below(3) == 0 {
+            return earlier + self.slots * [1, 2, 3, 4, 6, 8][self.random.below(6) as usize];
+        }
         match self.random.below(100) {
             0 => earlier ^ 1 << (4 + self.random.below(self.zeros)),
             1..50 => earlier,

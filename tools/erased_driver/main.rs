@@ -48,6 +48,7 @@ fn run<V: Value>(round: &mut Round, calls: u64) -> (u64, Option<Difference>) {
     round.limit(V::KEYS);
     let (mut one, mut other) = (proved::IntMap::<V>::new(), original::IntMap::<V>::new());
     for number in 1..=calls {
+        round.look(one.len(), one.capacity(), one.get_load_factor());
         let given = Given::new(round);
         let mut proved = proved::calls::made(&mut one, &given);
         let mut original = original::calls::made(&mut other, &given);

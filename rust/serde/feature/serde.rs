@@ -58,7 +58,7 @@
 //! who may learn the secret from it: [`scramble`](intmap_proved::scramble) is no cipher.
 mod read;
 
-use intmap_proved::{IntKey, IntMap, IntSet, original};
+use intmap_proved::{IntKey, IntMap, IntSet};
 use serde::{Deserialize, Deserializer, Serialize, Serializer};
 
 /// Writes the pairs as a map, in iteration order.
@@ -88,19 +88,5 @@ impl<K: IntKey + Serialize> Serialize for IntSet<K> {
 impl<'de, K: IntKey + Deserialize<'de>> Deserialize<'de> for IntSet<K> {
     fn deserialize<D: Deserializer<'de>>(deserializer: D) -> Result<Self, D::Error> {
         read::set(deserializer)
-    }
-}
-
-/// The same as of [`intmap_proved::IntMap`].
-impl<V: Serialize> Serialize for original::IntMap<V> {
-    fn serialize<S: Serializer>(&self, serializer: S) -> Result<S::Ok, S::Error> {
-        (**self).serialize(serializer)
-    }
-}
-
-/// The same as of [`intmap_proved::IntMap`].
-impl<'de, V: Deserialize<'de>> Deserialize<'de> for original::IntMap<V> {
-    fn deserialize<D: Deserializer<'de>>(deserializer: D) -> Result<Self, D::Error> {
-        read::map(deserializer).map(original::IntMap::from)
     }
 }

@@ -1,6 +1,6 @@
 //! The traits of wrapped maps and sets.
 use crate::{Serde, read};
-use intmap_proved::{IntKey, IntMap, IntSet, original};
+use intmap_proved::{IntKey, IntMap, IntSet};
 use serde::{Deserialize, Deserializer, Serialize, Serializer};
 
 impl<K: IntKey + Serialize, V: Serialize> Serialize for Serde<&IntMap<K, V>> {
@@ -20,24 +20,6 @@ impl<'de, K: IntKey + Deserialize<'de>, V: Deserialize<'de>> Deserialize<'de>
 {
     fn deserialize<D: Deserializer<'de>>(deserializer: D) -> Result<Self, D::Error> {
         read::map(deserializer).map(Serde)
-    }
-}
-
-impl<V: Serialize> Serialize for Serde<&original::IntMap<V>> {
-    fn serialize<S: Serializer>(&self, serializer: S) -> Result<S::Ok, S::Error> {
-        serializer.collect_map(&**self.0)
-    }
-}
-
-impl<V: Serialize> Serialize for Serde<original::IntMap<V>> {
-    fn serialize<S: Serializer>(&self, serializer: S) -> Result<S::Ok, S::Error> {
-        Serde(&self.0).serialize(serializer)
-    }
-}
-
-impl<'de, V: Deserialize<'de>> Deserialize<'de> for Serde<original::IntMap<V>> {
-    fn deserialize<D: Deserializer<'de>>(deserializer: D) -> Result<Self, D::Error> {
-        read::map(deserializer).map(|map| Serde(map.into()))
     }
 }
 

@@ -1,26 +1,45 @@
-//! Insertions of values that are made only if the key is absent.
+//! Insertions of a value if the key is absent.
 use super::Entry;
 use crate::IntKey;
 use crate::refusal::{Refused, granted};
 
 impl<'a, K: IntKey, V> Entry<'a, K, V> {
-    /// The same as [`or_insert`](Entry::or_insert), with the value that `make` returns. It is
-    /// called only if the key is absent.
-    ///
-    /// # Panics
-    ///
-    /// If the map needs more than 2^63 slots.
-    ///
-    /// # Proved
-    ///
-    /// In part, as [`try_or_insert_with`](Entry::try_or_insert_with).
-    ///
-    /// # Examples
+    /// Inserts `value` if the key is absent, and drops it if the key is present. Returns a mutable
+    /// reference to the value of the key. The cost is *O*(1) if the key is present, and otherwise
+    /// that of [`IntMap::insert`](crate::IntMap::insert). Where
+    /// [`try_or_insert`](Self::try_or_insert) fails, this call panics or ends the process.
     ///
     /// ```
-    /// use intmap_proved::IntMap;
+    /// let mut map = intmap_proved::IntMap::new();
+    /// *map.entry(21u64).or_insert(1) += 1;
+    /// assert_eq!(map[21], 2);
+    /// ```
+    #[inline]
+    pub fn or_insert(self, value: V) -> &'a mut V {
+        granted(self.try_or_insert(value))
+    }
+
+    /// The same as [`or_insert`](Self::or_insert), but it returns a failure with the value, as
+    /// [`try_or_insert_with`](Self::try_or_insert_with) does.
+    ///
+    /// ```
+    /// use intmap_proved::{IntMap, Refused};
     ///
     /// let mut map = IntMap::new();
+    /// *map.entry(21u64).try_or_insert(1)? += 1;
+    /// assert_eq!(map[21], 2);
+    /// # Ok::<(), Refused<i32>>(())
+    /// ```
+    #[inline]
+    pub fn try_or_insert(self, value: V) -> Result<&'a mut V, Refused<V>> {
+        self.try_or_insert_with(|| value)
+    }
+
+    /// The same as [`or_insert`](Self::or_insert), with the value that `make` returns. It is called
+    /// only if the key is absent. [`try_or_insert_with`](Self::try_or_insert_with) returns a failure.
+    ///
+    /// ```
+    /// let mut map = intmap_proved::IntMap::new();
     /// assert_eq!(map.entry(21u64).or_insert_with(|| "a".to_string()), "a");
     /// ```
     #[inline]
@@ -28,47 +47,18 @@ impl<'a, K: IntKey, V> Entry<'a, K, V> {
         granted(self.try_or_insert_with(make))
     }
 
-    /// The same as [`or_insert_with`](Entry::or_insert_with), but it returns a failure, with the
-    /// value that was made.
-    ///
-    /// # Errors
-    ///
-    /// As for [`IntMap::try_insert`](crate::IntMap::try_insert).
-    ///
-    /// # Proved
-    ///
-    /// In part, as [`try_or_insert_with_key`](Entry::try_or_insert_with_key).
-    ///
-    /// # Examples
-    ///
-    /// ```
-    /// use intmap_proved::{IntMap, Refused};
-    ///
-    /// let mut map = IntMap::new();
-    /// assert_eq!(map.entry(21u64).try_or_insert_with(|| 'a')?, &'a');
-    /// # Ok::<(), Refused<char>>(())
-    /// ```
+    /// The same as [`or_insert_with`](Self::or_insert_with), but it returns a failure with the value
+    /// that was made, as [`try_or_insert_with_key`](Self::try_or_insert_with_key) does.
     #[inline]
     pub fn try_or_insert_with<F: FnOnce() -> V>(self, make: F) -> Result<&'a mut V, Refused<V>> {
         self.try_or_insert_with_key(|_| make())
     }
 
-    /// The same as [`or_insert_with`](Entry::or_insert_with), but `make` takes the key.
-    ///
-    /// # Panics
-    ///
-    /// If the map needs more than 2^63 slots.
-    ///
-    /// # Proved
-    ///
-    /// In part, as [`try_or_insert_with_key`](Entry::try_or_insert_with_key).
-    ///
-    /// # Examples
+    /// The same as [`or_insert_with`](Self::or_insert_with), but `make` takes the key.
+    /// [`try_or_insert_with_key`](Self::try_or_insert_with_key) returns a failure.
     ///
     /// ```
-    /// use intmap_proved::IntMap;
-    ///
-    /// let mut map = IntMap::new();
+    /// let mut map = intmap_proved::IntMap::new();
     /// assert_eq!(map.entry(21u64).or_insert_with_key(|key| key * 2), &42);
     /// ```
     #[inline]
@@ -76,29 +66,13 @@ impl<'a, K: IntKey, V> Entry<'a, K, V> {
         granted(self.try_or_insert_with_key(make))
     }
 
-    /// The same as [`or_insert_with_key`](Entry::or_insert_with_key), but it returns a failure,
-    /// with the value that was made.
+    /// The same as [`or_insert_with_key`](Self::or_insert_with_key), but it returns a failure with
+    /// the value that was made, as [`IntMap::try_insert`](crate::IntMap::try_insert) does.
     ///
-    /// # Errors
-    ///
-    /// As for [`IntMap::try_insert`](crate::IntMap::try_insert).
-    ///
-    /// # Proved
-    ///
-    /// In part: the value of a present key is lent by
+    /// Proved in part: the value of a present key is lent by
     /// [`OccupiedEntry::into_mut`](crate::OccupiedEntry::into_mut), and one that the closure made
     /// is inserted by [`VacantEntry::try_insert`](crate::VacantEntry::try_insert). The choice
     /// between the two, and the call of the closure, are by hand.
-    ///
-    /// # Examples
-    ///
-    /// ```
-    /// use intmap_proved::{IntMap, Refused};
-    ///
-    /// let mut map = IntMap::new();
-    /// assert_eq!(map.entry(21u64).try_or_insert_with_key(|key| key * 2)?, &42);
-    /// # Ok::<(), Refused<u64>>(())
-    /// ```
     #[inline]
     pub fn try_or_insert_with_key<F: FnOnce(&K) -> V>(
         self,
@@ -113,27 +87,19 @@ impl<'a, K: IntKey, V> Entry<'a, K, V> {
         }
     }
 
-    /// The same as [`try_or_insert_with`](Entry::try_or_insert_with), for a value that may fail to
-    /// be made. An error of `make` is returned as it is, and the map stays as it was.
+    /// The same as [`try_or_insert_with`](Self::try_or_insert_with), for a value that may fail to be
+    /// made. An error of `make` is returned as it is, and the map stays as it was. Where the
+    /// insertion fails, the error is what `From` makes of a [`Refused`].
     ///
-    /// # Errors
-    ///
-    /// That of `make`, or else what `From` makes of a [`Refused`].
-    ///
-    /// # Proved
-    ///
-    /// In part: the value of a present key is lent by
+    /// Proved in part: the value of a present key is lent by
     /// [`OccupiedEntry::into_mut`](crate::OccupiedEntry::into_mut), and one that the closure made
     /// is inserted by [`VacantEntry::try_insert`](crate::VacantEntry::try_insert). The choice
     /// between the two, and the call of the closure, are by hand.
     ///
-    /// # Examples
-    ///
     /// ```
-    /// use intmap_proved::IntMap;
     /// use std::error::Error;
     ///
-    /// let mut map: IntMap<u64, u32> = IntMap::new();
+    /// let mut map = intmap_proved::IntMap::<u64, u32>::new();
     /// let number = map.entry(21).or_try_insert_with(|| Ok::<u32, Box<dyn Error>>("7".parse()?))?;
     /// assert_eq!(number, &7);
     /// # Ok::<(), Box<dyn Error>>(())
@@ -149,22 +115,11 @@ impl<'a, K: IntKey, V> Entry<'a, K, V> {
         }
     }
 
-    /// The same as [`or_insert`](Entry::or_insert), with the default value of the type.
-    ///
-    /// # Panics
-    ///
-    /// If the map needs more than 2^63 slots.
-    ///
-    /// # Proved
-    ///
-    /// In part, as [`try_or_default`](Entry::try_or_default).
-    ///
-    /// # Examples
+    /// The same as [`or_insert`](Self::or_insert), with the default value of the type.
+    /// [`try_or_default`](Self::try_or_default) returns a failure.
     ///
     /// ```
-    /// use intmap_proved::IntMap;
-    ///
-    /// let mut map: IntMap<u64, Vec<u8>> = IntMap::new();
+    /// let mut map = intmap_proved::IntMap::<u64, Vec<u8>>::new();
     /// map.entry(21).or_default().push(1);
     /// assert_eq!(map[21], [1]);
     /// ```
@@ -176,27 +131,8 @@ impl<'a, K: IntKey, V> Entry<'a, K, V> {
         granted(self.try_or_default())
     }
 
-    /// The same as [`or_default`](Entry::or_default), but it returns a failure, with the default
-    /// value.
-    ///
-    /// # Errors
-    ///
-    /// As for [`IntMap::try_insert`](crate::IntMap::try_insert).
-    ///
-    /// # Proved
-    ///
-    /// In part, as [`try_or_insert_with`](Entry::try_or_insert_with).
-    ///
-    /// # Examples
-    ///
-    /// ```
-    /// use intmap_proved::{IntMap, Refused};
-    ///
-    /// let mut map: IntMap<u64, u32> = IntMap::new();
-    /// *map.entry(21).try_or_default()? += 1;
-    /// assert_eq!(map[21], 1);
-    /// # Ok::<(), Refused<u32>>(())
-    /// ```
+    /// The same as [`or_default`](Self::or_default), with the failures of
+    /// [`try_or_insert_with`](Self::try_or_insert_with).
     #[inline]
     pub fn try_or_default(self) -> Result<&'a mut V, Refused<V>>
     where

@@ -1,45 +1,26 @@
 //! Entries of present keys.
 use super::OccupiedEntry;
 use crate::IntKey;
-#[cfg(feature = "check")]
-use crate::check;
 use core::fmt::{self, Debug, Formatter};
 
 impl<'a, K: IntKey, V> OccupiedEntry<'a, K, V> {
     /// Returns a reference to the key in the map.
     ///
-    /// # Proved
-    ///
-    /// The proved `OccupiedEntry::key` has the clause `value`.
-    ///
-    /// # Examples
-    ///
-    /// ```
-    /// use intmap_proved::{Entry, IntMap};
-    ///
-    /// let mut map = IntMap::from([(21u64, 'a')]);
-    /// if let Entry::Occupied(entry) = map.entry(21) {
-    ///     assert_eq!(entry.key(), &21);
-    /// }
-    /// ```
+    /// Proved of `OccupiedEntry::key`: `value`.
     pub fn key(&self) -> &K {
         self.0.key()
     }
 
     /// Returns a reference to the value.
     ///
-    /// # Proved
-    ///
-    /// The proved `OccupiedEntry::get` has the clause `value`.
-    ///
-    /// # Examples
+    /// Proved of `OccupiedEntry::get`: `value`.
     ///
     /// ```
     /// use intmap_proved::{Entry, IntMap};
     ///
     /// let mut map = IntMap::from([(21u64, 'a')]);
     /// if let Entry::Occupied(entry) = map.entry(21) {
-    ///     assert_eq!(entry.get(), &'a');
+    ///     assert_eq!((entry.key(), entry.get()), (&21, &'a'));
     /// }
     /// ```
     #[inline]
@@ -49,12 +30,7 @@ impl<'a, K: IntKey, V> OccupiedEntry<'a, K, V> {
 
     /// Returns a mutable reference to the value, which can't outlive the entry.
     ///
-    /// # Proved
-    ///
-    /// The proved `OccupiedEntry::get_mut` has the clauses `writes_back`, `value`, `updates` and
-    /// `len`.
-    ///
-    /// # Examples
+    /// Proved of `OccupiedEntry::get_mut`: `writes_back`, `value`, `updates`, `len`.
     ///
     /// ```
     /// use intmap_proved::{Entry, IntMap};
@@ -72,12 +48,7 @@ impl<'a, K: IntKey, V> OccupiedEntry<'a, K, V> {
 
     /// Returns a mutable reference to the value, for as long as the map is borrowed.
     ///
-    /// # Proved
-    ///
-    /// The proved `OccupiedEntry::into_mut` has the clauses `writes_back`, `value`, `updates` and
-    /// `len`.
-    ///
-    /// # Examples
+    /// Proved of `OccupiedEntry::into_mut`: `writes_back`, `value`, `updates`, `len`.
     ///
     /// ```
     /// use intmap_proved::{Entry, IntMap};
@@ -97,11 +68,7 @@ impl<'a, K: IntKey, V> OccupiedEntry<'a, K, V> {
 
     /// Sets the value, and returns the old one. The pair keeps its place.
     ///
-    /// # Proved
-    ///
-    /// The proved `OccupiedEntry::insert` has the clauses `old`, `written`, `updates` and `len`.
-    ///
-    /// # Examples
+    /// Proved of `OccupiedEntry::insert`: `old`, `written`, `updates`, `len`.
     ///
     /// ```
     /// use intmap_proved::{Entry, IntMap};
@@ -120,41 +87,15 @@ impl<'a, K: IntKey, V> OccupiedEntry<'a, K, V> {
     /// Removes the pair as [`IntMap::remove`](crate::IntMap::remove) does, and returns the value.
     /// The cost is *O*(1).
     ///
-    /// # Proved
-    ///
-    /// The proved `OccupiedEntry::remove` has the clauses `value`, `state`, `updates` and `len`.
-    ///
-    /// # Examples
-    ///
-    /// ```
-    /// use intmap_proved::{Entry, IntMap};
-    ///
-    /// let mut map = IntMap::from([(21u64, 'a')]);
-    /// if let Entry::Occupied(entry) = map.entry(21) {
-    ///     assert_eq!(entry.remove(), 'a');
-    /// }
-    /// assert!(map.is_empty());
-    /// ```
+    /// Proved of `OccupiedEntry::remove`: `value`, `state`, `updates`, `len`.
     #[inline]
     pub fn remove(self) -> V {
-        #[cfg(feature = "check")]
-        {
-            check::removed(self.0, |entry| entry.remove())
-        }
-        #[cfg(not(feature = "check"))]
-        {
-            self.0.remove()
-        }
+        self.0.remove()
     }
 
-    /// The same as [`remove`](OccupiedEntry::remove), but it returns the key beside the value.
+    /// The same as [`remove`](Self::remove), but it returns the key beside the value.
     ///
-    /// # Proved
-    ///
-    /// The proved `OccupiedEntry::remove_entry` has the clauses `key`, `value`, `state`, `updates`
-    /// and `len`.
-    ///
-    /// # Examples
+    /// Proved of `OccupiedEntry::remove_entry`: `key`, `value`, `state`, `updates`, `len`.
     ///
     /// ```
     /// use intmap_proved::{Entry, IntMap};
@@ -166,34 +107,19 @@ impl<'a, K: IntKey, V> OccupiedEntry<'a, K, V> {
     /// ```
     #[inline]
     pub fn remove_entry(self) -> (K, V) {
-        #[cfg(feature = "check")]
-        {
-            check::removed(self.0, |entry| entry.remove_entry())
-        }
-        #[cfg(not(feature = "check"))]
-        {
-            self.0.remove_entry()
-        }
+        self.0.remove_entry()
     }
 
-    /// Removes the pair as [`remove`](OccupiedEntry::remove) does, and calls `f` with the value.
-    /// If `f` returns `Ok`, returns what is in it.
+    /// Removes the pair as [`remove`](Self::remove) does, and calls `f` with the value. If `f`
+    /// returns `Ok`, returns what is in it. The cost is *O*(1), apart from `f`.
     ///
     /// If `f` returns a value as its error, the key has that value, and the call returns `None`.
     /// The pair is then at the end of its slot, where an [`insert`](crate::IntMap::insert) of a
     /// present key leaves it. This allocates nothing, so a value that can't be moved to another
-    /// place is not lost. The capacity stays. The cost is *O*(1), apart from `f`.
+    /// place is not lost. The capacity stays. If `f` panics, the map is one without the pair.
     ///
-    /// # Panics
-    ///
-    /// If `f` panics. The map is then one without the pair.
-    ///
-    /// # Proved
-    ///
-    /// The proved `OccupiedEntry::hand_over` has the clauses `updates`, `state`, `others`, `len`,
-    /// `capacity` and `factor`.
-    ///
-    /// # Examples
+    /// Proved of `OccupiedEntry::hand_over`: `updates`, `state`, `others`, `len`, `capacity`,
+    /// `factor`.
     ///
     /// ```
     /// use intmap_proved::{Entry, IntMap};
@@ -209,14 +135,7 @@ impl<'a, K: IntKey, V> OccupiedEntry<'a, K, V> {
     /// assert_eq!((from.len(), to[21].as_str()), (0, "a name"));
     /// ```
     pub fn hand_over<R, F: FnOnce(V) -> Result<R, V>>(self, f: F) -> Option<R> {
-        #[cfg(feature = "check")]
-        {
-            check::handed_over(self.0, |entry| entry.hand_over(f))
-        }
-        #[cfg(not(feature = "check"))]
-        {
-            self.0.hand_over(f)
-        }
+        self.0.hand_over(f)
     }
 }
 

@@ -1,48 +1,28 @@
 //! Entries of absent keys.
 use super::{OccupiedEntry, VacantEntry};
 use crate::IntKey;
-#[cfg(feature = "check")]
-use crate::check::{self, List};
-use crate::guard::Mending;
-use crate::proved::map::entry as proved;
+use crate::guard::guarded;
 use crate::refusal::{Refused, granted};
 use core::fmt::{self, Debug, Formatter};
-use core::mem;
 
 impl<'a, K: IntKey, V> VacantEntry<'a, K, V> {
     /// Returns a reference to the key.
     ///
-    /// # Proved
-    ///
-    /// The proved `VacantEntry::key` has the clause `value`.
-    ///
-    /// # Examples
-    ///
-    /// ```
-    /// use intmap_proved::{Entry, IntMap};
-    ///
-    /// let mut map: IntMap<u64, char> = IntMap::new();
-    /// if let Entry::Vacant(entry) = map.entry(21) {
-    ///     assert_eq!(entry.key(), &21);
-    /// }
-    /// ```
+    /// Proved of `VacantEntry::key`: `value`.
     pub fn key(&self) -> &K {
         self.0.key()
     }
 
     /// Returns the key, and leaves it absent.
     ///
-    /// # Proved
-    ///
-    /// The proved `VacantEntry::into_key` has the clauses `value` and `state`.
-    ///
-    /// # Examples
+    /// Proved of `VacantEntry::into_key`: `value`, `state`.
     ///
     /// ```
     /// use intmap_proved::{Entry, IntMap};
     ///
-    /// let mut map: IntMap<u64, char> = IntMap::new();
+    /// let mut map = IntMap::<u64, char>::new();
     /// if let Entry::Vacant(entry) = map.entry(21) {
+    ///     assert_eq!(entry.key(), &21);
     ///     assert_eq!(entry.into_key(), 21);
     /// }
     /// ```
@@ -50,20 +30,9 @@ impl<'a, K: IntKey, V> VacantEntry<'a, K, V> {
         self.0.into_key()
     }
 
-    /// Inserts the pair at the end of its slot, and returns a mutable reference to the value.
-    ///
-    /// A failed allocation is handled as std does; [`try_insert`](VacantEntry::try_insert) returns
-    /// it. The cost is that of [`IntMap::insert`](crate::IntMap::insert).
-    ///
-    /// # Panics
-    ///
-    /// If the map needs more than 2^63 slots.
-    ///
-    /// # Proved
-    ///
-    /// In part, as [`try_insert`](VacantEntry::try_insert).
-    ///
-    /// # Examples
+    /// Inserts the pair at the end of its slot, and returns a mutable reference to the value. The
+    /// cost is that of [`IntMap::insert`](crate::IntMap::insert). Where
+    /// [`try_insert`](Self::try_insert) fails, this call panics or ends the process.
     ///
     /// ```
     /// use intmap_proved::{Entry, IntMap};
@@ -79,46 +48,19 @@ impl<'a, K: IntKey, V> VacantEntry<'a, K, V> {
         granted(self.try_insert(value))
     }
 
-    /// The same as [`insert`](VacantEntry::insert), but it returns a failure, with the value.
+    /// The same as [`insert`](Self::insert), but it returns a failure with the value, as
+    /// [`IntMap::try_insert`](crate::IntMap::try_insert) does.
     ///
-    /// # Errors
-    ///
-    /// As for [`IntMap::try_insert`](crate::IntMap::try_insert).
-    ///
-    /// # Proved
-    ///
-    /// In part: it is [`try_insert_entry`](VacantEntry::try_insert_entry), and then
+    /// Proved in part: it is [`try_insert_entry`](VacantEntry::try_insert_entry), and then
     /// [`into_mut`](OccupiedEntry::into_mut) of the entry.
-    ///
-    /// # Examples
-    ///
-    /// ```
-    /// use intmap_proved::{Entry, IntMap, Refused};
-    ///
-    /// let mut map = IntMap::new();
-    /// if let Entry::Vacant(entry) = map.entry(21u64) {
-    ///     *entry.try_insert(1)? += 1;
-    /// }
-    /// assert_eq!(map[21], 2);
-    /// # Ok::<(), Refused<i32>>(())
-    /// ```
     #[inline]
     pub fn try_insert(self, value: V) -> Result<&'a mut V, Refused<V>> {
         Ok(self.try_insert_entry(value)?.into_mut())
     }
 
-    /// Inserts the pair as [`insert`](VacantEntry::insert) does, and returns the entry of the key,
-    /// which is then present.
-    ///
-    /// # Panics
-    ///
-    /// If the map needs more than 2^63 slots.
-    ///
-    /// # Proved
-    ///
-    /// The contract of [`try_insert_entry`](VacantEntry::try_insert_entry).
-    ///
-    /// # Examples
+    /// Inserts the pair as [`insert`](Self::insert) does, and returns the entry of the key, which
+    /// is then present. Where [`try_insert_entry`](Self::try_insert_entry) fails, this call panics
+    /// or ends the process.
     ///
     /// ```
     /// use intmap_proved::{Entry, IntMap};
@@ -133,50 +75,18 @@ impl<'a, K: IntKey, V> VacantEntry<'a, K, V> {
         granted(self.try_insert_entry(value))
     }
 
-    /// The same as [`insert_entry`](VacantEntry::insert_entry), but it returns a failure, with the
-    /// value.
+    /// The same as [`insert_entry`](Self::insert_entry), but it returns a failure with the value, as
+    /// [`IntMap::try_insert`](crate::IntMap::try_insert) does.
     ///
-    /// # Errors
-    ///
-    /// As for [`IntMap::try_insert`](crate::IntMap::try_insert).
-    ///
-    /// # Proved
-    ///
-    /// The proved `VacantEntry::insert_entry` has the clauses `written`, `absent`, `inserted`,
-    /// `err`, `value_returned`, `refused` and `lone`.
-    ///
-    /// # Examples
-    ///
-    /// ```
-    /// use intmap_proved::{Entry, IntMap, Refused};
-    ///
-    /// let mut map = IntMap::new();
-    /// if let Entry::Vacant(entry) = map.entry(21u64) {
-    ///     assert_eq!(entry.try_insert_entry('a')?.get(), &'a');
-    /// }
-    /// # Ok::<(), Refused<char>>(())
-    /// ```
+    /// Proved of `VacantEntry::insert_entry`: `written`, `absent`, `inserted`, `err`,
+    /// `value_returned`, `refused`, `lone`.
     #[inline]
     pub fn try_insert_entry(self, value: V) -> Result<OccupiedEntry<'a, K, V>, Refused<V>> {
-        Ok(OccupiedEntry(self.inserted(value)?))
-    }
-
-    /// The proved insertion, under a guard: a key's `number` may panic while the pair is put into
-    /// its slot, or while pairs move to more slots.
-    #[inline]
-    fn inserted(self, value: V) -> Result<proved::OccupiedEntry<'a, K, V>, Refused<V>> {
         let (map, key, slot) = self.0.parted();
-        #[cfg(feature = "check")]
-        let before = List::before(map, key);
-        let guard = Mending(&mut *map);
-        let result = guard.0.vacant_entry(key, slot).insert_entry(value).map(|entry| entry.place());
-        mem::forget(guard);
-        #[cfg(feature = "check")]
-        check::insert_by_entry(before, (key, true), &result, map);
-        let entry = map.entry_at(result?);
-        #[cfg(feature = "check")]
-        check::is_of(&entry, key);
-        Ok(entry)
+        let place = guarded(&mut *map, |map| {
+            map.vacant_entry(key, slot).insert_entry(value).map(|entry| entry.place())
+        })?;
+        Ok(OccupiedEntry(map.entry_at(place)))
     }
 }
 

@@ -1,11 +1,8 @@
 //! Insertions.
 use super::IntMap;
 use crate::IntKey;
-#[cfg(feature = "check")]
-use crate::check::{self, List};
-use crate::guard::Mending;
+use crate::guard::guarded;
 use crate::refusal::{Refused, granted};
-use core::mem;
 
 impl<K: IntKey, V> IntMap<K, V> {
     /// Inserts the pair, and returns the value that the key had, if it was present.
@@ -15,56 +12,30 @@ impl<K: IntKey, V> IntMap<K, V> {
     /// pairs are then 4 to 7, 12 to 15, 20 to 23 and so on, and they exceed the load factor; then
     /// it is the least of its doublings in which they don't.
     ///
-    /// A failed allocation is handled as std does; [`try_insert`](IntMap::try_insert) returns it.
     /// The cost is *O*(*s*), and *O*(*n* + *c*) for an insertion that doubles the slots, or that
-    /// makes small ones [large](IntMap#memory). That is *O*(*s*) amortized.
-    ///
-    /// # Panics
-    ///
-    /// If the map needs more than 2^63 slots.
-    ///
-    /// # Proved
-    ///
-    /// The contract of [`try_insert`](IntMap::try_insert).
-    ///
-    /// # Examples
+    /// makes small ones [large](IntMap#memory). That is *O*(*s*) amortized. Where
+    /// [`try_insert`](Self::try_insert) fails, this call panics or ends the process.
     ///
     /// ```
-    /// use intmap_proved::IntMap;
-    ///
-    /// let mut map = IntMap::from([(0u64, 'a'), (4, 'b')]);
+    /// let mut map = intmap_proved::IntMap::from([(0u64, 'a'), (4, 'b')]);
     /// assert_eq!(map.insert(0, 'z'), Some('a'));
     /// assert_eq!(format!("{map:?}"), "{4: 'b', 0: 'z'}");
     /// ```
     #[inline(always)]
     pub fn insert(&mut self, key: K, value: V) -> Option<V> {
-        #[cfg(feature = "check")]
-        let before = List::before(&self.map, key);
-        let guard = Mending(&mut self.map);
-        let result = guard.0.insert(key, value);
-        mem::forget(guard);
-        #[cfg(feature = "check")]
-        check::insert(before, key, &result, &self.map);
-        granted(result)
+        granted(self.try_insert(key, value))
     }
 
-    /// The same as [`insert`](IntMap::insert), but it returns a failure, with the value.
+    /// The same as [`insert`](Self::insert), but it returns a failure, with the value:
+    /// [`TooLarge`](crate::Cause::TooLarge) if the map needs more than 2^63 slots or 2^64 pairs,
+    /// [`Memory`](crate::Cause::Memory) if an allocation fails. The map then stays as it was. It
+    /// never fails if the key is present, nor if no other key shares its slot and the capacity stays.
     ///
     /// Unlike std's unstable `try_insert`, it doesn't fail for a present key, but replaces its
-    /// value. [`try_insert_checked`](IntMap::try_insert_checked) keeps it.
+    /// value. [`try_insert_checked`](Self::try_insert_checked) keeps it.
     ///
-    /// # Errors
-    ///
-    /// [`TooLarge`](crate::Cause::TooLarge) if the map needs more than 2^63 slots or 2^64 pairs,
-    /// [`Memory`](crate::Cause::Memory) if an allocation fails. The map stays as it was. It never
-    /// fails if the key is present, nor if no other key shares its slot and the capacity stays.
-    ///
-    /// # Proved
-    ///
-    /// The proved `IntMap::insert` has the clauses `old`, `inserted`, `state`, `err`,
-    /// `value_returned`, `refused` and `lone`.
-    ///
-    /// # Examples
+    /// Proved of `IntMap::insert`: `old`, `inserted`, `state`, `err`, `value_returned`, `refused`,
+    /// `lone`.
     ///
     /// ```
     /// use intmap_proved::{IntMap, Refused};
@@ -76,37 +47,16 @@ impl<K: IntKey, V> IntMap<K, V> {
     /// ```
     #[inline(always)]
     pub fn try_insert(&mut self, key: K, value: V) -> Result<Option<V>, Refused<V>> {
-        #[cfg(feature = "check")]
-        let before = List::before(&self.map, key);
-        let guard = Mending(&mut self.map);
-        let result = guard.0.insert(key, value);
-        mem::forget(guard);
-        #[cfg(feature = "check")]
-        check::insert(before, key, &result, &self.map);
-        result
+        guarded(&mut self.map, |map| map.insert(key, value))
     }
 
     /// Inserts the pair if the key is absent, and returns whether it was. A present key keeps its
-    /// value, and `value` is dropped.
-    ///
-    /// A failed allocation is handled as std does;
-    /// [`try_insert_checked`](IntMap::try_insert_checked) returns it. The cost is that of
-    /// [`insert`](IntMap::insert).
-    ///
-    /// # Panics
-    ///
-    /// If the map needs more than 2^63 slots.
-    ///
-    /// # Proved
-    ///
-    /// The contract of [`try_insert_checked`](IntMap::try_insert_checked).
-    ///
-    /// # Examples
+    /// value, and `value` is dropped. The cost is that of [`insert`](Self::insert). Where
+    /// [`try_insert_checked`](Self::try_insert_checked) fails, this call panics or ends the
+    /// process.
     ///
     /// ```
-    /// use intmap_proved::IntMap;
-    ///
-    /// let mut map = IntMap::new();
+    /// let mut map = intmap_proved::IntMap::new();
     /// assert!(map.insert_checked(21u64, 'a'));
     /// assert!(!map.insert_checked(21, 'b'));
     /// assert_eq!(map[21], 'a');
@@ -116,36 +66,13 @@ impl<K: IntKey, V> IntMap<K, V> {
         granted(self.try_insert_checked(key, value))
     }
 
-    /// The same as [`insert_checked`](IntMap::insert_checked), but it returns a failure, with the
-    /// value.
+    /// The same as [`insert_checked`](Self::insert_checked), but it returns a failure with the
+    /// value, as [`try_insert`](Self::try_insert) does.
     ///
-    /// # Errors
-    ///
-    /// As for [`try_insert`](IntMap::try_insert).
-    ///
-    /// # Proved
-    ///
-    /// The proved `IntMap::insert_checked` has the clauses `new`, `inserted`, `state`, `err`,
-    /// `value_returned`, `refused` and `lone`.
-    ///
-    /// # Examples
-    ///
-    /// ```
-    /// use intmap_proved::{IntMap, Refused};
-    ///
-    /// let mut map = IntMap::new();
-    /// assert!(map.try_insert_checked(21u64, 'a')?);
-    /// # Ok::<(), Refused<char>>(())
-    /// ```
+    /// Proved of `IntMap::insert_checked`: `new`, `inserted`, `state`, `err`, `value_returned`,
+    /// `refused`, `lone`.
     #[inline]
     pub fn try_insert_checked(&mut self, key: K, value: V) -> Result<bool, Refused<V>> {
-        #[cfg(feature = "check")]
-        let before = List::before(&self.map, key);
-        let guard = Mending(&mut self.map);
-        let result = guard.0.insert_checked(key, value);
-        mem::forget(guard);
-        #[cfg(feature = "check")]
-        check::insert_checked(before, key, &result, &self.map);
-        result
+        guarded(&mut self.map, |map| map.insert_checked(key, value))
     }
 }

@@ -1,78 +1,61 @@
 //! Calls on many pairs.
 use super::IntMap;
 use crate::IntKey;
-#[cfg(feature = "check")]
-use crate::check::{self, Asked, Coming, List};
-use crate::guard::Mending;
+use crate::guard::guarded;
 use crate::iter::{Drain, ExtractIf};
 use crate::memory::alloc::Global;
 use crate::proved::map::IntMap as Proved;
 use crate::refusal::{Cause, RefusedPair};
-use core::mem;
 
 impl<K: IntKey, V> IntMap<K, V> {
     /// Calls `keep` once for each pair, in iteration order, and removes the pairs for which it
-    /// returns `false`.
+    /// returns `false`. It doesn't allocate. The cost is *O*(*n* + *c*).
     ///
     /// The other pairs keep their order, and the capacity and the load factor stay. Unlike std's,
-    /// `keep` takes the key by value and can't change the value. Where it has to, take
-    /// [`extract_if`](IntMap::extract_if) with the opposite answer, and end it by
-    /// `.for_each(drop)`. It doesn't allocate. The cost is *O*(*n* + *c*).
-    ///
-    /// If `keep` or the drop of a value panics, the map stays whole, and the pairs that weren't
+    /// `keep` takes the key by value and can't change the value: [`retain_mut`](Self::retain_mut)
+    /// can. If `keep` or the drop of a value panics, the map stays whole, and the pairs that weren't
     /// reached stay in it.
     ///
-    /// # Proved
-    ///
-    /// The proved `IntMap::retain` has the clauses `by_pair`, `by_key`, `filtered`, `pairs`,
-    /// `state`, `updates` and `len`.
-    ///
-    /// # Examples
+    /// Proved of `IntMap::retain`: `by_pair`, `by_key`, `filtered`, `pairs`, `state`, `updates`,
+    /// `len`.
     ///
     /// ```
-    /// use intmap_proved::IntMap;
-    ///
-    /// let mut map = IntMap::from([(0u64, 'a'), (4, 'b'), (8, 'c')]);
+    /// let mut map = intmap_proved::IntMap::from([(0u64, 'a'), (4, 'b'), (8, 'c')]);
     /// map.retain(|key, _| key > 0);
     /// assert_eq!(format!("{map:?}"), "{4: 'b', 8: 'c'}");
     /// ```
     pub fn retain<F: FnMut(K, &V) -> bool>(&mut self, keep: F) {
-        #[cfg(feature = "check")]
-        let (mut asked, mut keep) = (Asked::of(&self.map), keep);
-        #[cfg(feature = "check")]
-        let keep = |key: K, value: &V| asked.about(key, keep(key, value));
-        let guard = Mending(&mut self.map);
-        guard.0.retain(keep);
-        mem::forget(guard);
-        #[cfg(feature = "check")]
-        asked.ended("retain", &self.map);
+        guarded(&mut self.map, |map| map.retain(keep))
     }
 
-    /// Removes all pairs. The capacity, the load factor and the memory stay.
-    ///
-    /// If the drop of a value panics, the map stays whole. The cost is *O*(*n* + *c*).
-    ///
-    /// # Proved
-    ///
-    /// The proved `IntMap::clear` has the clauses `state`, `updates` and `len`.
-    ///
-    /// # Examples
+    /// The same as [`retain`](Self::retain), but `keep` may change each value that it sees. The cost
+    /// is *O*(*n s* + *c*): it is [`extract_if`](Self::extract_if) with the opposite answer, to its
+    /// end.
     ///
     /// ```
-    /// use intmap_proved::IntMap;
+    /// let mut lives = intmap_proved::IntMap::from([(0u64, 1), (1, 2)]);
+    /// lives.retain_mut(|_, left| {
+    ///     *left -= 1;
+    ///     *left > 0
+    /// });
+    /// assert_eq!(format!("{lives:?}"), "{1: 1}");
+    /// ```
+    pub fn retain_mut<F: FnMut(K, &mut V) -> bool>(&mut self, mut keep: F) {
+        self.extract_if(|key, value| !keep(key, value)).for_each(drop)
+    }
+
+    /// Removes all pairs. The capacity, the load factor and the memory stay. If the drop of a value
+    /// panics, the map stays whole. The cost is *O*(*n* + *c*).
     ///
-    /// let mut map = IntMap::from([(21u64, 'a')]);
+    /// Proved of `IntMap::clear`: `state`, `updates`, `len`.
+    ///
+    /// ```
+    /// let mut map = intmap_proved::IntMap::from([(21u64, 'a')]);
     /// map.clear();
     /// assert_eq!((map.len(), map.capacity()), (0, 2));
     /// ```
     pub fn clear(&mut self) {
-        #[cfg(feature = "check")]
-        let before = List::of(&self.map);
-        let guard = Mending(&mut self.map);
-        guard.0.clear();
-        mem::forget(guard);
-        #[cfg(feature = "check")]
-        check::clear(before, &self.map);
+        guarded(&mut self.map, |map| map.clear())
     }
 
     /// Returns an iterator that removes one pair at each step and returns it, in iteration order.
@@ -82,26 +65,16 @@ impl<K: IntKey, V> IntMap<K, V> {
     /// stay. A step costs *O*(*s*), all of them with the look for the next slots *O*(*n s* + *c*).
     /// Where thousands of keys share a slot, `mem::take(&mut map).into_iter()` is faster.
     ///
-    /// # Proved
-    ///
-    /// The proved `IntMap::drain` has the clauses `state` and `next_gives`.
-    ///
-    /// # Examples
+    /// Proved of `IntMap::drain`: `state`, `next_gives`.
     ///
     /// ```
-    /// use intmap_proved::IntMap;
-    ///
-    /// let mut map = IntMap::from([(0u64, 'a'), (4, 'b'), (8, 'c')]);
+    /// let mut map = intmap_proved::IntMap::from([(0u64, 'a'), (4, 'b'), (8, 'c')]);
     /// assert_eq!(map.drain().next(), Some((0, 'a')));
     /// assert_eq!(format!("{map:?}"), "{4: 'b', 8: 'c'}");
     /// ```
+    #[must_use = "a drain removes one pair at each step, so `drain();` removes none: take `clear`"]
     pub fn drain(&mut self) -> Drain<'_, K, V> {
-        let left = self.len();
-        #[cfg(feature = "check")]
-        let inner = check::iter::Drain::of(self.map.drain());
-        #[cfg(not(feature = "check"))]
-        let inner = self.map.drain();
-        Drain { left, inner }
+        Drain { left: self.len(), inner: self.map.drain() }
     }
 
     /// Returns an iterator that removes the pairs for which `pick` returns `true`, one at each
@@ -111,79 +84,41 @@ impl<K: IntKey, V> IntMap<K, V> {
     /// iterator goes on. If the iterator is dropped early or forgotten, the pairs that it didn't
     /// reach stay as they are. The pairs that stay keep their order, and so do the capacity and the
     /// load factor. All steps together cost *O*(*n s* + *c*) beside the calls of `pick`.
-    /// [`retain`](IntMap::retain) costs *O*(*n* + *c*), however many keys share a slot.
+    /// [`retain`](Self::retain) costs *O*(*n* + *c*), however many keys share a slot.
     ///
-    /// # Proved
-    ///
-    /// The proved `IntMap::extract_if` has the clauses `state`, `test`, `kept`, `left` and
-    /// `next_gives`.
-    ///
-    /// # Examples
+    /// Proved of `IntMap::extract_if`: `state`, `test`, `kept`, `left`, `next_gives`.
     ///
     /// ```
-    /// use intmap_proved::IntMap;
-    ///
-    /// let mut map = IntMap::from([(0u64, 10), (1, 20), (2, 30)]);
+    /// let mut map = intmap_proved::IntMap::from([(0u64, 10), (1, 20), (2, 30)]);
     /// let large: Vec<_> = map.extract_if(|_, value| *value > 15).collect();
-    /// assert_eq!(large, [(1, 20), (2, 30)]);
-    /// assert_eq!(map.len(), 1);
+    /// assert_eq!((large, map.len()), (vec![(1, 20), (2, 30)], 1));
     /// ```
     pub fn extract_if<F: FnMut(K, &mut V) -> bool>(&mut self, pick: F) -> ExtractIf<'_, K, V, F> {
-        #[cfg(feature = "check")]
-        let inner = check::iter::ExtractIf::of(&mut self.map, pick);
-        #[cfg(not(feature = "check"))]
-        let inner = self.map.extract_if(pick);
-        ExtractIf { inner }
+        ExtractIf { inner: self.map.extract_if(pick) }
     }
 
     /// Calls `change` once for each pair, in iteration order. All keys stay, in their order. The
     /// cost is *O*(*n* + *c*).
     ///
-    /// It does what a loop over [`iter_mut`](IntMap::iter_mut) does. Its code is proved, that of
+    /// It does what a loop over [`iter_mut`](Self::iter_mut) does. Its code is proved, that of
     /// `iter_mut` is tested.
     ///
-    /// # Proved
-    ///
-    /// The proved `IntMap::for_each_mut` has the clauses `mapped`, `values`, `state`, `keys`,
-    /// `updates` and `len`.
-    ///
-    /// # Examples
+    /// Proved of `IntMap::for_each_mut`: `mapped`, `values`, `state`, `keys`, `updates`, `len`.
     ///
     /// ```
-    /// use intmap_proved::IntMap;
-    ///
-    /// let mut map = IntMap::from([(0u64, 10), (1, 20)]);
+    /// let mut map = intmap_proved::IntMap::from([(0u64, 10), (1, 20)]);
     /// map.for_each_mut(|key, value| *value += key);
     /// assert_eq!((map[0], map[1]), (10, 21));
     /// ```
     pub fn for_each_mut<F: FnMut(K, &mut V)>(&mut self, change: F) {
-        #[cfg(feature = "check")]
-        let (mut asked, mut change) = (Asked::of(&self.map), change);
-        #[cfg(feature = "check")]
-        let change = |key: K, value: &mut V| {
-            _ = asked.about(key, {
-                change(key, value);
-                true
-            })
-        };
         self.map.for_each_mut(change);
-        #[cfg(feature = "check")]
-        asked.ended("for_each_mut", &self.map);
     }
 
-    /// Inserts each pair in turn, as [`insert`](IntMap::insert) does, up to the first one that
-    /// fails.
+    /// Inserts each pair in turn, as [`insert`](Self::insert) does, up to the first one that fails
+    /// as by [`try_insert`](Self::try_insert). The failure has that pair, and the number of pairs
+    /// before it. Those stay in the map, and the rest of the iterator is dropped.
     ///
-    /// # Errors
-    ///
-    /// Those of [`try_insert`](IntMap::try_insert), with the pair that failed and the number of
-    /// pairs before it. Those stay in the map, and the rest of the iterator is dropped.
-    ///
-    /// # Proved
-    ///
-    /// The proved `IntMap::extend` has the clauses `extends`, `runs`, `len` and `stops`.
-    ///
-    /// # Examples
+    /// Proved of `IntMap::extend`: `extends`, `runs`, `len`, `stops`.
     ///
     /// ```
     /// use intmap_proved::{IntMap, RefusedPair};
@@ -199,78 +134,28 @@ impl<K: IntKey, V> IntMap<K, V> {
     where
         I: IntoIterator<Item = (K, V)>,
     {
-        #[cfg(feature = "check")]
-        let mut coming = Coming::into(&self.map);
-        #[cfg(feature = "check")]
-        let pairs = coming.watch(pairs, |pair| pair.0);
-        let guard = Mending(&mut self.map);
-        let result = guard.0.extend(pairs.into_iter());
-        mem::forget(guard);
-        #[cfg(feature = "check")]
-        coming.extended(&result, &self.map);
-        result
+        guarded(&mut self.map, |map| map.extend(pairs.into_iter()))
     }
 
-    /// The same as [`from_iter`](FromIterator::from_iter), but it returns a failure.
+    /// The same as [`from_iter`](FromIterator::from_iter), but it returns a failure: that of
+    /// [`try_with_capacity`](Self::try_with_capacity) or [`try_insert`](Self::try_insert), without
+    /// the pairs, which are dropped.
     ///
-    /// # Errors
-    ///
-    /// Those of [`try_with_capacity`](IntMap::try_with_capacity) and
-    /// [`try_insert`](IntMap::try_insert), without the pairs: they are dropped.
-    ///
-    /// # Proved
-    ///
-    /// The proved `IntMap::from_iter` has the clauses `collects`, `runs` and `len`.
-    ///
-    /// # Examples
-    ///
-    /// ```
-    /// use intmap_proved::{Cause, IntMap};
-    ///
-    /// let map = IntMap::try_from_iter([(21u64, 'a'), (22, 'b')])?;
-    /// assert_eq!(map.len(), 2);
-    /// # Ok::<(), Cause>(())
-    /// ```
+    /// Proved of `IntMap::from_iter`: `collects`, `runs`, `len`.
     pub fn try_from_iter<I>(pairs: I) -> Result<IntMap<K, V>, Cause>
     where
         I: IntoIterator<Item = (K, V)>,
     {
-        #[cfg(feature = "check")]
-        let (mut coming, pairs) = Coming::into_new(pairs.into_iter());
-        #[cfg(feature = "check")]
-        let pairs = coming.watch(pairs, |pair| pair.0);
-        let map = Proved::from_iter(Global, pairs.into_iter())?;
-        #[cfg(feature = "check")]
-        coming.extended(&Ok(()), &map);
-        Ok(IntMap { map })
+        Ok(IntMap { map: Proved::from_iter(Global, pairs.into_iter())? })
     }
 }
 
 impl<K: IntKey, V: Clone> IntMap<K, V> {
-    /// The same as [`clone`](Clone::clone), but it returns a failure to allocate the slots.
+    /// The same as [`clone`](Clone::clone), or [`Cause::Memory`] if an allocation of the map fails.
+    /// What the clone of a value allocates is handled by the value's type.
     ///
-    /// # Errors
-    ///
-    /// [`Cause::Memory`] if an allocation of the map fails. What the clone of a value allocates is
-    /// handled by the value's type.
-    ///
-    /// # Proved
-    ///
-    /// The proved `IntMap::clone` has the clauses `clone`, `keys`, `values`, `len` and `memory`.
-    ///
-    /// # Examples
-    ///
-    /// ```
-    /// use intmap_proved::{Cause, IntMap};
-    ///
-    /// let map = IntMap::from([(21u64, 'a')]);
-    /// assert_eq!(map.try_clone()?, map);
-    /// # Ok::<(), Cause>(())
-    /// ```
+    /// Proved of `IntMap::clone`: `clone`, `keys`, `values`, `len`, `memory`.
     pub fn try_clone(&self) -> Result<IntMap<K, V>, Cause> {
-        let map = self.map.clone()?;
-        #[cfg(feature = "check")]
-        check::copied("clone", &self.map, &map);
-        Ok(IntMap { map })
+        Ok(IntMap { map: self.map.clone()? })
     }
 }

@@ -1,96 +1,48 @@
 //! Room for a number of pairs, and memory that is given back.
 use super::IntMap;
 use crate::IntKey;
-#[cfg(feature = "check")]
-use crate::check::{self, List};
 use crate::refusal::{Cause, Refused, granted};
 use crate::room::{FIRST_FACTOR, LEAST_SLOTS, slots_for};
 
 impl<K: IntKey, V> IntMap<K, V> {
     /// Returns an empty map with room for so many pairs: the capacity is the least power of two in
-    /// which they meet the load factor of a new map, 0.909.
+    /// which they meet the load factor of a new map, 0.909. The cost is *O*(*c*).
     ///
-    /// Insertions of so many keys then add no slots. Keys that share a slot still allocate. The slots
-    /// are [large](IntMap#memory).
-    ///
-    /// A failed allocation is handled as std does; [`try_with_room_for`](IntMap::try_with_room_for)
-    /// returns it. The cost is *O*(*c*).
-    ///
-    /// # Panics
-    ///
-    /// If more than 2^63 slots are needed.
-    ///
-    /// # Proved
-    ///
-    /// In part, as [`try_with_room_for`](IntMap::try_with_room_for).
-    ///
-    /// # Examples
+    /// Insertions of so many keys then add no slots. Keys that share a slot still allocate. The
+    /// slots are [large](IntMap#memory), and all are written at once. Where
+    /// [`try_with_room_for`](Self::try_with_room_for) fails, this call panics or ends the process.
     ///
     /// ```
-    /// use intmap_proved::IntMap;
-    ///
-    /// let mut map = IntMap::with_room_for(1000);
+    /// let mut map = intmap_proved::IntMap::with_room_for(1000);
     /// assert_eq!(map.capacity(), 2048);
     /// map.extend((0u64..1000).map(|key| (key, 'a')));
     /// assert_eq!(map.capacity(), 2048);
     /// ```
     #[must_use]
     pub fn with_room_for(pairs: usize) -> IntMap<K, V> {
-        granted(IntMap::try_with_room_for(pairs))
+        granted(Self::try_with_room_for(pairs))
     }
 
-    /// The same as [`with_room_for`](IntMap::with_room_for), but it returns a failure.
+    /// The same as [`with_room_for`](Self::with_room_for), or [`Cause::TooLarge`] if more than 2^63
+    /// slots are needed, and otherwise [`Cause::Memory`] if an allocation fails.
     ///
-    /// # Errors
-    ///
-    /// [`Cause::TooLarge`] if more than 2^63 slots are needed, and otherwise [`Cause::Memory`] if an
-    /// allocation fails.
-    ///
-    /// # Proved
-    ///
-    /// In part: it is [`try_with_capacity`](IntMap::try_with_capacity), of a number of slots that
-    /// is computed by hand.
-    ///
-    /// # Examples
-    ///
-    /// ```
-    /// use intmap_proved::{Cause, IntMap};
-    ///
-    /// assert_eq!(IntMap::<u64, char>::try_with_room_for(3)?.capacity(), 4);
-    /// # Ok::<(), Cause>(())
-    /// ```
+    /// Proved in part: it is [`try_with_capacity`](IntMap::try_with_capacity), of a number of slots
+    /// that is computed by hand.
     pub fn try_with_room_for(pairs: usize) -> Result<IntMap<K, V>, Cause> {
-        let made = IntMap::try_with_capacity(slots_for(pairs, FIRST_FACTOR));
-        #[cfg(feature = "check")]
-        check::with_room_for(pairs, made.as_ref().map(|it: &IntMap<K, V>| &it.map));
-        made
+        Self::try_with_capacity(slots_for(pairs, FIRST_FACTOR))
     }
 
     /// Makes room for `additional` pairs more: the capacity becomes the least power of two in which
-    /// they and the present pairs meet the load factor. A greater capacity stays.
+    /// they and the present pairs meet the load factor. A greater capacity stays. The cost is
+    /// *O*(*n* + *c*), or *O*(1) if the capacity stays.
     ///
-    /// Insertions of so many new keys then add no slots. Keys that share a slot still allocate. With
-    /// a load factor above 1, a map that has too few slots gets one for each present pair at least.
-    /// The slots keep their [size](IntMap#memory).
-    ///
-    /// A failed allocation is handled as std does;
-    /// [`try_reserve_pairs`](IntMap::try_reserve_pairs) returns it. The cost is *O*(*n* + *c*), or
-    /// *O*(1) if the capacity stays.
-    ///
-    /// # Panics
-    ///
-    /// If more than 2^63 slots are needed.
-    ///
-    /// # Proved
-    ///
-    /// In part, as [`try_reserve_pairs`](IntMap::try_reserve_pairs).
-    ///
-    /// # Examples
+    /// Insertions of so many new keys then add no slots. Keys that share a slot still allocate.
+    /// With a load factor above 1, a map that has too few slots gets one for each present pair at
+    /// least. The slots keep their [size](IntMap#memory). Where
+    /// [`try_reserve_pairs`](Self::try_reserve_pairs) fails, this call panics or ends the process.
     ///
     /// ```
-    /// use intmap_proved::IntMap;
-    ///
-    /// let mut map = IntMap::from([(21u64, 'a')]);
+    /// let mut map = intmap_proved::IntMap::from([(21u64, 'a')]);
     /// map.reserve_pairs(15);
     /// assert_eq!(map.capacity(), 32);
     /// ```
@@ -98,56 +50,27 @@ impl<K: IntKey, V> IntMap<K, V> {
         granted(self.try_reserve_pairs(additional))
     }
 
-    /// The same as [`reserve_pairs`](IntMap::reserve_pairs), but it returns a failure.
+    /// The same as [`reserve_pairs`](Self::reserve_pairs), or [`Cause::TooLarge`] if more than 2^63
+    /// slots are needed, and otherwise [`Cause::Memory`] if an allocation fails. The map then stays
+    /// as it was.
     ///
-    /// # Errors
-    ///
-    /// [`Cause::TooLarge`] if more than 2^63 slots are needed, and otherwise [`Cause::Memory`] if an
-    /// allocation fails. The map stays as it was.
-    ///
-    /// # Proved
-    ///
-    /// In part: it is [`try_reserve`](IntMap::try_reserve), if there are too few slots. How many
-    /// are enough is computed by hand.
-    ///
-    /// # Examples
-    ///
-    /// ```
-    /// use intmap_proved::{Cause, IntMap};
-    ///
-    /// let mut map = IntMap::from([(21u64, 'a')]);
-    /// assert_eq!(map.try_reserve_pairs(usize::MAX), Err(Cause::TooLarge));
-    /// ```
+    /// Proved in part: it is [`try_reserve`](IntMap::try_reserve), if there are too few slots. How
+    /// many are enough is computed by hand.
     pub fn try_reserve_pairs(&mut self, additional: usize) -> Result<(), Cause> {
-        #[cfg(feature = "check")]
-        let before = List::reserving_pairs(&self.map, additional);
-        let factor = self.load_factor_thousandths();
-        let slots = self.len().checked_add(additional).map(|pairs| slots_for(pairs, factor));
-        let result = match slots {
-            Some(slots) if slots <= self.capacity() => Ok(()),
-            Some(slots) => self.try_reserve(slots.saturating_sub(self.len())),
-            None => Err(Cause::TooLarge),
-        };
-        #[cfg(feature = "check")]
-        check::reserve_pairs(before, additional, result, &self.map);
-        result
+        let pairs = self.len().checked_add(additional).ok_or(Cause::TooLarge)?;
+        let slots = slots_for(pairs, self.load_factor_thousandths());
+        if slots <= self.capacity() {
+            return Ok(());
+        }
+        self.try_reserve(slots.saturating_sub(self.len()))
     }
 
     /// Makes the capacity the least power of two in which the pairs meet the load factor, or leaves
-    /// it if it is that.
-    ///
-    /// Order and failures are those of [`shrink_to`](IntMap::shrink_to).
-    ///
-    /// # Proved
-    ///
-    /// In part, as [`try_shrink_to_fit`](IntMap::try_shrink_to_fit).
-    ///
-    /// # Examples
+    /// it if it is that. Order, cost and failures are those of [`shrink_to`](Self::shrink_to), and
+    /// [`try_shrink_to_fit`](Self::try_shrink_to_fit) returns a failure.
     ///
     /// ```
-    /// use intmap_proved::IntMap;
-    ///
-    /// let mut map: IntMap<u64, char> = (0..1000).map(|key| (key, 'a')).collect();
+    /// let mut map: intmap_proved::IntMap<u64, u64> = (0..1000).zip(0..).collect();
     /// map.retain(|key, _| key < 3);
     /// map.shrink_to_fit();
     /// assert_eq!(map.capacity(), 4);
@@ -156,50 +79,26 @@ impl<K: IntKey, V> IntMap<K, V> {
         granted(self.try_shrink_to_fit())
     }
 
-    /// The same as [`shrink_to_fit`](IntMap::shrink_to_fit), but it returns a failure.
-    ///
-    /// # Errors
-    ///
-    /// As for [`try_shrink_to`](IntMap::try_shrink_to).
-    ///
-    /// # Proved
-    ///
-    /// In part, as [`try_shrink_to`](IntMap::try_shrink_to).
-    ///
-    /// # Examples
-    ///
-    /// ```
-    /// use intmap_proved::IntMap;
-    ///
-    /// let mut map: IntMap<u64, char> = IntMap::with_capacity(1000);
-    /// assert_eq!((map.try_shrink_to_fit(), map.capacity()), (Ok(()), 2));
-    /// ```
+    /// The same as [`shrink_to_fit`](Self::shrink_to_fit), with the failure of
+    /// [`try_shrink_to`](Self::try_shrink_to).
     pub fn try_shrink_to_fit(&mut self) -> Result<(), Cause> {
         self.try_shrink_to(0)
     }
 
     /// Makes the capacity the least power of two that is at least `min_capacity` and in which the
-    /// pairs meet the load factor. A smaller capacity stays.
+    /// pairs meet the load factor. A smaller capacity stays. The cost is *O*(*n s* + *c*), or *O*(1)
+    /// if the capacity stays.
     ///
     /// The map then has the order of a new one of that capacity into which the pairs were inserted
     /// in iteration order. The load factor stays. For a while there are both maps. The new slots are
     /// [large](IntMap#memory), so half as many of them may take more memory than small ones took. If
     /// the capacity stays, no memory is given back.
     ///
-    /// A failed allocation is handled as std does; [`try_shrink_to`](IntMap::try_shrink_to) returns
-    /// it. The cost is *O*(*n s* + *c*), or *O*(1) if the capacity stays. If a key's `number`
-    /// panics, the map keeps the pairs that weren't moved yet, and the others are dropped.
-    ///
-    /// # Proved
-    ///
-    /// In part, as [`try_shrink_to`](IntMap::try_shrink_to).
-    ///
-    /// # Examples
+    /// Where [`try_shrink_to`](Self::try_shrink_to) fails, this call ends the process. If a key's
+    /// `number` panics, the map keeps the pairs that weren't moved yet, and the others are dropped.
     ///
     /// ```
-    /// use intmap_proved::IntMap;
-    ///
-    /// let mut map: IntMap<u64, char> = IntMap::with_capacity(1000);
+    /// let mut map = intmap_proved::IntMap::<u64, char>::with_capacity(1000);
     /// map.extend([(2, 'a'), (4, 'b')]);
     /// assert_eq!((format!("{map:?}"), map.capacity()), ("{2: 'a', 4: 'b'}".into(), 1024));
     /// map.shrink_to(16);
@@ -209,37 +108,17 @@ impl<K: IntKey, V> IntMap<K, V> {
         granted(self.try_shrink_to(min_capacity))
     }
 
-    /// The same as [`shrink_to`](IntMap::shrink_to), but it returns a failure.
+    /// The same as [`shrink_to`](Self::shrink_to), or [`Cause::Memory`] if an allocation fails. The
+    /// map then stays as it was, order and all.
     ///
-    /// # Errors
-    ///
-    /// [`Cause::Memory`] if an allocation fails. The map stays as it was, order and all.
-    ///
-    /// # Proved
-    ///
-    /// In part: the pairs are moved by [`drain`](IntMap::drain) and
+    /// Proved in part: the pairs are moved by [`drain`](IntMap::drain) and
     /// [`try_insert`](IntMap::try_insert) to a map that
     /// [`try_with_capacity`](IntMap::try_with_capacity) makes. The number of slots is computed by
     /// hand, and the way back after a failure is by hand.
-    ///
-    /// # Examples
-    ///
-    /// ```
-    /// use intmap_proved::IntMap;
-    ///
-    /// let mut map: IntMap<u64, char> = IntMap::with_capacity(1000);
-    /// assert_eq!((map.try_shrink_to(20), map.capacity()), (Ok(()), 32));
-    /// ```
     pub fn try_shrink_to(&mut self, min_capacity: usize) -> Result<(), Cause> {
-        #[cfg(feature = "check")]
-        let before = List::of(&self.map);
         let factor = self.load_factor_thousandths();
         let slots = slots_for(self.len(), factor).max(min_capacity).max(LEAST_SLOTS);
-        let is_least = slots > self.capacity() / 2;
-        let result = if is_least { Ok(()) } else { self.move_to(slots, factor) };
-        #[cfg(feature = "check")]
-        check::shrink_to(before, min_capacity, result, &self.map);
-        result
+        if slots > self.capacity() / 2 { Ok(()) } else { self.move_to(slots, factor) }
     }
 
     /// Moves the pairs to a new map of so many slots, which takes the place of this one.

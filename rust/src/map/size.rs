@@ -1,25 +1,17 @@
 //! The sizes of a map, and the calls that make it larger.
 use super::IntMap;
 use crate::IntKey;
-#[cfg(feature = "check")]
-use crate::check::{self, List};
-use crate::guard::Mending;
+use crate::guard::guarded;
 use crate::refusal::{Cause, granted};
-use core::mem;
+use crate::room::thousandths_of;
 
 impl<K: IntKey, V> IntMap<K, V> {
     /// Returns the number of pairs. The cost is *O*(1).
     ///
-    /// # Proved
-    ///
-    /// The proved `IntMap::len` has the clause `value`.
-    ///
-    /// # Examples
+    /// Proved of `IntMap::len`: `value`.
     ///
     /// ```
-    /// use intmap_proved::IntMap;
-    ///
-    /// assert_eq!(IntMap::from([(21u64, 'a')]).len(), 1);
+    /// assert_eq!(intmap_proved::IntMap::from([(21u64, 'a')]).len(), 1);
     /// ```
     #[inline]
     pub fn len(&self) -> usize {
@@ -28,16 +20,10 @@ impl<K: IntKey, V> IntMap<K, V> {
 
     /// Returns whether there is no pair. The cost is *O*(1).
     ///
-    /// # Proved
-    ///
-    /// The proved `IntMap::is_empty` has the clause `value`.
-    ///
-    /// # Examples
+    /// Proved of `IntMap::is_empty`: `value`.
     ///
     /// ```
-    /// use intmap_proved::IntMap;
-    ///
-    /// assert!(IntMap::<u64, char>::new().is_empty());
+    /// assert!(intmap_proved::IntMap::<u64, char>::new().is_empty());
     /// ```
     #[inline]
     pub fn is_empty(&self) -> bool {
@@ -49,16 +35,10 @@ impl<K: IntKey, V> IntMap<K, V> {
     /// Unlike std's, it isn't the number of pairs for which there is room: it says which keys share
     /// a slot.
     ///
-    /// # Proved
-    ///
-    /// The proved `IntMap::capacity` has the clause `value`.
-    ///
-    /// # Examples
+    /// Proved of `IntMap::capacity`: `value`.
     ///
     /// ```
-    /// use intmap_proved::IntMap;
-    ///
-    /// let mut map = IntMap::new();
+    /// let mut map = intmap_proved::IntMap::new();
     /// map.extend((0u64..4).map(|key| (key, 'a')));
     /// assert_eq!(map.capacity(), 8);
     /// ```
@@ -69,27 +49,14 @@ impl<K: IntKey, V> IntMap<K, V> {
 
     /// Makes the capacity the least power of two that is at least the number of pairs plus
     /// `additional`. A greater capacity stays. The pairs have the order of the new capacity, and
-    /// those of a slot keep theirs.
+    /// those of a slot keep theirs. The cost is *O*(*n* + *c*), or *O*(1) if the capacity stays.
     ///
     /// The load factor isn't considered, so later insertions may still double the slots;
-    /// [`reserve_pairs`](IntMap::reserve_pairs) considers it. A failed allocation is handled as std
-    /// does; [`try_reserve`](IntMap::try_reserve) returns it. The cost is *O*(*n* + *c*), or *O*(1)
-    /// if the capacity stays.
-    ///
-    /// # Panics
-    ///
-    /// If the number of pairs plus `additional` is above 2^63.
-    ///
-    /// # Proved
-    ///
-    /// The contract of [`try_reserve`](IntMap::try_reserve).
-    ///
-    /// # Examples
+    /// [`reserve_pairs`](Self::reserve_pairs) considers it. Where
+    /// [`try_reserve`](Self::try_reserve) fails, this call panics or ends the process.
     ///
     /// ```
-    /// use intmap_proved::IntMap;
-    ///
-    /// let mut map = IntMap::from([(21u64, 'a')]);
+    /// let mut map = intmap_proved::IntMap::from([(21u64, 'a')]);
     /// map.reserve(4);
     /// assert_eq!(map.capacity(), 8);
     /// ```
@@ -97,20 +64,11 @@ impl<K: IntKey, V> IntMap<K, V> {
         granted(self.try_reserve(additional))
     }
 
-    /// The same as [`reserve`](IntMap::reserve), but it returns a failure.
+    /// The same as [`reserve`](Self::reserve), or [`Cause::TooLarge`] if the number of pairs plus
+    /// `additional` is above 2^63, and otherwise [`Cause::Memory`] if an allocation fails. The map
+    /// then stays as it was. It never fails if the capacity stays.
     ///
-    /// # Errors
-    ///
-    /// [`Cause::TooLarge`] if the number of pairs plus `additional` is above 2^63, and otherwise
-    /// [`Cause::Memory`] if an allocation fails. The map stays as it was. It never fails if the
-    /// capacity stays.
-    ///
-    /// # Proved
-    ///
-    /// The proved `IntMap::reserve` has the clauses `reserved`, `err`, `refused`, `updates` and
-    /// `len`.
-    ///
-    /// # Examples
+    /// Proved of `IntMap::reserve`: `reserved`, `err`, `refused`, `updates`, `len`.
     ///
     /// ```
     /// use intmap_proved::{Cause, IntMap};
@@ -121,14 +79,7 @@ impl<K: IntKey, V> IntMap<K, V> {
     /// assert_eq!(map.capacity(), 2);
     /// ```
     pub fn try_reserve(&mut self, additional: usize) -> Result<(), Cause> {
-        #[cfg(feature = "check")]
-        let before = List::reserving(&self.map, additional);
-        let guard = Mending(&mut self.map);
-        let result = guard.0.reserve(additional);
-        mem::forget(guard);
-        #[cfg(feature = "check")]
-        check::reserve(before, additional, result, &self.map);
-        result
+        guarded(&mut self.map, |map| map.reserve(additional))
     }
 
     /// Returns the load factor: how many pairs there may be for each slot. It is 0.909 at first. The
@@ -137,17 +88,11 @@ impl<K: IntKey, V> IntMap<K, V> {
     /// An insertion checks it only if the pairs are then 4 to 7, 12 to 15, 20 to 23, and so on. In
     /// between there may be more.
     ///
-    /// # Proved
-    ///
-    /// In part: it is [`load_factor_thousandths`](IntMap::load_factor_thousandths), divided by
-    /// hand.
-    ///
-    /// # Examples
+    /// Proved in part: it is [`load_factor_thousandths`](IntMap::load_factor_thousandths), divided
+    /// by hand.
     ///
     /// ```
-    /// use intmap_proved::IntMap;
-    ///
-    /// assert_eq!(IntMap::<u64, char>::new().get_load_factor(), 0.909);
+    /// assert_eq!(intmap_proved::IntMap::<u64, char>::new().get_load_factor(), 0.909);
     /// ```
     pub fn get_load_factor(&self) -> f32 {
         self.load_factor_thousandths() as f32 / 1000.
@@ -155,179 +100,100 @@ impl<K: IntKey, V> IntMap<K, V> {
 
     /// Returns the load factor in thousandths, as the map has it. The cost is *O*(1).
     ///
-    /// # Proved
-    ///
-    /// The proved `IntMap::get_load_factor` has the clause `value`.
-    ///
-    /// # Examples
+    /// Proved of `IntMap::get_load_factor`: `value`.
     ///
     /// ```
-    /// use intmap_proved::IntMap;
-    ///
-    /// assert_eq!(IntMap::<u64, char>::new().load_factor_thousandths(), 909);
+    /// assert_eq!(intmap_proved::IntMap::<u64, char>::new().load_factor_thousandths(), 909);
     /// ```
     pub fn load_factor_thousandths(&self) -> usize {
         self.map.get_load_factor()
     }
 
     /// Sets the load factor, cut to thousandths, and doubles the slots until the pairs meet it.
-    /// They have the order of the new capacity, and those of a slot keep theirs. A negative number
-    /// or a `NaN` is 0.
+    /// They have the order of the new capacity, and those of a slot keep theirs. The cost is
+    /// *O*(*n* + *c*), or *O*(1) if the capacity stays.
     ///
-    /// A failed allocation is handled as std does;
-    /// [`try_set_load_factor`](IntMap::try_set_load_factor) returns it. The cost is *O*(*n* + *c*),
-    /// or *O*(1) if the capacity stays.
-    ///
-    /// # Panics
-    ///
-    /// If the pairs don't meet it in 2^63 slots.
-    ///
-    /// # Proved
-    ///
-    /// The contract of [`try_set_load_factor`](IntMap::try_set_load_factor).
-    ///
-    /// # Examples
+    /// It is a share, not a percentage: 0.75 and not 75. A debug build panics at 10 or more, and at
+    /// a `NaN`; otherwise a `NaN` is 0, and so is a negative number. Where
+    /// [`try_set_load_factor`](Self::try_set_load_factor) fails, this call panics or ends the
+    /// process.
     ///
     /// ```
-    /// use intmap_proved::IntMap;
-    ///
-    /// let mut map = IntMap::from([(21u64, 'a'), (22, 'b')]);
+    /// let mut map = intmap_proved::IntMap::from([(21u64, 'a'), (22, 'b')]);
     /// map.set_load_factor(0.25);
     /// assert_eq!((map.get_load_factor(), map.capacity()), (0.25, 8));
     /// ```
+    #[track_caller]
     pub fn set_load_factor(&mut self, load_factor: f32) {
         granted(self.try_set_load_factor(load_factor))
     }
 
-    /// The same as [`set_load_factor`](IntMap::set_load_factor), but it returns a failure.
-    ///
-    /// # Errors
-    ///
-    /// [`Cause::TooLarge`] if the pairs don't meet it in 2^63 slots, and otherwise
-    /// [`Cause::Memory`] if an allocation fails. The map stays as it was, with its load factor. It
-    /// never fails if the capacity stays.
-    ///
-    /// # Proved
-    ///
-    /// The contract of
-    /// [`try_set_load_factor_thousandths`](IntMap::try_set_load_factor_thousandths).
-    ///
-    /// # Examples
-    ///
-    /// ```
-    /// use intmap_proved::IntMap;
-    ///
-    /// let mut map = IntMap::from([(21u64, 'a')]);
-    /// assert_eq!(map.try_set_load_factor(2.5), Ok(()));
-    /// assert_eq!(map.load_factor_thousandths(), 2500);
-    /// ```
+    /// The same as [`set_load_factor`](Self::set_load_factor), with the failures of
+    /// [`try_set_load_factor_thousandths`](Self::try_set_load_factor_thousandths).
+    #[track_caller]
     pub fn try_set_load_factor(&mut self, load_factor: f32) -> Result<(), Cause> {
-        self.try_set_load_factor_thousandths((load_factor * 1000.) as usize)
+        self.try_set_load_factor_thousandths(thousandths_of(load_factor))
     }
 
-    /// The same as [`try_set_load_factor`](IntMap::try_set_load_factor), in whole thousandths.
+    /// Sets the load factor in whole thousandths, however large, as
+    /// [`set_load_factor`](Self::set_load_factor) does; or [`Cause::TooLarge`] if the pairs don't
+    /// meet it in 2^63 slots, and otherwise [`Cause::Memory`] if an allocation fails. The map then
+    /// stays as it was, with its load factor. It never fails if the capacity stays.
     ///
-    /// # Errors
-    ///
-    /// As for [`try_set_load_factor`](IntMap::try_set_load_factor).
-    ///
-    /// # Proved
-    ///
-    /// The proved `IntMap::set_load_factor` has the clauses `set`, `err`, `refused`, `updates` and
-    /// `len`.
-    ///
-    /// # Examples
+    /// Proved of `IntMap::set_load_factor`: `set`, `err`, `refused`, `updates`, `len`.
     ///
     /// ```
-    /// use intmap_proved::IntMap;
-    ///
-    /// let mut map = IntMap::from([(0u64, 'a'), (1, 'b'), (2, 'c')]);
+    /// let mut map = intmap_proved::IntMap::from([(0u64, 'a'), (1, 'b'), (2, 'c')]);
     /// assert_eq!(map.try_set_load_factor_thousandths(100), Ok(()));
     /// assert_eq!(map.capacity(), 32);
     /// ```
     pub fn try_set_load_factor_thousandths(&mut self, thousandths: usize) -> Result<(), Cause> {
-        #[cfg(feature = "check")]
-        let before = List::of(&self.map);
-        let guard = Mending(&mut self.map);
-        let result = guard.0.set_load_factor(thousandths);
-        mem::forget(guard);
-        #[cfg(feature = "check")]
-        check::set_load_factor(before, thousandths, result, &self.map);
-        result
+        guarded(&mut self.map, |map| map.set_load_factor(thousandths))
     }
 
     /// Returns the number of slots that have a pair. The cost is *O*(*c*), by 64 slots at a time.
     ///
-    /// # Proved
-    ///
-    /// The proved `IntMap::load` has the clause `value`.
-    ///
-    /// # Examples
+    /// Proved of `IntMap::load`: `value`.
     ///
     /// ```
-    /// use intmap_proved::IntMap;
-    ///
-    /// assert_eq!(IntMap::from([(0u64, 'a'), (4, 'b')]).load(), 1);
+    /// assert_eq!(intmap_proved::IntMap::from([(0u64, 'a'), (4, 'b')]).load(), 1);
     /// ```
     pub fn load(&self) -> u64 {
-        #[cfg(feature = "check")]
-        check::load(&self.map, self.map.load());
         self.map.load()
     }
 
     /// Returns how many pairs a slot has on average, in percent. The cost is *O*(1).
     ///
-    /// # Proved
-    ///
-    /// In part: it is [`len`](IntMap::len) by [`capacity`](IntMap::capacity), divided by hand.
-    ///
-    /// # Examples
+    /// Proved in part: it is [`len`](IntMap::len) by [`capacity`](IntMap::capacity), divided by
+    /// hand.
     ///
     /// ```
-    /// use intmap_proved::IntMap;
-    ///
-    /// assert_eq!(IntMap::from([(0u64, 'a'), (4, 'b'), (8, 'c')]).load_rate(), 75.);
+    /// let map = intmap_proved::IntMap::from([(0u64, 'a'), (4, 'b'), (8, 'c')]);
+    /// assert_eq!(map.load_rate(), 75.);
     /// ```
     pub fn load_rate(&self) -> f64 {
         self.len() as f64 / self.capacity() as f64 * 100.
     }
 
-    /// Counts the pairs, and returns whether their number is [`len`](IntMap::len). It always is.
-    /// The cost is *O*(*n* + *c*).
+    /// Counts the pairs, and returns whether their number is [`len`](Self::len). It always is. The
+    /// cost is *O*(*n* + *c*).
     ///
-    /// # Proved
-    ///
-    /// The proved `IntMap::assert_count` has the clause `value`.
-    ///
-    /// # Examples
+    /// Proved of `IntMap::assert_count`: `value`.
     ///
     /// ```
-    /// use intmap_proved::IntMap;
-    ///
-    /// assert!(IntMap::from([(21u64, 'a')]).assert_count());
+    /// assert!(intmap_proved::IntMap::from([(21u64, 'a')]).assert_count());
     /// ```
     pub fn assert_count(&self) -> bool {
-        #[cfg(feature = "check")]
-        check::counts(&self.map, self.map.assert_count());
         self.map.assert_count()
     }
 
     /// Returns a map from each number of pairs above 1 that a slot has, to the number of slots that
-    /// have exactly that many. The numbers are inserted into a new map as they first appear.
-    ///
-    /// A failed allocation is handled as std does; [`try_collisions`](IntMap::try_collisions)
-    /// returns it. The cost is *O*(*c*).
-    ///
-    /// # Proved
-    ///
-    /// The contract of [`try_collisions`](IntMap::try_collisions).
-    ///
-    /// # Examples
+    /// have exactly that many. The numbers are inserted into a new map as they first appear. The
+    /// cost is *O*(*c*). Where [`try_collisions`](Self::try_collisions) fails, this call ends the
+    /// process.
     ///
     /// ```
-    /// use intmap_proved::IntMap;
-    ///
-    /// let map = IntMap::from([(0u64, 'a'), (4, 'b'), (1, 'c')]);
+    /// let map = intmap_proved::IntMap::from([(0u64, 'a'), (4, 'b'), (1, 'c')]);
     /// assert_eq!(format!("{:?}", map.collisions()), "{2: 1}");
     /// ```
     #[must_use]
@@ -335,28 +201,10 @@ impl<K: IntKey, V> IntMap<K, V> {
         granted(self.try_collisions())
     }
 
-    /// The same as [`collisions`](IntMap::collisions), but it returns a failure.
+    /// The same as [`collisions`](Self::collisions), or [`Cause::Memory`] if an allocation fails.
     ///
-    /// # Errors
-    ///
-    /// [`Cause::Memory`] if an allocation fails.
-    ///
-    /// # Proved
-    ///
-    /// The proved `IntMap::collisions` has the clauses `sizes`, `bindings`, `len` and `memory`.
-    ///
-    /// # Examples
-    ///
-    /// ```
-    /// use intmap_proved::{Cause, IntMap};
-    ///
-    /// assert!(IntMap::from([(0u64, 'a'), (1, 'b')]).try_collisions()?.is_empty());
-    /// # Ok::<(), Cause>(())
-    /// ```
+    /// Proved of `IntMap::collisions`: `sizes`, `bindings`, `len`, `memory`.
     pub fn try_collisions(&self) -> Result<IntMap<u64, u64>, Cause> {
-        let map = self.map.collisions()?;
-        #[cfg(feature = "check")]
-        check::collisions(&self.map, &map);
-        Ok(IntMap { map })
+        Ok(IntMap { map: self.map.collisions()? })
     }
 }

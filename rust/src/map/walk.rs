@@ -1,44 +1,28 @@
 //! The calls that make iterators.
 use super::IntMap;
 use crate::IntKey;
-#[cfg(feature = "check")]
-use crate::check;
 use crate::iter::{IntoIter, IntoKeys, IntoValues, Iter, IterMut, Keys, Values, ValuesMut};
 
 impl<K: IntKey, V> IntMap<K, V> {
-    /// Returns an iterator over the pairs, in iteration order.
+    /// Returns an iterator over the pairs, in iteration order. It doesn't allocate. All steps
+    /// together cost *O*(*n* + *c*).
     ///
-    /// It doesn't allocate. All steps together cost *O*(*n* + *c*).
-    ///
-    /// # Proved
-    ///
-    /// The proved `IntMap::iter` has the clauses `walk` and `runs`.
-    ///
-    /// # Examples
+    /// Proved of `IntMap::iter`: `walk`, `runs`.
     ///
     /// ```
-    /// use intmap_proved::IntMap;
-    ///
-    /// let map = IntMap::from([(0u64, 'a'), (1, 'b')]);
+    /// let map = intmap_proved::IntMap::from([(0u64, 'a'), (1, 'b')]);
     /// assert_eq!(map.iter().collect::<Vec<_>>(), [(&0, &'a'), (&1, &'b')]);
     /// ```
     #[inline]
     pub fn iter(&self) -> Iter<'_, K, V> {
-        #[cfg(feature = "check")]
-        check::iterators(&self.map);
         Iter { left: self.len(), inner: self.map.iter() }
     }
 
     /// Returns an iterator over the pairs, in iteration order, by which the values can be changed.
-    ///
-    /// The cost is that of [`iter`](IntMap::iter).
-    ///
-    /// # Examples
+    /// The cost is that of [`iter`](Self::iter).
     ///
     /// ```
-    /// use intmap_proved::IntMap;
-    ///
-    /// let mut map = IntMap::from([(0u64, 1), (1, 2)]);
+    /// let mut map = intmap_proved::IntMap::from([(0u64, 1), (1, 2)]);
     /// for (key, value) in map.iter_mut() {
     ///     *value += *key;
     /// }
@@ -46,124 +30,72 @@ impl<K: IntKey, V> IntMap<K, V> {
     /// ```
     #[inline]
     pub fn iter_mut(&mut self) -> IterMut<'_, K, V> {
-        let left = self.len();
-        #[cfg(feature = "check")]
-        let inner = check::iter::IterMut::of_map(&mut self.map);
-        #[cfg(not(feature = "check"))]
-        let inner = self.map.iter_mut();
-        IterMut { left, inner }
+        IterMut { left: self.len(), inner: self.map.iter_mut() }
     }
 
-    /// Returns an iterator over the keys, in iteration order.
+    /// Returns an iterator over the keys, in iteration order. The cost is that of
+    /// [`iter`](Self::iter).
     ///
-    /// The cost is that of [`iter`](IntMap::iter).
-    ///
-    /// # Proved
-    ///
-    /// The proved `IntMap::keys` has the clauses `walk`, `len` and `runs`.
-    ///
-    /// # Examples
+    /// Proved of `IntMap::keys`: `walk`, `len`, `runs`.
     ///
     /// ```
-    /// use intmap_proved::IntMap;
-    ///
-    /// let map = IntMap::from([(0u64, 'a'), (1, 'b')]);
+    /// let map = intmap_proved::IntMap::from([(0u64, 'a'), (1, 'b')]);
     /// assert_eq!(map.keys().sum::<u64>(), 1);
     /// ```
     #[inline]
     pub fn keys(&self) -> Keys<'_, K, V> {
-        #[cfg(feature = "check")]
-        check::iterators(&self.map);
         Keys { left: self.len(), inner: self.map.keys() }
     }
 
-    /// Returns an iterator over the values, in iteration order.
+    /// Returns an iterator over the values, in iteration order. The cost is that of
+    /// [`iter`](Self::iter).
     ///
-    /// The cost is that of [`iter`](IntMap::iter).
-    ///
-    /// # Proved
-    ///
-    /// The proved `IntMap::values` has the clauses `walk`, `len` and `runs`.
-    ///
-    /// # Examples
+    /// Proved of `IntMap::values`: `walk`, `len`, `runs`.
     ///
     /// ```
-    /// use intmap_proved::IntMap;
-    ///
-    /// let map = IntMap::from([(0u64, 'a'), (1, 'b')]);
+    /// let map = intmap_proved::IntMap::from([(0u64, 'a'), (1, 'b')]);
     /// assert_eq!(map.values().collect::<String>(), "ab");
     /// ```
     #[inline]
     pub fn values(&self) -> Values<'_, K, V> {
-        #[cfg(feature = "check")]
-        check::iterators(&self.map);
         Values { left: self.len(), inner: self.map.values() }
     }
 
-    /// Returns an iterator over the values, in iteration order, by which they can be changed.
-    ///
-    /// The cost is that of [`iter`](IntMap::iter).
-    ///
-    /// # Examples
+    /// Returns an iterator over the values, in iteration order, by which they can be changed. The
+    /// cost is that of [`iter`](Self::iter).
     ///
     /// ```
-    /// use intmap_proved::IntMap;
-    ///
-    /// let mut map = IntMap::from([(0u64, 1), (1, 2)]);
+    /// let mut map = intmap_proved::IntMap::from([(0u64, 1), (1, 2)]);
     /// map.values_mut().for_each(|value| *value += 1);
     /// assert_eq!((map[0], map[1]), (2, 3));
     /// ```
     #[inline]
     pub fn values_mut(&mut self) -> ValuesMut<'_, K, V> {
-        let left = self.len();
-        #[cfg(feature = "check")]
-        let inner = check::iter::ValuesMut::of_map(&mut self.map);
-        #[cfg(not(feature = "check"))]
-        let inner = self.map.values_mut();
-        ValuesMut { left, inner }
+        ValuesMut { left: self.len(), inner: self.map.values_mut() }
     }
 
     /// Returns an iterator over the keys by value, in iteration order. Each value is dropped as its
-    /// key is returned, and the rest as the iterator is dropped.
+    /// key is returned, and the rest as the iterator is dropped. The cost is that of
+    /// [`iter`](Self::iter).
     ///
-    /// The cost is that of [`iter`](IntMap::iter).
-    ///
-    /// # Proved
-    ///
-    /// The proved `IntMap::into_keys` has the clauses `walk`, `len` and `runs`.
-    ///
-    /// # Examples
+    /// Proved of `IntMap::into_keys`: `walk`, `len`, `runs`.
     ///
     /// ```
-    /// use intmap_proved::IntMap;
-    ///
-    /// let map = IntMap::from([(0u64, 'a'), (1, 'b')]);
+    /// let map = intmap_proved::IntMap::from([(0u64, 'a'), (1, 'b')]);
     /// assert_eq!(map.into_keys().collect::<Vec<_>>(), [0, 1]);
     /// ```
     #[inline]
     pub fn into_keys(self) -> IntoKeys<K, V> {
-        let left = self.len();
-        #[cfg(feature = "check")]
-        let inner = check::iter::IntoKeys::of_map(self.map);
-        #[cfg(not(feature = "check"))]
-        let inner = self.map.into_keys();
-        IntoKeys { left, inner }
+        IntoKeys { left: self.len(), inner: self.map.into_keys() }
     }
 
-    /// Returns an iterator over the values by value, in iteration order.
+    /// Returns an iterator over the values by value, in iteration order. The cost is that of
+    /// [`iter`](Self::iter).
     ///
-    /// The cost is that of [`iter`](IntMap::iter).
-    ///
-    /// # Proved
-    ///
-    /// The proved `IntMap::into_values` has the clauses `walk`, `len` and `runs`.
-    ///
-    /// # Examples
+    /// Proved of `IntMap::into_values`: `walk`, `len`, `runs`.
     ///
     /// ```
-    /// use intmap_proved::IntMap;
-    ///
-    /// let map = IntMap::from([(0u64, 'a'), (1, 'b')]);
+    /// let map = intmap_proved::IntMap::from([(0u64, 'a'), (1, 'b')]);
     /// assert_eq!(map.into_values().collect::<String>(), "ab");
     /// ```
     #[inline]
@@ -222,11 +154,6 @@ impl<K: IntKey, V> IntoIterator for IntMap<K, V> {
 
     #[inline]
     fn into_iter(self) -> IntoIter<K, V> {
-        let left = self.len();
-        #[cfg(feature = "check")]
-        let inner = check::iter::IntoIter::of_map(self.map);
-        #[cfg(not(feature = "check"))]
-        let inner = self.map.into_iter();
-        IntoIter { left, inner }
+        IntoIter { left: self.len(), inner: self.map.into_iter() }
     }
 }

@@ -1,33 +1,22 @@
 //! Two sets: what they have in common, and what not.
 use super::{Difference, IntSet, Intersection, SymmetricDifference, Union};
 use crate::IntKey;
-#[cfg(feature = "check")]
-use crate::check::{Two, several};
 use crate::room::{FIRST_FACTOR, slots_for};
-use core::ops::{BitAnd, BitOr, BitXor, Sub};
+use core::ops::{BitAnd, BitAndAssign, BitOr, BitOrAssign, BitXor, BitXorAssign, Sub, SubAssign};
 
 impl<K: IntKey> IntSet<K> {
     /// Returns an iterator over the members that are absent from `other`, in the order of this set.
     /// A step looks up the next members of this set in `other`.
     ///
-    /// # Proved
-    ///
-    /// The proved `IntSet::difference` has the clauses `walk`, `members` and `runs`.
-    ///
-    /// # Examples
+    /// Proved of `IntSet::difference`: `walk`, `members`, `runs`.
     ///
     /// ```
-    /// use intmap_proved::IntSet;
-    ///
+    /// # use intmap_proved::IntSet;
     /// let (first, second) = (IntSet::from([1u64, 2, 3]), IntSet::from([2, 3, 4]));
     /// assert_eq!(first.difference(&second).collect::<Vec<_>>(), [&1]);
     /// ```
     pub fn difference<'a>(&'a self, other: &'a IntSet<K>) -> Difference<'a, K> {
         let bounds = (self.len().saturating_sub(other.len()), self.len());
-        #[cfg(feature = "check")]
-        if let Some(two) = Two::of(self.set.map(), other.set.map()) {
-            several::gives("difference", self.set.difference(&other.set), two.difference());
-        }
         Difference { inner: self.set.difference(&other.set), bounds }
     }
 
@@ -35,24 +24,15 @@ impl<K: IntKey> IntSet<K> {
     /// members, or of this one if both have the same number. It looks the members of that set up in
     /// the other.
     ///
-    /// # Proved
-    ///
-    /// The proved `IntSet::intersection` has the clauses `walk`, `members` and `runs`.
-    ///
-    /// # Examples
+    /// Proved of `IntSet::intersection`: `walk`, `members`, `runs`.
     ///
     /// ```
-    /// use intmap_proved::IntSet;
-    ///
+    /// # use intmap_proved::IntSet;
     /// let (first, second) = (IntSet::from([1u64, 2, 3]), IntSet::from([2, 3, 4]));
     /// assert_eq!(first.intersection(&second).collect::<Vec<_>>(), [&2, &3]);
     /// ```
     pub fn intersection<'a>(&'a self, other: &'a IntSet<K>) -> Intersection<'a, K> {
         let bounds = (0, self.len().min(other.len()));
-        #[cfg(feature = "check")]
-        if let Some(two) = Two::of(self.set.map(), other.set.map()) {
-            several::gives("intersection", self.set.intersection(&other.set), two.intersection());
-        }
         Intersection { inner: self.set.intersection(&other.set), bounds }
     }
 
@@ -60,117 +40,68 @@ impl<K: IntKey> IntSet<K> {
     /// of the set with more members, or of this one if both have the same number, and then those
     /// that only the other has, each in the order of its set.
     ///
-    /// # Proved
-    ///
-    /// The proved `IntSet::union` has the clauses `walk`, `members` and `runs`.
-    ///
-    /// # Examples
+    /// Proved of `IntSet::union`: `walk`, `members`, `runs`.
     ///
     /// ```
-    /// use intmap_proved::IntSet;
-    ///
+    /// # use intmap_proved::IntSet;
     /// let (first, second) = (IntSet::from([1u64, 2, 3]), IntSet::from([2, 3, 4]));
     /// assert_eq!(first.union(&second).collect::<Vec<_>>(), [&1, &2, &3, &4]);
     /// ```
     pub fn union<'a>(&'a self, other: &'a IntSet<K>) -> Union<'a, K> {
         let bounds = (self.len().max(other.len()), self.len() + other.len());
-        #[cfg(feature = "check")]
-        if let Some(two) = Two::of(self.set.map(), other.set.map()) {
-            several::gives("union", self.set.union(&other.set), two.union());
-        }
         Union { inner: self.set.union(&other.set), bounds }
     }
 
     /// Returns an iterator over the members that exactly one of the sets has: first those that only
     /// this set has, and then those that only `other` has, each in the order of its set.
     ///
-    /// # Proved
-    ///
-    /// The proved `IntSet::symmetric_difference` has the clauses `walk`, `members` and `runs`.
-    ///
-    /// # Examples
+    /// Proved of `IntSet::symmetric_difference`: `walk`, `members`, `runs`.
     ///
     /// ```
-    /// use intmap_proved::IntSet;
-    ///
+    /// # use intmap_proved::IntSet;
     /// let (first, second) = (IntSet::from([1u64, 2, 3]), IntSet::from([2, 3, 4]));
     /// assert_eq!(first.symmetric_difference(&second).collect::<Vec<_>>(), [&1, &4]);
     /// ```
     pub fn symmetric_difference<'a>(&'a self, other: &'a IntSet<K>) -> SymmetricDifference<'a, K> {
         let bounds = (self.len().abs_diff(other.len()), self.len() + other.len());
-        #[cfg(feature = "check")]
-        if let Some(two) = Two::of(self.set.map(), other.set.map()) {
-            several::gives(
-                "symmetric_difference",
-                self.set.symmetric_difference(&other.set),
-                two.symmetric_difference(),
-            );
-        }
         SymmetricDifference { inner: self.set.symmetric_difference(&other.set), bounds }
     }
 
     /// Returns whether each member is one of `other`. It looks the members up in turn, up to the
     /// first that is absent from `other`.
     ///
-    /// # Proved
-    ///
-    /// The proved `IntSet::is_subset` has the clause `value`.
-    ///
-    /// # Examples
+    /// Proved of `IntSet::is_subset`: `value`.
     ///
     /// ```
-    /// use intmap_proved::IntSet;
-    ///
+    /// # use intmap_proved::IntSet;
     /// assert!(IntSet::from([1u64, 2]).is_subset(&IntSet::from([1, 2, 3])));
     /// ```
     pub fn is_subset(&self, other: &IntSet<K>) -> bool {
-        #[cfg(feature = "check")]
-        if let Some(two) = Two::of(self.set.map(), other.set.map()) {
-            two.is_subset(self.set.is_subset(&other.set));
-        }
         self.set.is_subset(&other.set)
     }
 
     /// Returns whether each member of `other` is one of this set.
     ///
-    /// # Proved
-    ///
-    /// The proved `IntSet::is_superset` has the clause `value`.
-    ///
-    /// # Examples
+    /// Proved of `IntSet::is_superset`: `value`.
     ///
     /// ```
-    /// use intmap_proved::IntSet;
-    ///
+    /// # use intmap_proved::IntSet;
     /// assert!(IntSet::from([1u64, 2, 3]).is_superset(&IntSet::from([1, 2])));
     /// ```
     pub fn is_superset(&self, other: &IntSet<K>) -> bool {
-        #[cfg(feature = "check")]
-        if let Some(two) = Two::of(other.set.map(), self.set.map()) {
-            two.is_subset(self.set.is_superset(&other.set));
-        }
         self.set.is_superset(&other.set)
     }
 
     /// Returns whether no member is one of `other`. It looks the members of the smaller set up in
     /// the other, up to the first that both have.
     ///
-    /// # Proved
-    ///
-    /// The proved `IntSet::is_disjoint` has the clause `value`.
-    ///
-    /// # Examples
+    /// Proved of `IntSet::is_disjoint`: `value`.
     ///
     /// ```
-    /// use intmap_proved::IntSet;
-    ///
+    /// # use intmap_proved::IntSet;
     /// assert!(IntSet::from([1u64, 2]).is_disjoint(&IntSet::from([3])));
     /// ```
     pub fn is_disjoint(&self, other: &IntSet<K>) -> bool {
-        #[cfg(feature = "check")]
-        if let Some(two) = Two::of(self.set.map(), other.set.map()) {
-            two.is_disjoint(self.set.is_disjoint(&other.set));
-        }
         self.set.is_disjoint(&other.set)
     }
 }
@@ -186,18 +117,15 @@ fn made_of<'a, K: IntKey + 'a>(members: impl Iterator<Item = &'a K>, room: usize
 macro_rules! operators {
     ($($(#[$doc:meta])* $operator:ident $call:ident = $members:ident, $room:expr;)*) => { $(
         $(#[$doc])*
+        ///
+        /// A failed allocation ends the process.
         impl<K: IntKey> $operator<&IntSet<K>> for &IntSet<K> {
             type Output = IntSet<K>;
 
             fn $call(self, other: &IntSet<K>) -> IntSet<K> {
                 let members = self.$members(other);
                 let room = $room(members.bounds);
-                let made = made_of(members, room);
-                #[cfg(feature = "check")]
-                if let Some(two) = Two::of_all(self.set.map(), other.set.map()) {
-                    several::makes(stringify!($call), two.$members(), made.set.map());
-                }
-                made
+                made_of(members, room)
             }
         }
     )* };
@@ -205,44 +133,93 @@ macro_rules! operators {
 
 operators! {
     /// The members of either set, inserted in the order of [`union`](IntSet::union) into a set that
-    /// has room for the members of both from the start. A failed allocation is handled as std does.
+    /// has room for the members of both from the start.
     ///
     /// ```
-    /// use intmap_proved::IntSet;
-    ///
+    /// # use intmap_proved::IntSet;
     /// assert_eq!(&IntSet::from([1u64, 2]) | &IntSet::from([2, 3]), IntSet::from([1, 2, 3]));
     /// ```
     BitOr bitor = union, |(_, most)| most;
 
     /// The members of both sets, as [`intersection`](IntSet::intersection) and `collect` make them.
-    /// A failed allocation is handled as std does.
     ///
     /// ```
-    /// use intmap_proved::IntSet;
-    ///
+    /// # use intmap_proved::IntSet;
     /// assert_eq!(&IntSet::from([1u64, 2]) & &IntSet::from([2, 3]), IntSet::from([2]));
     /// ```
     BitAnd bitand = intersection, |(least, _)| least;
 
     /// The members that exactly one of the sets has, inserted in the order of
     /// [`symmetric_difference`](IntSet::symmetric_difference) into a set that has room for the least
-    /// number that there can be. A failed allocation is handled as std does.
+    /// number that there can be.
     ///
     /// ```
-    /// use intmap_proved::IntSet;
-    ///
+    /// # use intmap_proved::IntSet;
     /// assert_eq!(&IntSet::from([1u64, 2]) ^ &IntSet::from([2, 3]), IntSet::from([1, 3]));
     /// ```
     BitXor bitxor = symmetric_difference, |(least, _)| least;
 
     /// The members of the first set that are absent from the second, inserted in the order of
     /// [`difference`](IntSet::difference) into a set that has room for the least number that there
-    /// can be. A failed allocation is handled as std does.
+    /// can be.
     ///
     /// ```
-    /// use intmap_proved::IntSet;
-    ///
+    /// # use intmap_proved::IntSet;
     /// assert_eq!(&IntSet::from([1u64, 2]) - &IntSet::from([2, 3]), IntSet::from([1]));
     /// ```
     Sub sub = difference, |(least, _)| least;
+}
+
+/// Inserts the members of the other set, as `extend` does. A failed allocation ends the process.
+///
+/// ```
+/// # use intmap_proved::IntSet;
+/// let mut set = IntSet::from([1u64, 2]);
+/// set |= &IntSet::from([2, 3]);
+/// set ^= &IntSet::from([3, 4]);
+/// assert_eq!(set, IntSet::from([1, 2, 4]));
+/// ```
+impl<K: IntKey> BitOrAssign<&IntSet<K>> for IntSet<K> {
+    fn bitor_assign(&mut self, other: &IntSet<K>) {
+        self.extend(other)
+    }
+}
+
+/// Removes each member of the other set that is one of this set, and inserts each that isn't. A
+/// failed allocation ends the process.
+impl<K: IntKey> BitXorAssign<&IntSet<K>> for IntSet<K> {
+    fn bitxor_assign(&mut self, other: &IntSet<K>) {
+        for key in other {
+            if !self.remove(*key) {
+                self.insert(*key);
+            }
+        }
+    }
+}
+
+/// Keeps the members that are in the other set, in their order.
+///
+/// ```
+/// # use intmap_proved::IntSet;
+/// let mut set = IntSet::from([1u64, 2, 3]);
+/// set &= &IntSet::from([2, 3, 4]);
+/// set -= &IntSet::from([3]);
+/// assert_eq!(set, IntSet::from([2]));
+/// ```
+impl<K: IntKey> BitAndAssign<&IntSet<K>> for IntSet<K> {
+    fn bitand_assign(&mut self, other: &IntSet<K>) {
+        self.retain(|key| other.contains(key))
+    }
+}
+
+/// Removes the members of the other set. If that has fewer, each is removed as by
+/// [`remove`](IntSet::remove). Otherwise the members that stay keep their order.
+impl<K: IntKey> SubAssign<&IntSet<K>> for IntSet<K> {
+    fn sub_assign(&mut self, other: &IntSet<K>) {
+        if other.len() < self.len() {
+            other.iter().for_each(|key| _ = self.remove(*key))
+        } else {
+            self.retain(|key| !other.contains(key))
+        }
+    }
 }

@@ -1,61 +1,15 @@
 //! The iterators of a set.
 use super::IntSet;
 use crate::IntKey;
-#[cfg(feature = "check")]
-use crate::check::{
-    self, Asked,
-    iter::{DrainOfSet, IntoKeys},
-};
-use crate::iter::copied;
-#[cfg(not(feature = "check"))]
-use crate::proved::map::iter::IntoKeys;
-use crate::proved::map::iter::Keys;
-#[cfg(not(feature = "check"))]
-use crate::proved::set::iter::Drain as DrainOfSet;
+use crate::iter::{copied, counted, empty, owned};
+use crate::proved::map::iter::{IntoKeys, Keys};
+use crate::proved::set::iter::Drain as Drained;
 use crate::proved::set::{IntSet as Proved, iter as proved};
 use crate::proved::table::table::Progress;
 use core::fmt::{self, Debug, Formatter};
 use core::iter::FusedIterator;
 
-/// Writes an iterator that counts the members that are left.
-macro_rules! iterators {
-    ($(
-        $(#[$doc:meta])*
-        $name:ident [$($generics:tt)*] [$($args:tt)*] $inner:ty => $item:ty;
-    )*) => { $(
-        $(#[$doc])*
-        #[must_use = "iterators are lazy and do nothing unless consumed"]
-        pub struct $name<$($generics)*> {
-            pub(super) inner: $inner,
-            pub(super) left: usize,
-        }
-
-        impl<$($generics)*> Iterator for $name<$($args)*> {
-            type Item = $item;
-
-            #[inline]
-            fn next(&mut self) -> Option<$item> {
-                let item = self.inner.next();
-                #[cfg(feature = "check")]
-                crate::check::steps(self.left, item.is_some());
-                let item = item?;
-                self.left = self.left.saturating_sub(1);
-                Some(item)
-            }
-
-            #[inline]
-            fn size_hint(&self) -> (usize, Option<usize>) {
-                (self.left, Some(self.left))
-            }
-        }
-
-        impl<$($generics)*> ExactSizeIterator for $name<$($args)*> {}
-
-        impl<$($generics)*> FusedIterator for $name<$($args)*> {}
-    )* };
-}
-
-iterators! {
+counted! {
     /// The members of a set, made by [`IntSet::iter`].
     ///
     /// ```
@@ -72,7 +26,7 @@ iterators! {
     /// assert_eq!(set.drain().take(1).count(), 1);
     /// assert_eq!(set.len(), 1);
     /// ```
-    Drain ['a, K: IntKey] ['a, K] DrainOfSet<'a, K> => K;
+    Drain ['a, K: IntKey] ['a, K] Drained<'a, K> => K;
 
     /// The members of a set by value, made by [`IntSet::into_iter`](IntoIterator::into_iter).
     ///
@@ -83,6 +37,9 @@ iterators! {
     IntoIter [K: IntKey] [K] IntoKeys<K, ()> => K;
 }
 
+owned!(Drain ['a, K: IntKey] ['a, K] IntoIter [K: IntKey] [K]);
+empty!(Iter ['a, K: IntKey] ['a, K] IntoIter [K: IntKey] [K]);
+
 impl<K: IntKey> Clone for Iter<'_, K> {
     #[inline]
     fn clone(&self) -> Self {
@@ -92,19 +49,7 @@ impl<K: IntKey> Clone for Iter<'_, K> {
 
 impl<K: IntKey + Debug> Debug for Iter<'_, K> {
     fn fmt(&self, f: &mut Formatter<'_>) -> fmt::Result {
-        f.debug_list().entries(self.clone()).finish()
-    }
-}
-
-impl<K: IntKey> Debug for Drain<'_, K> {
-    fn fmt(&self, f: &mut Formatter<'_>) -> fmt::Result {
-        f.debug_struct("Drain").field("left", &self.left).finish()
-    }
-}
-
-impl<K: IntKey> Debug for IntoIter<K> {
-    fn fmt(&self, f: &mut Formatter<'_>) -> fmt::Result {
-        f.debug_struct("IntoIter").field("left", &self.left).finish()
+        Debug::fmt(&self.inner, f)
     }
 }
 
@@ -116,7 +61,7 @@ impl<K: IntKey> Debug for IntoIter<K> {
 /// assert_eq!(set.extract_if(|key| key > 0).next(), Some(1));
 /// ```
 #[must_use = "iterators are lazy and do nothing unless consumed"]
-pub struct ExtractIf<'a, K: IntKey, F> {
+pub struct ExtractIf<'a, K, F> {
     pub(super) set: &'a mut Proved<K>,
     pub(super) at: Progress,
     pub(super) pick: F,
@@ -128,14 +73,7 @@ impl<K: IntKey, F: FnMut(K) -> bool> Iterator for ExtractIf<'_, K, F> {
     #[inline]
     fn next(&mut self) -> Option<K> {
         let ExtractIf { set, at, pick } = self;
-        #[cfg(feature = "check")]
-        let mut asked = Asked::behind(set.map(), at.passed);
-        #[cfg(feature = "check")]
-        let pick = &mut |key: K| !asked.about(key, !pick(key));
-        let member = set.extract_next(at, pick);
-        #[cfg(feature = "check")]
-        asked.stepped(member, set.map());
-        member
+        set.extract_next(at, pick)
     }
 
     #[inline]
@@ -157,7 +95,7 @@ macro_rules! combined {
     ($($(#[$doc:meta])* $name:ident;)*) => { $(
         $(#[$doc])*
         #[must_use = "iterators are lazy and do nothing unless consumed"]
-        pub struct $name<'a, K: IntKey> {
+        pub struct $name<'a, K> {
             pub(super) inner: proved::$name<'a, K>,
             pub(super) bounds: (usize, usize),
         }
@@ -168,8 +106,6 @@ macro_rules! combined {
             #[inline]
             fn next(&mut self) -> Option<&'a K> {
                 let key = self.inner.next();
-                #[cfg(feature = "check")]
-                check::steps_within(self.bounds, key.is_some());
                 let (least, most) = self.bounds;
                 self.bounds = match key {
                     Some(_) => (least.saturating_sub(1), most.saturating_sub(1)),
@@ -204,8 +140,7 @@ combined! {
     /// The members of one set that are absent from another, made by [`IntSet::difference`].
     ///
     /// ```
-    /// use intmap_proved::IntSet;
-    ///
+    /// # use intmap_proved::IntSet;
     /// let (first, second) = (IntSet::from([1u64, 2, 3]), IntSet::from([2, 3, 4]));
     /// assert_eq!(format!("{:?}", first.difference(&second)), "[1]");
     /// ```
@@ -214,8 +149,7 @@ combined! {
     /// The members that two sets have, made by [`IntSet::intersection`].
     ///
     /// ```
-    /// use intmap_proved::IntSet;
-    ///
+    /// # use intmap_proved::IntSet;
     /// let (first, second) = (IntSet::from([1u64, 2, 3]), IntSet::from([2, 3, 4]));
     /// assert_eq!(format!("{:?}", first.intersection(&second)), "[2, 3]");
     /// ```
@@ -224,8 +158,7 @@ combined! {
     /// The members of either set, made by [`IntSet::union`].
     ///
     /// ```
-    /// use intmap_proved::IntSet;
-    ///
+    /// # use intmap_proved::IntSet;
     /// let (first, second) = (IntSet::from([1u64, 2, 3]), IntSet::from([2, 3, 4]));
     /// assert_eq!(format!("{:?}", first.union(&second)), "[1, 2, 3, 4]");
     /// ```
@@ -234,8 +167,7 @@ combined! {
     /// The members that exactly one of two sets has, made by [`IntSet::symmetric_difference`].
     ///
     /// ```
-    /// use intmap_proved::IntSet;
-    ///
+    /// # use intmap_proved::IntSet;
     /// let (first, second) = (IntSet::from([1u64, 2, 3]), IntSet::from([2, 3, 4]));
     /// assert_eq!(format!("{:?}", first.symmetric_difference(&second)), "[1, 4]");
     /// ```
@@ -272,11 +204,6 @@ impl<K: IntKey> IntoIterator for IntSet<K> {
 
     #[inline]
     fn into_iter(self) -> IntoIter<K> {
-        let left = self.len();
-        #[cfg(feature = "check")]
-        let inner = IntoKeys::of_set(self.set);
-        #[cfg(not(feature = "check"))]
-        let inner = self.set.into_iter();
-        IntoIter { left, inner }
+        IntoIter { left: self.len(), inner: self.set.into_iter() }
     }
 }

@@ -1,7 +1,5 @@
 //! Calls on many members.
-use super::{Cause, Drain, ExtractIf, Global, IntKey, IntSet, Iter, Mending, Proved, mem};
-#[cfg(feature = "check")]
-use crate::check::{self, Asked, Coming, List};
+use super::{Cause, Drain, ExtractIf, Global, IntKey, IntSet, Iter, Proved, guarded};
 use crate::proved::table::table::Progress;
 use crate::refusal::RefusedPair;
 
@@ -9,11 +7,7 @@ impl<K: IntKey> IntSet<K> {
     /// Returns an iterator over the members, in iteration order. It doesn't allocate. All steps
     /// together cost *O*(*n* + *c*).
     ///
-    /// # Proved
-    ///
-    /// The proved `IntSet::iter` has the clauses `walk` and `runs`.
-    ///
-    /// # Examples
+    /// Proved of `IntSet::iter`: `walk`, `runs`.
     ///
     /// ```
     /// let set = intmap_proved::IntSet::from([0u64, 1]);
@@ -21,23 +15,16 @@ impl<K: IntKey> IntSet<K> {
     /// ```
     #[inline]
     pub fn iter(&self) -> Iter<'_, K> {
-        #[cfg(feature = "check")]
-        check::members(self.set.map(), self.set.iter());
         Iter { left: self.len(), inner: self.set.iter() }
     }
 
     /// Calls `keep` once for each member, in iteration order, and removes the members for which it
-    /// returns `false`.
+    /// returns `false`. The cost is *O*(*n* + *c*).
     ///
     /// The others keep their order, and the capacity and the load factor stay. If `keep` panics, the
-    /// set stays whole, with the members that weren't reached. The cost is *O*(*n* + *c*).
+    /// set stays whole, with the members that weren't reached.
     ///
-    /// # Proved
-    ///
-    /// The proved `IntSet::retain` has the clauses `by_key`, `filtered`, `keys`, `state`, `updates`
-    /// and `len`.
-    ///
-    /// # Examples
+    /// Proved of `IntSet::retain`: `by_key`, `filtered`, `keys`, `state`, `updates`, `len`.
     ///
     /// ```
     /// let mut set = intmap_proved::IntSet::from([0u64, 1, 2]);
@@ -45,24 +32,12 @@ impl<K: IntKey> IntSet<K> {
     /// assert_eq!(set.len(), 2);
     /// ```
     pub fn retain<F: FnMut(K) -> bool>(&mut self, keep: F) {
-        #[cfg(feature = "check")]
-        let (mut asked, mut keep) = (Asked::of(self.set.map()), keep);
-        #[cfg(feature = "check")]
-        let keep = |key: K| asked.about(key, keep(key));
-        let guard = Mending(&mut self.set);
-        guard.0.retain(keep);
-        mem::forget(guard);
-        #[cfg(feature = "check")]
-        asked.ended("retain", self.set.map());
+        guarded(&mut self.set, |set| set.retain(keep))
     }
 
     /// Removes all members. The capacity and the memory stay. The cost is *O*(*n* + *c*).
     ///
-    /// # Proved
-    ///
-    /// The proved `IntSet::clear` has the clauses `state`, `updates` and `len`.
-    ///
-    /// # Examples
+    /// Proved of `IntSet::clear`: `state`, `updates`, `len`.
     ///
     /// ```
     /// let mut set = intmap_proved::IntSet::from([21u64]);
@@ -70,11 +45,7 @@ impl<K: IntKey> IntSet<K> {
     /// assert_eq!((set.len(), set.capacity()), (0, 2));
     /// ```
     pub fn clear(&mut self) {
-        #[cfg(feature = "check")]
-        let before = List::of(self.set.map());
         self.set.clear();
-        #[cfg(feature = "check")]
-        check::clear(before, self.set.map());
     }
 
     /// Returns an iterator that removes one member at each step and returns it, in iteration order.
@@ -82,24 +53,15 @@ impl<K: IntKey> IntSet<K> {
     ///
     /// A step costs *O*(*s*), all of them with the look for the next slots *O*(*n s* + *c*).
     ///
-    /// # Proved
-    ///
-    /// The proved `IntSet::drain` has the clauses `state` and `next_gives`.
-    ///
-    /// # Examples
+    /// Proved of `IntSet::drain`: `state`, `next_gives`.
     ///
     /// ```
     /// let mut set = intmap_proved::IntSet::from([0u64, 1]);
-    /// assert_eq!(set.drain().next(), Some(0));
-    /// assert_eq!(set.len(), 1);
+    /// assert_eq!((set.drain().next(), set.len()), (Some(0), 1));
     /// ```
+    #[must_use = "a drain removes one member at each step, so `drain();` removes none: take `clear`"]
     pub fn drain(&mut self) -> Drain<'_, K> {
-        let left = self.len();
-        #[cfg(feature = "check")]
-        let inner = check::iter::DrainOfSet::of(&mut self.set);
-        #[cfg(not(feature = "check"))]
-        let inner = self.set.drain();
-        Drain { left, inner }
+        Drain { left: self.len(), inner: self.set.drain() }
     }
 
     /// Returns an iterator that removes the members for which `pick` returns `true`, one at each
@@ -107,14 +69,10 @@ impl<K: IntKey> IntSet<K> {
     ///
     /// `pick` is called once for each member, and only as the iterator goes on. If the iterator is
     /// dropped early or forgotten, the members that it didn't reach stay. All steps together cost
-    /// *O*(*n s* + *c*) beside the calls of `pick`; [`retain`](IntSet::retain) costs *O*(*n* + *c*).
+    /// *O*(*n s* + *c*) beside the calls of `pick`; [`retain`](Self::retain) costs *O*(*n* + *c*).
     ///
-    /// # Proved
-    ///
-    /// In part: each step is the proved one of `IntMap::extract_if`, on the map from each member to
-    /// `()`.
-    ///
-    /// # Examples
+    /// Proved in part: each step is the proved one of `IntMap::extract_if`, on the map from each
+    /// member to `()`.
     ///
     /// ```
     /// let mut set = intmap_proved::IntSet::from([0u64, 1, 2]);
@@ -125,19 +83,11 @@ impl<K: IntKey> IntSet<K> {
         ExtractIf { set: &mut self.set, at: Progress::start(), pick }
     }
 
-    /// Inserts each key in turn, as [`insert`](IntSet::insert) does, up to the first one that
-    /// fails.
+    /// Inserts each key in turn, as [`insert`](Self::insert) does, up to the first one that fails as
+    /// by [`try_insert`](Self::try_insert). The failure has that key, `()` as its value, and the
+    /// number of keys before it. Those stay members, and the rest of the iterator is dropped.
     ///
-    /// # Errors
-    ///
-    /// Those of [`try_insert`](IntSet::try_insert), with the key that failed, `()` as its value, and
-    /// the number of keys before it. Those stay members, and the rest of the iterator is dropped.
-    ///
-    /// # Proved
-    ///
-    /// The proved `IntSet::extend` has the clauses `extends`, `runs`, `len` and `stops`.
-    ///
-    /// # Examples
+    /// Proved of `IntSet::extend`: `extends`, `runs`, `len`, `stops`.
     ///
     /// ```
     /// use intmap_proved::{IntSet, RefusedPair};
@@ -151,71 +101,21 @@ impl<K: IntKey> IntSet<K> {
     where
         I: IntoIterator<Item = K>,
     {
-        #[cfg(feature = "check")]
-        let mut coming = Coming::into(self.set.map());
-        #[cfg(feature = "check")]
-        let keys = coming.watch(keys, |key| *key);
-        let guard = Mending(&mut self.set);
-        let result = guard.0.extend(keys.into_iter());
-        mem::forget(guard);
-        #[cfg(feature = "check")]
-        coming.joined(&result, self.set.map());
-        result
+        guarded(&mut self.set, |set| set.extend(keys.into_iter()))
     }
 
-    /// The same as [`from_iter`](FromIterator::from_iter), but it returns a failure.
+    /// The same as [`from_iter`](FromIterator::from_iter), but it returns a failure: that of
+    /// [`try_with_capacity`](Self::try_with_capacity) or [`try_insert`](Self::try_insert).
     ///
-    /// # Errors
-    ///
-    /// Those of [`try_with_capacity`](IntSet::try_with_capacity) and
-    /// [`try_insert`](IntSet::try_insert).
-    ///
-    /// # Proved
-    ///
-    /// The proved `IntSet::from_iter` has the clauses `collects`, `runs` and `len`.
-    ///
-    /// # Examples
-    ///
-    /// ```
-    /// use intmap_proved::{Cause, IntSet};
-    ///
-    /// assert_eq!(IntSet::try_from_iter([21u64, 22])?.len(), 2);
-    /// # Ok::<(), Cause>(())
-    /// ```
+    /// Proved of `IntSet::from_iter`: `collects`, `runs`, `len`.
     pub fn try_from_iter<I: IntoIterator<Item = K>>(keys: I) -> Result<IntSet<K>, Cause> {
-        #[cfg(feature = "check")]
-        let (mut coming, keys) = Coming::into_new(keys.into_iter());
-        #[cfg(feature = "check")]
-        let keys = coming.watch(keys, |key| *key);
-        let set = Proved::from_iter(Global, keys.into_iter())?;
-        #[cfg(feature = "check")]
-        coming.joined(&Ok(()), set.map());
-        Ok(IntSet { set })
+        Ok(IntSet { set: Proved::from_iter(Global, keys.into_iter())? })
     }
 
-    /// The same as [`clone`](Clone::clone), but it returns a failure.
+    /// The same as [`clone`](Clone::clone), or [`Cause::Memory`] if an allocation fails.
     ///
-    /// # Errors
-    ///
-    /// [`Cause::Memory`] if an allocation fails.
-    ///
-    /// # Proved
-    ///
-    /// The proved `IntSet::clone` has the clauses `clone`, `len` and `memory`.
-    ///
-    /// # Examples
-    ///
-    /// ```
-    /// use intmap_proved::{Cause, IntSet};
-    ///
-    /// let set = IntSet::from([21u64]);
-    /// assert_eq!(set.try_clone()?, set);
-    /// # Ok::<(), Cause>(())
-    /// ```
+    /// Proved of `IntSet::clone`: `clone`, `len`, `memory`.
     pub fn try_clone(&self) -> Result<IntSet<K>, Cause> {
-        let set = self.set.clone()?;
-        #[cfg(feature = "check")]
-        check::copied("clone", self.set.map(), set.map());
-        Ok(IntSet { set })
+        Ok(IntSet { set: self.set.clone()? })
     }
 }

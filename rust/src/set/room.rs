@@ -1,19 +1,13 @@
-//! The capacity, room for a number of members, and memory that is given back.
-use super::{IntSet, Mending, mem};
+//! The capacity and the load factor, room for a number of members, and memory that is given back.
+use super::{IntSet, guarded};
 use crate::IntKey;
-#[cfg(feature = "check")]
-use crate::check::{self, List};
 use crate::refusal::{Cause, granted};
-use crate::room::{FIRST_FACTOR, LEAST_SLOTS, slots_for};
+use crate::room::{FIRST_FACTOR, LEAST_SLOTS, slots_for, thousandths_of};
 
 impl<K: IntKey> IntSet<K> {
     /// Returns the number of slots, a power of two. The cost is *O*(1).
     ///
-    /// # Proved
-    ///
-    /// The proved `IntSet::capacity` has the clause `value`.
-    ///
-    /// # Examples
+    /// Proved of `IntSet::capacity`: `value`.
     ///
     /// ```
     /// assert_eq!(intmap_proved::IntSet::from([21u64]).capacity(), 2);
@@ -24,71 +18,31 @@ impl<K: IntKey> IntSet<K> {
     }
 
     /// Returns an empty set with room for so many members, as
-    /// [`IntMap::with_room_for`](crate::IntMap::with_room_for) does for pairs.
-    ///
-    /// A failed allocation is handled as std does; [`try_with_room_for`](IntSet::try_with_room_for)
-    /// returns it. The cost is *O*(*c*).
-    ///
-    /// # Panics
-    ///
-    /// If more than 2^63 slots are needed.
-    ///
-    /// # Proved
-    ///
-    /// In part, as [`try_with_room_for`](IntSet::try_with_room_for).
-    ///
-    /// # Examples
+    /// [`IntMap::with_room_for`](crate::IntMap::with_room_for) does for pairs. The cost is
+    /// *O*(*c*). Where [`try_with_room_for`](Self::try_with_room_for) fails, this call panics or
+    /// ends the process.
     ///
     /// ```
     /// assert_eq!(intmap_proved::IntSet::<u64>::with_room_for(1000).capacity(), 2048);
     /// ```
     #[must_use]
     pub fn with_room_for(members: usize) -> IntSet<K> {
-        granted(IntSet::try_with_room_for(members))
+        granted(Self::try_with_room_for(members))
     }
 
-    /// The same as [`with_room_for`](IntSet::with_room_for), but it returns a failure.
+    /// The same as [`with_room_for`](Self::with_room_for), with the failures of
+    /// [`IntMap::try_with_room_for`](crate::IntMap::try_with_room_for).
     ///
-    /// # Errors
-    ///
-    /// [`Cause::TooLarge`] if more than 2^63 slots are needed, and otherwise [`Cause::Memory`] if an
-    /// allocation fails.
-    ///
-    /// # Proved
-    ///
-    /// In part: it is [`try_with_capacity`](IntSet::try_with_capacity), of a number of slots that
-    /// is computed by hand.
-    ///
-    /// # Examples
-    ///
-    /// ```
-    /// use intmap_proved::{Cause, IntSet};
-    ///
-    /// assert_eq!(IntSet::<u64>::try_with_room_for(3)?.capacity(), 4);
-    /// # Ok::<(), Cause>(())
-    /// ```
+    /// Proved in part: it is [`try_with_capacity`](IntSet::try_with_capacity), of a number of slots
+    /// that is computed by hand.
     pub fn try_with_room_for(members: usize) -> Result<IntSet<K>, Cause> {
-        let made = IntSet::try_with_capacity(slots_for(members, FIRST_FACTOR));
-        #[cfg(feature = "check")]
-        check::with_room_for(members, made.as_ref().map(|it: &IntSet<K>| it.set.map()));
-        made
+        Self::try_with_capacity(slots_for(members, FIRST_FACTOR))
     }
 
     /// Makes the capacity at least the number of members plus `additional`, as
-    /// [`IntMap::reserve`](crate::IntMap::reserve) does.
-    ///
-    /// A failed allocation is handled as std does; [`try_reserve`](IntSet::try_reserve) returns it.
-    /// The cost is *O*(*n* + *c*), or *O*(1) if the capacity stays.
-    ///
-    /// # Panics
-    ///
-    /// If the number of members plus `additional` is above 2^63.
-    ///
-    /// # Proved
-    ///
-    /// The contract of [`try_reserve`](IntSet::try_reserve).
-    ///
-    /// # Examples
+    /// [`IntMap::reserve`](crate::IntMap::reserve) does. The cost is *O*(*n* + *c*), or *O*(1) if
+    /// the capacity stays. Where [`try_reserve`](Self::try_reserve) fails, this call panics or ends
+    /// the process.
     ///
     /// ```
     /// let mut set = intmap_proved::IntSet::from([21u64]);
@@ -99,53 +53,20 @@ impl<K: IntKey> IntSet<K> {
         granted(self.try_reserve(additional))
     }
 
-    /// The same as [`reserve`](IntSet::reserve), but it returns a failure.
+    /// The same as [`reserve`](Self::reserve), or [`Cause::TooLarge`] if the number of members plus
+    /// `additional` is above 2^63, and otherwise [`Cause::Memory`] if an allocation fails. The set
+    /// then stays as it was.
     ///
-    /// # Errors
-    ///
-    /// [`Cause::TooLarge`] if the number of members plus `additional` is above 2^63, and otherwise
-    /// [`Cause::Memory`] if an allocation fails. The set stays as it was.
-    ///
-    /// # Proved
-    ///
-    /// The proved `IntSet::reserve` has the clauses `reserved`, `err`, `refused`, `updates` and
-    /// `len`.
-    ///
-    /// # Examples
-    ///
-    /// ```
-    /// use intmap_proved::{Cause, IntSet};
-    ///
-    /// let mut set = IntSet::from([21u64]);
-    /// assert_eq!(set.try_reserve(usize::MAX), Err(Cause::TooLarge));
-    /// ```
+    /// Proved of `IntSet::reserve`: `reserved`, `err`, `refused`, `updates`, `len`.
     pub fn try_reserve(&mut self, additional: usize) -> Result<(), Cause> {
-        #[cfg(feature = "check")]
-        let before = List::reserving(self.set.map(), additional);
-        let guard = Mending(&mut self.set);
-        let result = guard.0.reserve(additional);
-        mem::forget(guard);
-        #[cfg(feature = "check")]
-        check::reserve(before, additional, result, self.set.map());
-        result
+        guarded(&mut self.set, |set| set.reserve(additional))
     }
 
     /// Makes room for `additional` members more, as
-    /// [`IntMap::reserve_pairs`](crate::IntMap::reserve_pairs) does for pairs.
-    ///
-    /// A failed allocation is handled as std does;
-    /// [`try_reserve_members`](IntSet::try_reserve_members) returns it. The cost is *O*(*n* + *c*),
-    /// or *O*(1) if the capacity stays.
-    ///
-    /// # Panics
-    ///
-    /// If more than 2^63 slots are needed.
-    ///
-    /// # Proved
-    ///
-    /// In part, as [`try_reserve_members`](IntSet::try_reserve_members).
-    ///
-    /// # Examples
+    /// [`IntMap::reserve_pairs`](crate::IntMap::reserve_pairs) does for pairs. The cost is
+    /// *O*(*n* + *c*), or *O*(1) if the capacity stays. Where
+    /// [`try_reserve_members`](Self::try_reserve_members) fails, this call panics or ends the
+    /// process.
     ///
     /// ```
     /// let mut set = intmap_proved::IntSet::from([21u64]);
@@ -156,47 +77,91 @@ impl<K: IntKey> IntSet<K> {
         granted(self.try_reserve_members(additional))
     }
 
-    /// The same as [`reserve_members`](IntSet::reserve_members), but it returns a failure.
+    /// The same as [`reserve_members`](Self::reserve_members), with the failures of
+    /// [`IntMap::try_reserve_pairs`](crate::IntMap::try_reserve_pairs).
     ///
-    /// # Errors
+    /// Proved in part: it is [`try_reserve`](IntSet::try_reserve), if there are too few slots. How
+    /// many are enough is computed by hand.
+    pub fn try_reserve_members(&mut self, additional: usize) -> Result<(), Cause> {
+        let members = self.len().checked_add(additional).ok_or(Cause::TooLarge)?;
+        let slots = slots_for(members, self.load_factor_thousandths());
+        if slots <= self.capacity() {
+            return Ok(());
+        }
+        self.try_reserve(slots.saturating_sub(self.len()))
+    }
+
+    /// Returns the load factor, as [`IntMap::get_load_factor`](crate::IntMap::get_load_factor).
     ///
-    /// [`Cause::TooLarge`] if more than 2^63 slots are needed, and otherwise [`Cause::Memory`] if an
-    /// allocation fails. The set stays as it was.
-    ///
-    /// # Proved
-    ///
-    /// In part: it is [`try_reserve`](IntSet::try_reserve), of a number of slots that is computed
+    /// Proved in part: it is [`load_factor_thousandths`](IntSet::load_factor_thousandths), divided
     /// by hand.
     ///
-    /// # Examples
+    /// ```
+    /// assert_eq!(intmap_proved::IntSet::<u64>::new().get_load_factor(), 0.909);
+    /// ```
+    pub fn get_load_factor(&self) -> f32 {
+        self.load_factor_thousandths() as f32 / 1000.
+    }
+
+    /// Returns the load factor in thousandths. The cost is *O*(1).
+    ///
+    /// Proved in part: it is
+    /// [`IntMap::load_factor_thousandths`](crate::IntMap::load_factor_thousandths), on the map from
+    /// each member to `()`.
     ///
     /// ```
-    /// use intmap_proved::{Cause, IntSet};
-    ///
-    /// let mut set = IntSet::from([21u64]);
-    /// assert_eq!(set.try_reserve_members(usize::MAX), Err(Cause::TooLarge));
+    /// assert_eq!(intmap_proved::IntSet::<u64>::new().load_factor_thousandths(), 909);
     /// ```
-    pub fn try_reserve_members(&mut self, additional: usize) -> Result<(), Cause> {
-        #[cfg(feature = "check")]
-        let before = List::reserving_pairs(self.set.map(), additional);
-        let slots = self.len().checked_add(additional).map(|it| slots_for(it, FIRST_FACTOR));
-        let result = match slots {
-            Some(slots) => self.try_reserve(slots.saturating_sub(self.len())),
-            None => Err(Cause::TooLarge),
-        };
-        #[cfg(feature = "check")]
-        check::reserve_pairs(before, additional, result, self.set.map());
-        result
+    pub fn load_factor_thousandths(&self) -> usize {
+        self.set.load_factor_thousandths()
+    }
+
+    /// Sets the load factor, as [`IntMap::set_load_factor`](crate::IntMap::set_load_factor) does.
+    /// What is proved of a set's capacity is proved for 0.909; the code that considers another load
+    /// factor is the map's, where it is proved for all. Where
+    /// [`try_set_load_factor`](Self::try_set_load_factor) fails, this call panics or ends the
+    /// process.
+    ///
+    /// ```
+    /// let mut set = intmap_proved::IntSet::from([21u64, 22]);
+    /// set.set_load_factor(0.25);
+    /// assert_eq!((set.get_load_factor(), set.capacity()), (0.25, 8));
+    /// ```
+    #[track_caller]
+    pub fn set_load_factor(&mut self, load_factor: f32) {
+        granted(self.try_set_load_factor(load_factor))
+    }
+
+    /// The same as [`set_load_factor`](Self::set_load_factor), with the failures of
+    /// [`try_set_load_factor_thousandths`](Self::try_set_load_factor_thousandths).
+    #[track_caller]
+    pub fn try_set_load_factor(&mut self, load_factor: f32) -> Result<(), Cause> {
+        self.try_set_load_factor_thousandths(thousandths_of(load_factor))
+    }
+
+    /// Sets the load factor in whole thousandths, with the failures of
+    /// [`IntMap`'s](crate::IntMap::try_set_load_factor_thousandths).
+    ///
+    /// Proved in part: it is the map's, on the map from each member to `()`.
+    pub fn try_set_load_factor_thousandths(&mut self, thousandths: usize) -> Result<(), Cause> {
+        guarded(&mut self.set, |set| set.set_load_factor(thousandths))
+    }
+
+    /// Returns the number of slots that have a member. The cost is *O*(*c*), by 64 slots at a time.
+    ///
+    /// Proved in part: it is [`IntMap::load`](crate::IntMap::load), on the map from each member to
+    /// `()`.
+    ///
+    /// ```
+    /// assert_eq!(intmap_proved::IntSet::from([0u64, 4]).load(), 1);
+    /// ```
+    pub fn load(&self) -> u64 {
+        self.set.load()
     }
 
     /// Makes the capacity the least power of two in which the members meet the load factor, or
-    /// leaves it if it is that. Order and failures are those of [`shrink_to`](IntSet::shrink_to).
-    ///
-    /// # Proved
-    ///
-    /// In part, as [`try_shrink_to_fit`](IntSet::try_shrink_to_fit).
-    ///
-    /// # Examples
+    /// leaves it if it is that. Order, cost and failures are those of [`shrink_to`](Self::shrink_to),
+    /// and [`try_shrink_to_fit`](Self::try_shrink_to_fit) returns a failure.
     ///
     /// ```
     /// let mut set: intmap_proved::IntSet<u64> = (0..1000).collect();
@@ -208,43 +173,23 @@ impl<K: IntKey> IntSet<K> {
         granted(self.try_shrink_to_fit())
     }
 
-    /// The same as [`shrink_to_fit`](IntSet::shrink_to_fit), but it returns a failure.
-    ///
-    /// # Errors
-    ///
-    /// As for [`try_shrink_to`](IntSet::try_shrink_to).
-    ///
-    /// # Proved
-    ///
-    /// In part, as [`try_shrink_to`](IntSet::try_shrink_to).
-    ///
-    /// # Examples
-    ///
-    /// ```
-    /// let mut set = intmap_proved::IntSet::<u64>::with_capacity(1000);
-    /// assert_eq!((set.try_shrink_to_fit(), set.capacity()), (Ok(()), 2));
-    /// ```
+    /// The same as [`shrink_to_fit`](Self::shrink_to_fit), with the failure of
+    /// [`try_shrink_to`](Self::try_shrink_to).
     pub fn try_shrink_to_fit(&mut self) -> Result<(), Cause> {
         self.try_shrink_to(0)
     }
 
     /// Makes the capacity the least power of two that is at least `min_capacity` and in which the
-    /// members meet the load factor. A smaller capacity stays.
+    /// members meet the load factor. A smaller capacity stays. The cost is *O*(*n s* + *c*), or
+    /// *O*(1) if the capacity stays.
     ///
     /// The set then has the order of a new one of that capacity into which the members were inserted
-    /// in iteration order. For a while there are both sets. As in a map, the new slots are
-    /// [large](crate::IntMap#memory): half as many take twice the memory of small ones with keys of
-    /// 4 bytes. If the capacity stays, no memory is given back.
+    /// in iteration order. The load factor stays. For a while there are both sets. As in a map, the
+    /// new slots are [large](crate::IntMap#memory): half as many take twice the memory of small ones
+    /// with keys of 4 bytes. If the capacity stays, no memory is given back.
     ///
-    /// A failed allocation is handled as std does; [`try_shrink_to`](IntSet::try_shrink_to) returns
-    /// it. The cost is *O*(*n s* + *c*), or *O*(1) if the capacity stays. If a key's `number`
-    /// panics, the set stays as it was.
-    ///
-    /// # Proved
-    ///
-    /// In part, as [`try_shrink_to`](IntSet::try_shrink_to).
-    ///
-    /// # Examples
+    /// Where [`try_shrink_to`](Self::try_shrink_to) fails, this call ends the process. If a key's
+    /// `number` panics, the set stays as it was.
     ///
     /// ```
     /// let mut set = intmap_proved::IntSet::<u64>::with_capacity(1000);
@@ -255,39 +200,21 @@ impl<K: IntKey> IntSet<K> {
         granted(self.try_shrink_to(min_capacity))
     }
 
-    /// The same as [`shrink_to`](IntSet::shrink_to), but it returns a failure.
+    /// The same as [`shrink_to`](Self::shrink_to), or [`Cause::Memory`] if an allocation fails. The
+    /// set then stays as it was.
     ///
-    /// # Errors
-    ///
-    /// [`Cause::Memory`] if an allocation fails. The set stays as it was.
-    ///
-    /// # Proved
-    ///
-    /// In part: the members are copied by [`iter`](IntSet::iter) and
+    /// Proved in part: the members are copied by [`iter`](IntSet::iter) and
     /// [`try_extend`](IntSet::try_extend) to a set that
     /// [`try_with_capacity`](IntSet::try_with_capacity) makes. The number of slots is computed by
     /// hand.
-    ///
-    /// # Examples
-    ///
-    /// ```
-    /// let mut set = intmap_proved::IntSet::<u64>::with_capacity(1000);
-    /// assert_eq!((set.try_shrink_to(20), set.capacity()), (Ok(()), 32));
-    /// ```
     pub fn try_shrink_to(&mut self, min_capacity: usize) -> Result<(), Cause> {
-        #[cfg(feature = "check")]
-        let before = List::of(self.set.map());
-        let slots = slots_for(self.len(), FIRST_FACTOR).max(min_capacity).max(LEAST_SLOTS);
-        let is_least = slots > self.capacity() / 2;
-        let result = if is_least { Ok(()) } else { self.copy_to(IntSet::try_with_capacity(slots)) };
-        #[cfg(feature = "check")]
-        check::shrink_to(before, min_capacity, result, self.set.map());
-        result
-    }
-
-    /// Copies the members to a new set, which takes the place of this one.
-    fn copy_to(&mut self, made: Result<IntSet<K>, Cause>) -> Result<(), Cause> {
-        let mut small = made?;
+        let factor = self.load_factor_thousandths();
+        let slots = slots_for(self.len(), factor).max(min_capacity).max(LEAST_SLOTS);
+        if slots > self.capacity() / 2 {
+            return Ok(());
+        }
+        let mut small = Self::try_with_capacity(slots)?;
+        small.try_set_load_factor_thousandths(factor)?;
         small.try_extend(self.iter().copied())?;
         *self = small;
         Ok(())

@@ -1,8 +1,6 @@
 //! What a set is to other code: defaults, clones, equality, text, and collecting.
 use super::IntSet;
 use crate::IntKey;
-#[cfg(feature = "check")]
-use crate::check;
 use crate::refusal::granted;
 use core::fmt::{self, Debug, Formatter};
 
@@ -17,8 +15,8 @@ impl<K: IntKey> Default for IntSet<K> {
     }
 }
 
-/// The same members in the same order, with the same capacity. [`IntSet::try_clone`] returns a
-/// failure. The cost is *O*(*n* + *c*). `clone_from` of a set with as many slots keeps the slots and
+/// The same members in the same order, with the same capacity and load factor.
+/// [`IntSet::try_clone`] returns a failure. The cost is *O*(*n* + *c*). `clone_from` of a set with as many slots keeps the slots and
 /// their memory.
 ///
 /// ```
@@ -36,23 +34,19 @@ impl<K: IntKey> Clone for IntSet<K> {
             return;
         }
         self.clear();
+        granted(self.try_set_load_factor_thousandths(source.load_factor_thousandths()));
         self.extend(source);
-        #[cfg(feature = "check")]
-        check::copied("clone_from", source.set.map(), self.set.map());
     }
 }
 
 /// Whether both sets have the same members. Order and capacity don't matter.
 ///
 /// ```
-/// use intmap_proved::IntSet;
-///
+/// # use intmap_proved::IntSet;
 /// assert_eq!(IntSet::from([0u64, 4]), IntSet::from([4, 0]));
 /// ```
 impl<K: IntKey> PartialEq for IntSet<K> {
     fn eq(&self, other: &IntSet<K>) -> bool {
-        #[cfg(feature = "check")]
-        check::several::equal(self.set.map(), other.set.map(), self.set == other.set);
         self.set == other.set
     }
 }
@@ -86,8 +80,7 @@ impl<K: IntKey> Extend<K> for IntSet<K> {
 /// Inserts a copy of each key, such as those of another set, as `extend` by keys does.
 ///
 /// ```
-/// use intmap_proved::IntSet;
-///
+/// # use intmap_proved::IntSet;
 /// let mut set = IntSet::from([21u64]);
 /// set.extend(&IntSet::from([22]));
 /// assert_eq!(set.len(), 2);

@@ -1,5 +1,6 @@
 //! Slots, load factors, and the numbers that a map tells of itself.
-use intmap_proved::{Cause, IntMap};
+use intmap_proved::{Cause, IntMap, IntSet};
+use std::panic::catch_unwind;
 
 #[test]
 fn a_new_map_has_four_slots_and_a_given_capacity_is_rounded_up() {
@@ -42,18 +43,26 @@ fn a_load_factor_of_zero_takes_the_most_slots_that_it_asks_for() {
 #[test]
 fn a_load_factor_is_cut_to_thousandths() {
     let mut map = IntMap::<u64, ()>::new();
-    for (factor, thousandths) in [
-        (0.9, 900),
-        (0.9999, 999),
-        (0.0019, 1),
-        (1.2345, 1234),
-        (-1.0, 0),
-        (f32::NAN, 0),
-        (f32::INFINITY, usize::MAX),
-        (f32::MAX, usize::MAX),
-    ] {
+    for (factor, thousandths) in
+        [(0.9, 900), (0.9999, 999), (0.0019, 1), (1.2345, 1234), (9.9999, 9999), (-1.0, 0)]
+    {
         map.set_load_factor(factor);
         assert_eq!(map.load_factor_thousandths(), thousandths, "of {factor}");
+    }
+}
+
+#[test]
+fn a_debug_build_tells_a_percentage_and_what_is_no_number() {
+    let unlikely = [(10.0, 10_000), (90.9, 90_900), (f32::INFINITY, usize::MAX), (f32::NAN, 0)];
+    for (factor, thousandths) in unlikely {
+        let set = catch_unwind(|| {
+            let (mut map, mut set) = (IntMap::<u64, ()>::new(), IntSet::<u64>::new());
+            map.set_load_factor(factor);
+            set.set_load_factor(factor);
+            (map.load_factor_thousandths(), set.load_factor_thousandths())
+        });
+        let due = (thousandths, thousandths);
+        assert_eq!(set.ok(), (!cfg!(debug_assertions)).then_some(due), "of {factor}");
     }
 }
 
@@ -91,7 +100,7 @@ fn too_many_slots_end_the_call() {
 #[test]
 fn keys_that_share_slots_are_counted() {
     let mut map = IntMap::with_capacity(8);
-    map.set_load_factor(100.0);
+    map.set_load_factor(9.0);
     map.extend([0_u64, 1, 2, 8, 9, 16, 5].map(|key| (key, ())));
     assert_eq!((map.len(), map.load(), map.load_rate()), (7, 4, 87.5));
     assert_eq!(map.collisions(), IntMap::from([(2, 1), (3, 1)]), "of {map:?}");

@@ -35,7 +35,7 @@ fn forms() -> [Map; 3] {
 /// Keys that all share the first of two slots.
 fn crowded() -> Map {
     let mut map = Map::with_capacity(2);
-    map.set_load_factor(1000.0);
+    map.try_set_load_factor_thousandths(1_000_000).expect("an empty map meets it");
     map.extend((0..7).map(|key| (Key(key * 2), key)));
     assert_eq!((map.capacity(), map.load()), (2, 1), "all share a slot");
     map

@@ -1,5 +1,5 @@
 //! What iterators say of themselves, and how they end.
-use intmap_proved::{IntMap, IntSet, original};
+use intmap_proved::{IntMap, IntSet, iter, set};
 use std::iter::FusedIterator;
 
 fn three() -> IntMap<u64, char> {
@@ -49,26 +49,26 @@ fn a_map_that_is_collected_again_has_slots_for_the_length_that_was_said() {
 }
 
 #[test]
-fn a_map_of_the_original_that_is_collected_again_grows_as_its_pairs_come() {
-    let mut large = original::IntMap::with_capacity(1000);
-    large.extend((0..9).map(|key| (key, key)));
-    let again = |map: original::IntMap<u64>| (map.len(), map.capacity());
-    assert_eq!(again(large.clone().into_iter().collect()), (9, 8), "by value");
-    assert_eq!(again(large.iter().map(|(key, value)| (*key, *value)).collect()), (9, 8), "iter");
-    assert_eq!(again(large.iter_mut().map(|(key, value)| (*key, *value)).collect()), (9, 8));
-    let mut rest = large.clone().into_iter();
-    assert!(rest.next().is_some());
-    assert_eq!(again(rest.collect()), (8, 8), "behind the first pair");
-    assert_eq!(again(large.drain().collect()), (9, 8), "drain");
-}
-
-#[test]
-fn a_map_of_the_original_becomes_another_one_and_back() {
-    let map = original::IntMap::from([(4, 'a'), (8, 'b')]);
-    let inner: &IntMap<u64, char> = &map;
-    assert_eq!(inner.iter().len(), 2);
-    let map = original::IntMap::from(IntMap::from(map));
-    assert_eq!((map[4], map.get(8), map.get(9)), ('a', Some(&'b'), None));
+fn a_default_iterator_has_no_items() {
+    fn is_empty<I: ExactSizeIterator + FusedIterator + Default + std::fmt::Debug>(name: &str) {
+        let mut items = I::default();
+        let text = format!("{items:?}");
+        assert!(text == "[]" || text.ends_with("{ left: 0 }"), "{name}: {text}");
+        assert_eq!((items.len(), items.next().is_none()), (0, true), "{name}");
+        assert!(items.next().is_none() && items.len() == 0, "{name} stays at its end");
+        assert!(I::default().next().is_none(), "{name}");
+    }
+    is_empty::<iter::Iter<'_, u64, String>>("iter");
+    is_empty::<iter::IterMut<'_, u64, String>>("iter_mut");
+    is_empty::<iter::Keys<'_, u64, String>>("keys");
+    is_empty::<iter::Values<'_, u64, String>>("values");
+    is_empty::<iter::ValuesMut<'_, u64, String>>("values_mut");
+    is_empty::<iter::IntoIter<u64, String>>("into_iter");
+    is_empty::<iter::IntoKeys<u64, String>>("into_keys");
+    is_empty::<iter::IntoValues<u64, String>>("into_values");
+    is_empty::<set::Iter<'_, u64>>("iter of a set");
+    is_empty::<set::IntoIter<u64>>("into_iter of a set");
+    assert!(iter::Iter::<u64, String>::default().clone().next().is_none());
 }
 
 #[test]

@@ -1,13 +1,14 @@
 //! Each type of keys beside std's maps and sets, and a type of the program's own.
 use crate::random::Random;
-use intmap_proved::{IntKey, IntMap, IntSet, int_key, scramble};
+use intmap_proved::{IntKey, IntMap, IntSet, check_keys, int_key, scramble};
+use std::cell::Cell;
 use std::collections::{HashMap, HashSet};
 use std::fmt::Debug;
 use std::hash::Hash;
 use std::net::Ipv4Addr;
 use std::num::{
     NonZeroI8, NonZeroI16, NonZeroI32, NonZeroI64, NonZeroIsize, NonZeroU8, NonZeroU16, NonZeroU32,
-    NonZeroU64, NonZeroUsize, Wrapping,
+    NonZeroU64, NonZeroUsize, Saturating, Wrapping,
 };
 
 const CALLS: u64 = 20_000;
@@ -75,6 +76,7 @@ macro_rules! beside_std {
     ($($key:ty)*) => { $(
         beside_std::<$key>(stringify!($key), |bits| bits as $key);
         beside_std::<Wrapping<$key>>(stringify!(Wrapping<$key>), |bits| Wrapping(bits as $key));
+        beside_std::<Saturating<$key>>(stringify!(Saturating<$key>), |bits| Saturating(bits as $key));
     )* };
 }
 
@@ -220,6 +222,67 @@ fn the_ends_of_each_type_are_keys() {
         )* };
     }
     ends!(u8 u16 u32 u64 usize i8 i16 i32 i64 isize);
+}
+
+/// A struct of a program, which names no bound of its keys.
+struct Stock<K, V> {
+    amounts: IntMap<K, V>,
+    sold_out: IntSet<K>,
+}
+
+#[test]
+fn a_struct_has_a_map_without_a_bound() {
+    let stock = Stock { amounts: IntMap::from([(21_u64, 7)]), sold_out: IntSet::from([22]) };
+    let kept: Option<Stock<u64, u32>> = Some(stock).filter(|it| !it.amounts.is_empty());
+    assert!(kept.is_some_and(|it| it.sold_out.contains(22)));
+}
+
+/// Keys whose numbers and whose `==` a function makes of two numbers.
+#[derive(Clone, Copy, Debug)]
+struct Made {
+    one: u64,
+    other: u64,
+    number: fn(&Made) -> u64,
+    same: fn(&Made, &Made) -> bool,
+}
+
+impl PartialEq for Made {
+    fn eq(&self, other: &Made) -> bool {
+        (self.same)(self, other)
+    }
+}
+
+impl Eq for Made {}
+
+impl IntKey for Made {
+    fn number(&self) -> u64 {
+        (self.number)(self)
+    }
+}
+
+thread_local!(static READS: Cell<u64> = const { Cell::new(0) });
+
+/// The two keys that break a rule, of some that these functions make, each by its two numbers.
+fn broken(
+    number: fn(&Made) -> u64,
+    same: fn(&Made, &Made) -> bool,
+) -> Option<((u64, u64), (u64, u64))> {
+    let numbers = (0..9).flat_map(|one| (0..9).map(move |other| (one, other)));
+    let keys: Vec<Made> = numbers.map(|(one, other)| Made { one, other, number, same }).collect();
+    let pair = |key: Made| (key.one, key.other);
+    check_keys(&keys).err().map(|(first, second)| (pair(first), pair(second)))
+}
+
+#[test]
+fn keys_that_break_a_rule_are_told() {
+    let same = |one: &Made, other: &Made| (one.one, one.other) == (other.one, other.other);
+    let number = |key: &Made| key.one * 9 + key.other;
+    let changing = |_: &Made| READS.replace(READS.get() + 1);
+    assert_eq!(broken(number, same), None);
+    assert_eq!(broken(|key| key.one * 8 + key.other, same), Some(((0, 8), (1, 0))), "shared");
+    assert_eq!(broken(number, |one, two| one.other == two.other), Some(((0, 0), (1, 0))), "equal");
+    assert_eq!(broken(number, |_, _| false), Some(((0, 0), (0, 0))), "not equal to itself");
+    assert_eq!(broken(changing, same), Some(((0, 0), (0, 0))), "a number that changes");
 }
 
 /// A place on a board, which is 1000 places wide.

@@ -8,7 +8,7 @@ use std::rc::Rc;
 /// Pairs in a map of 2 slots, whose keys all share the first slot.
 fn crowded(keys: u64) -> IntMap<u64, u64> {
     let mut map = IntMap::with_capacity(2);
-    map.set_load_factor(1000.0);
+    map.try_set_load_factor_thousandths(1_000_000).expect("an empty map meets it");
     map.extend((0..keys).map(|key| (key * 2, key)));
     assert_eq!(map.capacity(), 2, "{keys} keys share a slot");
     map

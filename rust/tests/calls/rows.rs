@@ -73,6 +73,10 @@ fn get_mut(map: &mut IntMap<u64>, key: u64, value: u64) -> String {
 }
 
 fn set_load_factor(map: &mut IntMap<u64>, thousandths: u64) -> String {
+    // a debug build takes the next one for a percentage
+    if thousandths >= 10_000 {
+        return done_of(map.try_set_load_factor_thousandths(thousandths as usize));
+    }
     // the half is cut off again, whichever way the division was rounded
     let factor = (thousandths as f64 + 0.5) / 1000.0;
     done_of(map.try_set_load_factor(factor as f32))

@@ -111,6 +111,34 @@ fn sets_are_combined_by_operators() {
         ];
         for (name, set, plain) in combined {
             assert_eq!(sorted(set.iter()), sorted(plain.iter()), "{one:?} {name} {other:?}");
+            let mut changed = one.clone();
+            match name {
+                "|" => changed |= &other,
+                "&" => changed &= &other,
+                "-" => changed -= &other,
+                _ => changed ^= &other,
+            }
+            assert_eq!(changed, set, "{one:?} {name}= {other:?}");
+        }
+    }
+}
+
+#[test]
+fn members_that_an_operator_leaves_keep_their_order() {
+    let mut random = Random(10);
+    for _ in 0..300 {
+        let (one, _) = random_sets(&mut random, 60);
+        let (other, _) = random_sets(&mut random, 60);
+        let kept = |has: bool| -> Vec<i64> {
+            one.iter().copied().filter(|key| other.contains(*key) == has).collect()
+        };
+        let mut common = one.clone();
+        common &= &other;
+        assert_eq!(Vec::from_iter(common), kept(true), "{one:?} &= {other:?}");
+        if other.len() >= one.len() {
+            let mut rest = one.clone();
+            rest -= &other;
+            assert_eq!(Vec::from_iter(rest), kept(false), "{one:?} -= {other:?}");
         }
     }
 }

@@ -182,6 +182,7 @@ calls! { ON_ALL: [Call<Map>], |map, list, key|
     "IntMap::try_shrink_to_fit" = map.try_shrink_to_fit(), list.shrink_to(0, store);
     "IntMap::clear" = map.clear(), list.pairs.clear();
     "IntMap::retain" = map.retain(|key, it| (key.0 ^ it) % 3 > 0), list.pairs.retain(|it| (it.0 ^ it.1) % 3 > 0);
+    "IntMap::retain_mut" = map.retain_mut(|key, it| more(it) % 3 > key.0 % 3), _ = list.extract(usize::MAX, |key, it| more(it) % 3 <= key % 3);
     "IntMap::retain, none" = map.retain(|_, _| false), list.pairs.clear();
     "IntMap::extract_if" = all(map.extract_if(|key, it| more(it) % 3 == key.0 % 3)), list.extract(usize::MAX, |key, it| more(it) % 3 == key % 3);
     "IntMap::extract_if, two" = all(map.extract_if(|key, it| more(it) % 3 == key.0 % 3).take(2)), list.extract(2, |key, it| more(it) % 3 == key % 3);
@@ -236,6 +237,12 @@ calls! { SET_ON_ALL: [Call<Set>], |set, list, key|
     "IntSet::len" = set.len(), list.pairs.len();
     "IntSet::is_empty" = set.is_empty(), list.pairs.is_empty();
     "IntSet::capacity" = set.capacity(), list.slots;
+    "IntSet::load" = set.load(), list.load();
+    "IntSet::get_load_factor" = set.get_load_factor(), list.factor as f32 / 1000.;
+    "IntSet::load_factor_thousandths" = set.load_factor_thousandths(), list.factor;
+    "IntSet::set_load_factor" = set.set_load_factor(factor_of_floats(key)), list.meet(factor(key));
+    "IntSet::try_set_load_factor" = set.try_set_load_factor(factor_of_floats(key)), list.meet(factor(key));
+    "IntSet::try_set_load_factor_thousandths" = set.try_set_load_factor_thousandths(30 + size(key)), list.meet(30 + size(key));
     "IntSet::reserve" = set.reserve(size(key)), list.reserve(size(key));
     "IntSet::try_reserve" = set.try_reserve(9 * size(key)), list.reserve(9 * size(key));
     "IntSet::reserve_members" = set.reserve_members(size(key)), list.reserve_pairs(size(key));

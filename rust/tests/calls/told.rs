@@ -45,7 +45,8 @@ impl Shows for Map {
 
 impl Shows for Set {
     fn shown(&self) -> (Vec<(u64, u64)>, usize, usize) {
-        (self.iter().map(|key| (key.0, 0)).collect(), self.capacity(), 909)
+        let members = self.iter().map(|key| (key.0, 0));
+        (members.collect(), self.capacity(), self.load_factor_thousandths())
     }
 }
 

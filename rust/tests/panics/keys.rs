@@ -152,6 +152,7 @@ const SET_CALLS: &[(&str, SetCall)] = &[
     ("remove", |set| assert!(set.remove(Key(64)))),
     ("extend and grow", |set| set.extend((0..30).map(|key| Key(key * 5)))),
     ("reserve", |set| set.reserve(1000)),
+    ("set_load_factor", |set| set.set_load_factor(0.1)),
     ("retain", |set| set.retain(|key| key.number() == key.0)),
 ];
 

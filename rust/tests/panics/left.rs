@@ -49,6 +49,20 @@ const CALLS: &[Row] = &[
         },
     ),
     (
+        "retain_mut",
+        |map| {
+            map.retain_mut(|_, value| {
+                burn();
+                *value += 2;
+                !is_even(*value)
+            });
+        },
+        |before, others| {
+            let stay = before.into_iter().filter(|it| !is_even(it.1));
+            stay.map(|(key, value)| (key, value + 2)).chain(others).collect()
+        },
+    ),
+    (
         "drain",
         |map| map.drain().for_each(|_| burn()),
         |_, others| others.into_iter().skip(1).collect(),

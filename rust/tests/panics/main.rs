@@ -9,8 +9,6 @@ mod fuse;
 mod keys;
 mod keys_anywhere;
 mod left;
-// a check finds the lies
-#[cfg(not(feature = "check"))]
 mod lying_keys;
 #[path = "../shared/random.rs"]
 mod random;

@@ -18,11 +18,6 @@ thread_local! {
     static BYTES: Cell<isize> = const { Cell::new(0) };
 }
 
-/// Whether a request is the check's of a call, which none of these tests is about.
-fn is_of_check(layout: &Layout) -> bool {
-    cfg!(feature = "check") && layout.align() == 16
-}
-
 fn fails(size: usize) -> bool {
     REQUESTS.set(REQUESTS.get() + 1);
     let left = LEFT.get();
@@ -47,9 +42,6 @@ fn counted(block: *mut u8, before: usize, after: usize) -> *mut u8 {
 // failed.
 unsafe impl GlobalAlloc for Failing {
     unsafe fn alloc(&self, layout: Layout) -> *mut u8 {
-        if is_of_check(&layout) {
-            return unsafe { System.alloc(layout) };
-        }
         if fails(layout.size()) {
             return null_mut();
         }
@@ -57,16 +49,11 @@ unsafe impl GlobalAlloc for Failing {
     }
 
     unsafe fn dealloc(&self, block: *mut u8, layout: Layout) {
-        if !is_of_check(&layout) {
-            counted(block, layout.size(), 0);
-        }
+        counted(block, layout.size(), 0);
         unsafe { System.dealloc(block, layout) }
     }
 
     unsafe fn realloc(&self, block: *mut u8, layout: Layout, size: usize) -> *mut u8 {
-        if is_of_check(&layout) {
-            return unsafe { System.realloc(block, layout, size) };
-        }
         if fails(size) {
             return null_mut();
         }

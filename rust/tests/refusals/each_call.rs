@@ -230,6 +230,8 @@ const SET_CALLS: &[(&str, u64, SetCall)] = &[
     ("extend", 1, |set| Ok(set.try_extend([9])?)),
     ("reserve", 3, |set| set.try_reserve(100)),
     ("reserve_members", 3, |set| set.try_reserve_members(100)),
+    ("set_load_factor", 3, |set| set.try_set_load_factor(0.1)),
+    ("set_load_factor as before", 0, |set| set.try_set_load_factor(0.909)),
     ("with_room_for", 2, |_| IntSet::<u64>::try_with_room_for(100).map(drop)),
     ("shrink_to_fit as before", 0, |set| set.try_shrink_to_fit()),
     ("clone", 2, |set| set.try_clone().map(drop)),

@@ -11,7 +11,7 @@ use crate::proved::table::IntKey;
 use crate::memory::alloc::{Allocator, Global};
 
 /// A map with a key that was looked up in it, made by [`IntMap::entry`].
-pub enum Entry<'a, K: IntKey, V, A: Allocator + Copy = Global> {
+pub enum Entry<'a, K, V, A: Allocator + Copy = Global> {
     /// The key is present.
     Occupied(OccupiedEntry<'a, K, V, A>),
     /// The key is absent.
@@ -19,14 +19,14 @@ pub enum Entry<'a, K: IntKey, V, A: Allocator + Copy = Global> {
 }
 
 /// A map with a key that is present in it.
-pub struct OccupiedEntry<'a, K: IntKey, V, A: Allocator + Copy = Global> {
+pub struct OccupiedEntry<'a, K, V, A: Allocator + Copy = Global> {
     map: &'a mut IntMap<K, V, A>,
     slot: usize,
     place: usize,
 }
 
 /// A map with a key that is absent from it.
-pub struct VacantEntry<'a, K: IntKey, V, A: Allocator + Copy = Global> {
+pub struct VacantEntry<'a, K, V, A: Allocator + Copy = Global> {
     map: &'a mut IntMap<K, V, A>,
     key: K,
     slot: usize,

@@ -30,7 +30,7 @@ use crate::memory::alloc::{Allocator, Global};
 /// load factor in thousandths, and two counts. One counts the pairs that insertions put into larger
 /// tables, the other the keys that calls by `&mut` compared. Only contracts see the counts: they
 /// take no memory.
-pub struct IntMap<K: IntKey, V, A: Allocator + Copy = Global> {
+pub struct IntMap<K, V, A: Allocator + Copy = Global> {
     table: Table<K, Kept<V>, A>,
     len: usize,
     threshold: usize,

@@ -26,7 +26,7 @@ use crate::memory::alloc::{Allocator, Global};
 /// counts. One counts the members that insertions put into larger tables, the other the keys that
 /// calls by `&mut` compared. Only contracts see the counts: they take no memory. The load factor of
 /// every set is `load_factor`, 909 thousandths. Whether a key is a member is `holds` of the walk.
-pub struct IntSet<K: IntKey, A: Allocator + Copy = Global> {
+pub struct IntSet<K, A: Allocator + Copy = Global> {
     map: IntMap<K, (), A>,
 }
 

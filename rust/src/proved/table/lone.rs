@@ -11,7 +11,7 @@ use crate::memory::alloc::{AllocError, Allocator};
 use core::mem;
 
 /// A place for one pair.
-pub(in crate::proved::table) struct Lone<K: IntKey, X> {
+pub(in crate::proved::table) struct Lone<K, X> {
     pair: Option<(Stored<K>, X)>,
 }
 

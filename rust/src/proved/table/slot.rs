@@ -11,7 +11,7 @@ use crate::proved::table::table::stored::Stored;
 use crate::memory::alloc::{AllocError, Allocator};
 
 /// Pairs in order, with room for further ones. A single pair needs no allocation.
-pub(in crate::proved::table) struct Slot<K: IntKey, X, A: Allocator> {
+pub(in crate::proved::table) struct Slot<K, X, A: Allocator> {
     first: Option<(Stored<K>, X)>,
     rest: Vec<(Stored<K>, X), A>,
 }

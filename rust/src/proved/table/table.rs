@@ -41,7 +41,7 @@ fn index_of<K: IntKey>(key: &K, slots: usize) -> usize {
 }
 
 /// Slots, whose number is a power of two. Each pair lies in the slot of its key.
-pub struct Table<K: IntKey, X, A: Allocator> {
+pub struct Table<K, X, A: Allocator> {
     slots: Slots<K, X, A>,
 }
 

@@ -42,13 +42,6 @@ impl<K: IntKey, V, A: Allocator + Copy> OccupiedEntry<'_, K, V, A> {
     }
 }
 
-#[cfg(feature = "check")]
-impl<'a, K: IntKey, V, A: Allocator + Copy> OccupiedEntry<'a, K, V, A> {
-    /// The map, and where the pair of the entry lies.
-    pub fn parted(self) -> (&'a mut IntMap<K, V, A>, Place) {
-        (self.map, Place { slot: self.slot, place: self.place })
-    }
-}
 
 impl<'a, K: IntKey, V, A: Allocator + Copy> VacantEntry<'a, K, V, A> {
     /// The map, the key that is absent, and its slot.

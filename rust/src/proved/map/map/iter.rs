@@ -22,7 +22,7 @@ pub use written::IterMut;
 
 /// The pairs of a map by reference, made by [`IntMap::iter`](crate::proved::map::IntMap::iter). Contracts see
 /// it as the list of the pairs that are left.
-pub struct Iter<'a, K: IntKey, V, A: Allocator + Copy = Global> {
+pub struct Iter<'a, K, V, A: Allocator + Copy = Global> {
     pub(in crate::proved::map) pairs: Pairs<'a, K, Kept<V>, A>,
 }
 
@@ -38,7 +38,7 @@ impl<'a, K: IntKey, V, A: Allocator + Copy> Iterator for Iter<'a, K, V, A> {
 
 /// The keys of a map by reference, made by [`IntMap::keys`](crate::proved::map::IntMap::keys). Contracts see it
 /// as the list of the keys that are left.
-pub struct Keys<'a, K: IntKey, V, A: Allocator + Copy = Global> {
+pub struct Keys<'a, K, V, A: Allocator + Copy = Global> {
     pub(in crate::proved::map) pairs: Iter<'a, K, V, A>,
 }
 
@@ -58,7 +58,7 @@ impl<'a, K: IntKey, V, A: Allocator + Copy> Iterator for Keys<'a, K, V, A> {
 
 /// The values of a map by reference, made by [`IntMap::values`](crate::proved::map::IntMap::values). Contracts
 /// see it as the list of the values that are left.
-pub struct Values<'a, K: IntKey, V, A: Allocator + Copy = Global> {
+pub struct Values<'a, K, V, A: Allocator + Copy = Global> {
     pub(in crate::proved::map) pairs: Iter<'a, K, V, A>,
 }
 

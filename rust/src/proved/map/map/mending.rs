@@ -10,10 +10,3 @@ impl<K: IntKey, V, A: Allocator + Copy> IntMap<K, V, A> {
     }
 }
 
-#[cfg(feature = "check")]
-impl<K: IntKey, V, A: Allocator + Copy> super::iter::Drain<'_, K, V, A> {
-    /// The map, as the steps so far left it.
-    pub fn source(&self) -> &IntMap<K, V, A> {
-        self.map
-    }
-}

@@ -2,8 +2,6 @@
 use super::IntSet;
 use crate::memory::alloc::Allocator;
 use crate::proved::map::IntKey;
-#[cfg(feature = "check")]
-use crate::proved::map::IntMap;
 
 impl<K: IntKey, A: Allocator + Copy> IntSet<K, A> {
     /// Makes a set whole again after a panic of a closure or of a key's `number`.
@@ -12,15 +10,3 @@ impl<K: IntKey, A: Allocator + Copy> IntSet<K, A> {
     }
 }
 
-#[cfg(feature = "check")]
-impl<K: IntKey, A: Allocator + Copy> IntSet<K, A> {
-    /// The map from each member to `()`.
-    pub fn map(&self) -> &IntMap<K, (), A> {
-        &self.map
-    }
-
-    /// A step of a `drain`: it has the set elsewhere, so that the set can be read between two steps.
-    pub fn drain_step(&mut self, from: &mut usize) -> Option<K> {
-        self.take_front(from)
-    }
-}

@@ -1,7 +1,7 @@
-//! A member as the set has it, and the removal of members that a closure picks, one by one.
+//! A member as the set has it, the removal of members that a closure picks, and the load factor.
 use super::IntSet;
 use crate::memory::alloc::Allocator;
-use crate::proved::map::IntKey;
+use crate::proved::map::{Cause, IntKey};
 use crate::proved::table::table::Progress;
 
 impl<K: IntKey, A: Allocator + Copy> IntSet<K, A> {
@@ -20,5 +20,20 @@ impl<K: IntKey, A: Allocator + Copy> IntSet<K, A> {
     ) -> Option<K> {
         let (member, ()) = self.map.extract_step(at, &mut |key, _| test(key))?;
         Some(member)
+    }
+
+    /// The number of slots that have a member.
+    pub fn load(&self) -> u64 {
+        self.map.load()
+    }
+
+    /// The load factor in thousandths.
+    pub fn load_factor_thousandths(&self) -> usize {
+        self.map.get_load_factor()
+    }
+
+    /// Sets the load factor in thousandths. It fails as that of a map.
+    pub fn set_load_factor(&mut self, thousandths: usize) -> Result<(), Cause> {
+        self.map.set_load_factor(thousandths)
     }
 }

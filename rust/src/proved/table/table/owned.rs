@@ -10,7 +10,7 @@ use crate::memory::vec::IntoIter;
 /// The pairs of a table by value, in the order of the walk. Contracts see it as the list of the pairs
 /// that are left: those of the slot at hand, which were taken out of the table together, and those
 /// that are still in it. So a step takes the same time however many pairs share the slot.
-pub struct IntoPairs<K: IntKey, X, A: Allocator + Copy> {
+pub struct IntoPairs<K, X, A: Allocator + Copy> {
     rest: IntoIter<(Stored<K>, X), A>,
     table: Table<K, X, A>,
     from: usize,

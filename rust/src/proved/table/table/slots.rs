@@ -37,7 +37,7 @@ struct Directory<A: Allocator> {
 
 /// Slots, and one bit for each, which says whether it holds a pair. While none holds two, they may
 /// be lone. Otherwise they are shared.
-pub(in crate::proved::table) struct Slots<K: IntKey, X, A: Allocator> {
+pub(in crate::proved::table) struct Slots<K, X, A: Allocator> {
     directory: Directory<A>,
     lone: Vec<Lone<K, X>, A>,
     shared: Vec<Slot<K, X, A>, A>,

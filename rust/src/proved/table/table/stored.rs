@@ -7,7 +7,7 @@ use crate::proved::table::steps::Steps;
 /// A stored key. It has no `==`, and its field is private: [`Stored::matches`] returns whether it
 /// is the sought key, and counts one step. [`Stored::key`] is for walks and closures, which hand
 /// keys out, and for the numbers of slots. A search of a slot can't call it.
-pub struct Stored<K: IntKey> {
+pub struct Stored<K> {
     key: K,
 }
 

@@ -1,9 +1,14 @@
 //! The pairs of a table, slot after slot, each with a mutable reference to its value.
 pub use super::slots::written::{PairsMut, PlacesMut};
 
-use super::Table;
-use crate::memory::alloc::Allocator;
+use super::{Slots, Table};
+use crate::memory::alloc::{Allocator, Global};
 use crate::proved::table::IntKey;
+
+impl<K: IntKey, X> Table<K, X, Global> {
+    /// No slots, for iterators without items. It has no slot for a key.
+    pub const NONE: Self = Table { slots: Slots::NONE };
+}
 
 impl<K: IntKey, X, A: Allocator> Table<K, X, A> {
     /// The pairs, slot after slot, each with a mutable reference to its value.

@@ -10,7 +10,7 @@ use crate::memory::alloc::{Allocator, Global};
 /// and its length counts these. If the iterator is dropped early, they stay, in their order. They
 /// also stay if it is forgotten, but no clause says that. Dropping it takes constant time, however
 /// many are left.
-pub struct Drain<'a, K: IntKey, V, A: Allocator + Copy = Global> {
+pub struct Drain<'a, K, V, A: Allocator + Copy = Global> {
     pub(in crate::proved::map) map: &'a mut IntMap<K, V, A>,
     pub(in crate::proved::map) from: usize,
 }

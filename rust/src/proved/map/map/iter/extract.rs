@@ -28,7 +28,7 @@ impl<K: IntKey, V, A: Allocator + Copy> IntMap<K, V, A> {
 /// the iterator is dropped early, they stay, in their order. They also stay if it is forgotten, but
 /// no clause says that.
 #[must_use]
-pub struct ExtractIf<'a, K: IntKey, V, F, A: Allocator + Copy = Global> {
+pub struct ExtractIf<'a, K, V, F, A: Allocator + Copy = Global> {
     map: &'a mut IntMap<K, V, A>,
     at: Progress,
     test: F,

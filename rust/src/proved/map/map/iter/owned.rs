@@ -9,7 +9,7 @@ use crate::memory::alloc::{Allocator, Global};
 
 /// The pairs of a map by value, made by [`IntMap::into_iter`](crate::proved::map::IntMap::into_iter). Contracts
 /// see it as the list of the pairs that are left.
-pub struct IntoIter<K: IntKey, V, A: Allocator + Copy = Global> {
+pub struct IntoIter<K, V, A: Allocator + Copy = Global> {
     pairs: IntoPairs<K, Kept<V>, A>,
 }
 
@@ -24,7 +24,7 @@ impl<K: IntKey, V, A: Allocator + Copy> Iterator for IntoIter<K, V, A> {
 
 /// The keys of a map by value, made by [`IntMap::into_keys`](crate::proved::map::IntMap::into_keys). Contracts
 /// see it as the list of the keys that are left.
-pub struct IntoKeys<K: IntKey, V, A: Allocator + Copy = Global> {
+pub struct IntoKeys<K, V, A: Allocator + Copy = Global> {
     pairs: IntoIter<K, V, A>,
 }
 
@@ -39,7 +39,7 @@ impl<K: IntKey, V, A: Allocator + Copy> Iterator for IntoKeys<K, V, A> {
 
 /// The values of a map by value, made by [`IntMap::into_values`](crate::proved::map::IntMap::into_values). Contracts
 /// see it as the list of the values that are left.
-pub struct IntoValues<K: IntKey, V, A: Allocator + Copy = Global> {
+pub struct IntoValues<K, V, A: Allocator + Copy = Global> {
     pairs: IntoIter<K, V, A>,
 }
 

@@ -10,7 +10,7 @@ use crate::memory::alloc::{Allocator, Global};
 /// The values of a map by mutable reference, made by
 /// [`IntMap::values_mut`](crate::proved::map::IntMap::values_mut). Contracts see it as the list of the values
 /// that are left, with the name of the loan of all values.
-pub struct ValuesMut<'a, K: IntKey, V, A: Allocator + Copy = Global> {
+pub struct ValuesMut<'a, K, V, A: Allocator + Copy = Global> {
     pub(in crate::proved::map) pairs: IterMut<'a, K, V, A>,
 }
 

@@ -2,16 +2,18 @@
 //!
 //! The proved iterator hands out the references from one loan of all values, which takes `unsafe`
 //! code. This one borrows slot after slot, as Rust checks it.
+use super::{IntoIter, IntoKeys, IntoValues, Iter, Keys, Values, ValuesMut};
 use crate::memory::alloc::{Allocator, Global};
 use crate::proved::map::map::IntMap;
 use crate::proved::table::kept::Kept;
+use crate::proved::table::steps::Steps;
 use crate::proved::table::table::written::PairsMut;
 use crate::proved::table::IntKey;
-use crate::proved::table::table::Progress;
+use crate::proved::table::table::{Progress, Table};
 use core::array::from_fn;
 
 /// The pairs of a map, each with a mutable reference to its value, made by [`IntMap::iter_mut`].
-pub struct IterMut<'a, K: IntKey, V, A: Allocator + Copy = Global> {
+pub struct IterMut<'a, K, V, A: Allocator + Copy = Global> {
     pairs: PairsMut<'a, K, Kept<V>, A>,
 }
 
@@ -23,6 +25,36 @@ impl<'a, K: IntKey, V, A: Allocator + Copy> Iterator for IterMut<'a, K, V, A> {
         let (key, kept) = self.pairs.next()?;
         Some((key, kept.get_mut()))
     }
+}
+
+impl<K: IntKey, V> IntMap<K, V> {
+    /// A map without slots, for iterators without items. No other call takes it.
+    fn none() -> IntMap<K, V> {
+        let (placed, compared) = (Steps::new(), Steps::new());
+        IntMap { table: Table::NONE, len: 0, threshold: 0, factor: 0, placed, compared }
+    }
+}
+
+/// Writes an iterator without items.
+macro_rules! empty {
+    ($($name:ident [$($lifetime:tt)*] = $made:expr;)*) => { $(
+        impl<$($lifetime)* K: IntKey, V> Default for $name<$($lifetime)* K, V> {
+            fn default() -> Self {
+                $made
+            }
+        }
+    )* };
+}
+
+empty! {
+    Iter ['a,] = Iter { pairs: const { &Table::NONE }.pairs() };
+    Keys ['a,] = Keys { pairs: Iter::default() };
+    Values ['a,] = Values { pairs: Iter::default() };
+    IterMut ['a,] = IterMut { pairs: PairsMut::default() };
+    ValuesMut ['a,] = ValuesMut { pairs: IterMut::default() };
+    IntoIter [] = IntMap::none().into_iter();
+    IntoKeys [] = IntMap::none().into_keys();
+    IntoValues [] = IntMap::none().into_values();
 }
 
 impl<K: IntKey, V, A: Allocator + Copy> IntMap<K, V, A> {

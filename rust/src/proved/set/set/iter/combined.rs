@@ -9,7 +9,7 @@ use crate::memory::alloc::{Allocator, Global};
 /// The members of one set that are absent from another, by reference, made by
 /// [`IntSet::difference`](crate::proved::set::IntSet::difference). Contracts see it as the list of those that
 /// are left.
-pub struct Difference<'a, K: IntKey, A: Allocator + Copy = Global> {
+pub struct Difference<'a, K, A: Allocator + Copy = Global> {
     pub(in crate::proved::set) keys: Keys<'a, K, (), A>,
     pub(in crate::proved::set) other: &'a IntSet<K, A>,
 }
@@ -30,7 +30,7 @@ impl<'a, K: IntKey, A: Allocator + Copy> Iterator for Difference<'a, K, A> {
 /// The members that two sets have, by reference, made by
 /// [`IntSet::intersection`](crate::proved::set::IntSet::intersection). Contracts see it as the list of those
 /// that are left.
-pub struct Intersection<'a, K: IntKey, A: Allocator + Copy = Global> {
+pub struct Intersection<'a, K, A: Allocator + Copy = Global> {
     pub(in crate::proved::set) keys: Keys<'a, K, (), A>,
     pub(in crate::proved::set) other: &'a IntSet<K, A>,
 }
@@ -50,7 +50,7 @@ impl<'a, K: IntKey, A: Allocator + Copy> Iterator for Intersection<'a, K, A> {
 
 /// The members of either set by reference, made by [`IntSet::union`](crate::proved::set::IntSet::union).
 /// Contracts see it as the list of those that are left.
-pub struct Union<'a, K: IntKey, A: Allocator + Copy = Global> {
+pub struct Union<'a, K, A: Allocator + Copy = Global> {
     pub(in crate::proved::set) first: Keys<'a, K, (), A>,
     pub(in crate::proved::set) second: Difference<'a, K, A>,
 }
@@ -69,7 +69,7 @@ impl<'a, K: IntKey, A: Allocator + Copy> Iterator for Union<'a, K, A> {
 /// The members that exactly one of two sets has, by reference, made by
 /// [`IntSet::symmetric_difference`](crate::proved::set::IntSet::symmetric_difference). Contracts see it as the
 /// list of those that are left.
-pub struct SymmetricDifference<'a, K: IntKey, A: Allocator + Copy = Global> {
+pub struct SymmetricDifference<'a, K, A: Allocator + Copy = Global> {
     pub(in crate::proved::set) first: Difference<'a, K, A>,
     pub(in crate::proved::set) second: Difference<'a, K, A>,
 }

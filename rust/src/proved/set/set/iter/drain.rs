@@ -11,7 +11,7 @@ use core::iter::FusedIterator;
 /// and its length counts these. If the iterator is dropped early, they stay, in their order. They
 /// also stay if it is forgotten, but no clause says that. Dropping it takes constant time, however
 /// many are left.
-pub struct Drain<'a, K: IntKey, A: Allocator + Copy = Global> {
+pub struct Drain<'a, K, A: Allocator + Copy = Global> {
     set: &'a mut IntSet<K, A>,
     from: usize,
 }

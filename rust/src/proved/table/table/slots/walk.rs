@@ -9,7 +9,7 @@ use crate::memory::alloc::{AllocError, Allocator};
 
 /// The pairs that are left: those of the current slot, then those of the slots behind it that hold
 /// a pair, by their numbers.
-pub struct Pairs<'a, K: IntKey, X, A: Allocator> {
+pub struct Pairs<'a, K, X, A: Allocator> {
     pub(super) rest: &'a [(Stored<K>, X)],
     pub(super) filled: Indices<'a>,
     pub(super) slots: &'a Slots<K, X, A>,

@@ -1,8 +1,10 @@
 //! The pairs of all slots, slot after slot, each with a mutable reference to its value; and those at
 //! places that are known.
-use super::Slots;
-use crate::memory::alloc::Allocator;
+use super::{Directory, Slots};
+use crate::memory::Vec;
+use crate::memory::alloc::{Allocator, Global};
 use crate::proved::table::IntKey;
+use crate::proved::table::bits::Bits;
 use crate::proved::table::bits::written::{MarkedMut, take_at};
 use crate::proved::table::lone::Lone;
 use crate::proved::table::slot::Slot;
@@ -10,14 +12,14 @@ use crate::proved::table::table::stored::Stored;
 use core::mem::take;
 
 /// The slots that are left and hold a pair. All are of one form.
-enum FilledMut<'a, K: IntKey, X, A: Allocator> {
+enum FilledMut<'a, K, X, A: Allocator> {
     Lone(MarkedMut<'a, Lone<K, X>>),
     Shared(MarkedMut<'a, Slot<K, X, A>>),
 }
 
 /// The pairs that are left: those of the current slot, then those of the filled slots behind
 /// it.
-pub struct PairsMut<'a, K: IntKey, X, A: Allocator> {
+pub struct PairsMut<'a, K, X, A: Allocator> {
     rest: &'a mut [(Stored<K>, X)],
     filled: FilledMut<'a, K, X, A>,
 }
@@ -57,7 +59,7 @@ impl<'a, K: IntKey, X, A: Allocator> Iterator for PairsMut<'a, K, X, A> {
 }
 
 /// The values at places in ascending order, by mutable reference.
-pub struct PlacesMut<'a, K: IntKey, X, A: Allocator> {
+pub struct PlacesMut<'a, K, X, A: Allocator> {
     /// The pairs of the current slot that are left.
     rest: &'a mut [(Stored<K>, X)],
     lone: &'a mut [Lone<K, X>],
@@ -89,6 +91,21 @@ impl<'a, K: IntKey, X, A: Allocator> PlacesMut<'a, K, X, A> {
         let between = place - self.places;
         self.places = place + 1;
         Some(&mut take_at(&mut self.rest, between).1)
+    }
+}
+
+impl<K: IntKey, X> Slots<K, X, Global> {
+    /// No slots, for iterators without items.
+    pub(in crate::proved::table) const NONE: Self = Slots {
+        directory: Directory { mask: 0, bits: Bits::NONE },
+        lone: Vec::new(Global),
+        shared: Vec::new(Global),
+    };
+}
+
+impl<K: IntKey, X, A: Allocator> Default for PairsMut<'_, K, X, A> {
+    fn default() -> Self {
+        PairsMut { rest: &mut [], filled: FilledMut::Shared(const { &Bits::NONE }.pick(&mut [])) }
     }
 }
 
