@@ -632,8 +632,8 @@ static bool is_linear(size_t most, size_t kind) {
     time_passes(most, kind, 1, many);
     bool is_so = true;
     for (size_t pass = 0; pass < PASSES; pass++) {
-        printf("%zu pairs %s in %.3f s, %zu in %.6f s\n", most, passes[pass], many[pass],
-               most / SCALE, few[pass]);
+        printf("%zu pairs %s in %.6f s\n", most / SCALE, passes[pass], few[pass]);
+        printf("%zu pairs %s in %.3f s\n", most, passes[pass], many[pass]);
         is_so &= many[pass] < ALLOWED * SCALE * few[pass];
     }
     return is_so;
