@@ -23,6 +23,7 @@ pub mod PutLemmas
 pub mod MovingLemmas
 pub mod NextMarkLemmas
 pub mod SameKeysLemmas
+pub mod SharingLemmas
 pub mod SlotLemmas
 pub mod SwapOutLemmas
 pub mod TableLemmas

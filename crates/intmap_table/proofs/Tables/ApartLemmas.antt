@@ -1,16 +1,14 @@
 -- The pairs of lone slots move as if each slot had room for all of them: each finds its slot empty, and needs none.
-use Rattle.std.proofs.Common.{◌≡◌, inl, ℕ, zero, suc, ◌+◌, ◌*◌, ◌/◌, ◌<◌, ◌≤◌, Bool, true, false, List, [], ◌∷◌, ◌++◌, length, map, get_or, set, replicate, refl, sym, ap, ◌∙◌, subst, arith, length-append, length-set}
+use Rattle.std.proofs.Common.{◌≡◌, inl, ℕ, zero, suc, ◌+◌, ◌*◌, ◌/◌, ◌<◌, ◌≤◌, Bool, false, List, [], ◌∷◌, length, map, get_or, set, replicate, refl, sym, ap, ◌∙◌, subst, arith, length-append, length-set}
 use Rattle.std.proofs.lemmas.Bool.Decides.{nat_tests}
 use Rattle.std.proofs.lemmas.List.{map-set}
-use Rattle.intmap_table.specs.Classes.{IsCapacity, slot_number}
 use Rattle.intmap_table.specs.Tables.Bits.{marked_indices}
 use Rattle.intmap_table.specs.Tables.Slots.{Held, rows, joined, AreMarked}
 use Rattle.intmap_table.specs.Tables.Moves.{rooms, bare_slot, IsLonger, ArePut, CanPut, CanMove, CanMoveOn, IsMoved, AreFree, AreMovedFrom}
-use Rattle.intmap_table.proofs.SlotNumberLemmas.{slot_number-below}
 use Rattle.intmap_table.proofs.Tables.GrownLemmas.{grown-more}
 use Rattle.intmap_table.proofs.Tables.MovingLemmas.{AreMoved, AreMoved-start, AreMoved-next, IsMoved-end, AreMarked-end, CanMove-moved, filled-moved}
-use Rattle.intmap_table.proofs.Tables.PutLemmas.{IsPut-set, CanPut-lone, ArePut-put}
-use Rattle.intmap_table.proofs.Tables.RoomLemmas.{need-most, length-first}
+use Rattle.intmap_table.proofs.Tables.PutLemmas.{CanPut-lone}
+use Rattle.intmap_table.proofs.Tables.RoomLemmas.{need-most}
 use Rattle.intmap_table.proofs.Tables.TableLemmas.{length-rows, get_or-rows, get_or-rooms}
 
 module _ {K X : Type 0} where
@@ -38,13 +36,6 @@ room_for S = length (joined (rows S)) + 1
 abbrev pub AreApart : {K X : Type 0} (number : K → ℕ) (S₀ : List (Held K X)) (C n₀ : ℕ) (left : List ℕ)
     (bits : List Bool) (S : List (Held K X)) (n : ℕ) → Type 0
 AreApart number S₀ C n₀ left bits S n = AreMoved number (roomy (room_for S₀) S₀) C n₀ left bits (roomy (room_for S₀) S) n
-
--- a pair that was taken from the slot at hand can be put into its own, which holds none, and then the next slot comes
-pub record CanPutApart {K X : Type 0} (number : K → ℕ) (S₀ : List (Held K X)) (C n₀ : ℕ) (rest : List ℕ)
-    (bits : List Bool) (U : List (Held K X)) (n : ℕ) (p : K × X) (j : ℕ) : Type 0 where
-  pub words : j < length bits
-  pub free : (h : Held K X) → (get_or U j h).pairs ≡ []
-  pub next : (s : Held K X) → s.pairs ≡ p ∷ [] → AreApart number S₀ C n₀ rest (set bits j true) (set U j s) (n + 1)
 
 -- no row has more pairs than all together
 row-most : {P : Type 0} (R : List (List P)) (k : ℕ) → length (get_or R k []) ≤ length (joined R)
@@ -142,58 +133,49 @@ module _ {K X : Type 0} (number : K → ℕ) (S₀ : List (Held K X)) (old : Lis
       free-wide = rw row-wide at can.free
 
       can-put : CanPut number (wide U) bits (p ∷ []) 0
-      can-put = rw wide-left (CanPut-lone number (wide S) index roomy_left p bits _ 0 none (omega arith) free-wide (rw row-wide at can.can))
+      can-put = rw wide-left (CanPut-lone number (wide S) index roomy_left p bits _ 0 none free-wide (rw row-wide at can.can))
 
-      pub capacity-apart : IsCapacity (length U)
-      capacity-apart = rw (length-roomy N U) at can-put.capacity
+      free : AreFree number (rows U) (p ∷ []) (length U)
+      free j lt some =
+          ap (λ R. get_or R j []) (map-set (λ (h : Held K X). h.pairs) S index left ∙ ap (set (rows S) index) none)
+          ∙ (rw (rows-roomy N S, same-len) at free-wide) j lt some
 
-      module _ (j : ℕ) (is : slot_number number p.0 (length U) ≡ j) where
-        is-wide : slot_number number p.0 (length (wide U)) ≡ j
-        is-wide = rw (length-roomy N U) is
+      -- it can be put into its own, which holds none
+      pub CanPut-apart : CanPut number U bits (p ∷ []) 0
+      CanPut-apart = record {
+        capacity = rw (length-roomy N U) at can-put.capacity;
+        words = rw (length-roomy N U) at can-put.words;
+        told = rw (rows-roomy N U, length-roomy N U) at can-put.told;
+        x = 0;
+        room = λ j lt some.
+            let most = need-most number (p ∷ []) (length U) j in let empty = ap length (free j lt some) in inl (omega (arith, most, empty));
+      }
 
-        below : j < length U
-        below = let below = slot_number-below number p.0 (length U) capacity-apart in omega (arith, below, is)
+      -- and then the next slot comes
+      module _ (T : List (Held K X)) (marks : List Bool) (m : ℕ) (put : ArePut number U bits n (p ∷ []) T marks m) where
+        room-same : (j : ℕ) → j < length (wide U) → get_or (rooms (wide T)) j 0 ≡ get_or (rooms (wide U)) j 0
+        room-same j lt =
+            let below : j < length U = rw (length-roomy N U) at lt in let below' : j < length T = rw put.len below in
+            get_or-rooms (wide T) j bare_slot (rw (length-roomy N T) below') ∙ room-roomy N T j bare_slot below'
+            ∙ sym (get_or-rooms (wide U) j bare_slot lt ∙ room-roomy N U j bare_slot below)
 
-        below-wide : j < length (wide U)
-        below-wide = rw (length-roomy N U) below
-
-        free : (h : Held K X) → (get_or U j h).pairs ≡ []
-        free h =
-            let one = length-first number p [] (length (wide S)) j (rw same-len is) in
-            let empty = free-wide j (rw same-len below) (omega (arith, one)) in
-            sym (get_or-rows U j h below)
-            ∙ ap (λ R. get_or R j []) (map-set (λ (h : Held K X). h.pairs) S index left ∙ ap (set (rows S) index) none)
-            ∙ (rw (rows-roomy N S) at empty)
-
-        empty-wide : (get_or (wide U) j bare_slot).pairs ≡ []
-        empty-wide =
-            sym (get_or-rows (wide U) j bare_slot below-wide) ∙ ap (λ R. get_or R j []) (rows-roomy N U)
-            ∙ get_or-rows U j bare_slot below ∙ free bare_slot
-
-        module _ (s : Held K X) (put : s.pairs ≡ p ∷ []) where
-          abbrev T : List (Held K X)
-          T = set (wide U) j (record s { room = N })
-
-          are-put : ArePut number (wide U) bits n (p ∷ []) T (set bits j true) (n + 1)
-          are-put = ArePut-put number (wide U) p [] bits 0 j is-wide can-put T 0 n
-              (IsPut-set (wide U) j 0 0 bare_slot (record s { room = N }) p below-wide (put ∙ ap (λ ps. ps ++ p ∷ []) (sym empty-wide))
-              (inl (inl (ap length empty-wide), sym (room-roomy N U j bare_slot below), refl)))
-
-          moved : AreMovedFrom number (wide S) bits n index T (set bits j true) (n + 1)
-          moved = record {
-            left = roomy_left;
-            none = none;
-            put = subst (λ L. ArePut number (set (wide S) index roomy_left) bits n L T (set bits j true) (n + 1)) (sym row-wide)
-                (subst (λ Z. ArePut number Z bits n (p ∷ []) T (set bits j true) (n + 1)) wide-left are-put);
-          }
-
-        pub CanPutApart-taken : CanPutApart number S₀ C n₀ rest bits U n p j
-        CanPutApart-taken = record {
-          words = (let words = can-put.words in let less = below-wide in omega (arith, less, words));
-          free = free;
-          next = λ s put.
-              subst (λ Z. AreMoved number (wide S₀) C n₀ rest (set bits j true) Z (n + 1))
-              (sym (map-set (λ (h : Held K X). record h { room = N }) U j s))
-              (AreMoved-next number (wide S₀) old C N ready n₀ index rest bits (wide S) n before
-              (T s put) (set bits j true) (n + 1) (moved s put));
+        are-put : ArePut number (wide U) bits n (p ∷ []) (wide T) marks m
+        are-put = record {
+          len = length-roomy N T ∙ put.len ∙ sym (length-roomy N U);
+          pairs = rw (length-roomy N U, rows-roomy N T, rows-roomy N U) put.pairs;
+          rooms = λ j lt _. room-same j lt;
+          words = put.words;
+          set_at = rw (length-roomy N U) put.set_at;
+          counted = put.counted;
         }
+
+        moved : AreMovedFrom number (wide S) bits n index (wide T) marks m
+        moved = record {
+          left = roomy_left;
+          none = none;
+          put = subst (λ L. ArePut number (set (wide S) index roomy_left) bits n L (wide T) marks m) (sym row-wide)
+              (subst (λ Z. ArePut number Z bits n (p ∷ []) (wide T) marks m) wide-left are-put);
+        }
+
+        pub AreApart-next : AreApart number S₀ C n₀ rest marks T m
+        AreApart-next = AreMoved-next number (wide S₀) old C N ready n₀ index rest bits (wide S) n before (wide T) marks m moved

@@ -1,5 +1,5 @@
 -- The pairs of shared slots part: each of the new slots, which are lone, gets one of them at most.
-use Rattle.std.proofs.Common.{◌≡◌, inl, ℕ, ◌+◌, ◌*◌, ◌/◌, ◌%◌, ◌<◌, ◌≤◌, Bool, false, List, [], ◌++◌, length, get_or, replicate, sym, ap, ◌∙◌, arith}
+use Rattle.std.proofs.Common.{◌≡◌, ◌⊎◌, inl, inr, refl, ℕ, ◌+◌, ◌*◌, ◌/◌, ◌%◌, ◌<◌, ◌≤◌, Bool, false, List, [], ◌++◌, length, get_or, replicate, sym, ap, ◌∙◌, arith}
 use Rattle.std.proofs.lemmas.List.{get_or_past, get_or-replicate, length-replicate}
 use Rattle.intmap_table.specs.Classes.{IsCapacity}
 use Rattle.intmap_table.specs.Walk.{slot_of}
@@ -43,15 +43,22 @@ module _ {K X : Type 0} (number : K → ℕ) (L : List (K × X)) (D : ℕ) (capa
     room : get_or (rooms bare) j 0 ≡ 1
     room = get_or-rooms bare j bare_slot lt ∙ ap (λ (h : Held K X). h.room) slot
 
-  -- such pairs can be put into empty slots that are lone, one after another
-  pub CanPut-parted : ((j : ℕ) → need number L D j ≤ 1) → CanPut number bare unmarked L 0
-  CanPut-parted apart = record {
+  -- such pairs can be put into empty slots, one after another, with several for slot x alone, which the block takes in
+  pub CanPut-empty : (x block : ℕ) → ((j : ℕ) → (need number L D j ≤ 1) ⊎ ((j ≡ x) × (need number L D j ≤ 1 + block))) → CanPut number bare unmarked L block
+  CanPut-empty x block few = record {
     capacity = rw len capacity;
     words = (let all = words in let n = len in omega (arith, all, n));
     told = λ j lt _. rw (empty j lt) (none-marked j);
-    x = 0;
-    room = λ j lt _. inl (rw (empty j lt, room j lt, len) (let few = apart j in omega (arith, few)));
+    x = x;
+    room = λ j lt _. rw (empty j lt, room j lt, len) (elim (few j) [
+      | inl one ↦ inl (omega (arith, one))
+      | inr more ↦ inr (inr (more.0, refl, (let most = more.1 in omega (arith, most))))
+    ]);
   }
+
+  -- into lone ones, each of which gets one at most
+  pub CanPut-parted : ((j : ℕ) → need number L D j ≤ 1) → CanPut number bare unmarked L 0
+  CanPut-parted apart = CanPut-empty 0 0 (λ j. inl (apart j))
 
   -- once they are put, all are moved, and the slots that got one are marked
   module _ (T : List (Held K X)) (marks : List Bool) (n m : ℕ) (put : ArePut number bare unmarked n L T marks m) where

@@ -59,14 +59,15 @@ module _ {K X : Type 0} (number : K → ℕ) where
     pub counted : n' ≡ n + length L
 
   -- the pairs can be put there one after another: a slot that gets some is marked exactly if it holds a pair, and has room for all of them
-  -- slot x may have no block: the current block, whose room is given, is large enough for it
+  -- a slot that gets one pair alone needs no room, and slot x may have no block: the current block, whose room is given, is large enough for it
   pub record CanPut (S : List (Held K X)) (marks : List Bool) (L : List (K × X)) (block : ℕ) : Type 0 where
     pub capacity : IsCapacity (length S)
     pub words : length S ≤ length marks
     pub told : (j : ℕ) → j < length S → 0 < need L (length S) j → marked marks j ≡ nat_lt 0 (length (get_or (rows S) j []))
     pub x : ℕ
     pub room : (j : ℕ) → j < length S → 0 < need L (length S) j
-        → (length (get_or (rows S) j []) + need L (length S) j ≤ get_or (rooms S) j 0)
+        → (length (get_or (rows S) j []) + need L (length S) j ≤ 1)
+        ⊎ (length (get_or (rows S) j []) + need L (length S) j ≤ get_or (rooms S) j 0)
         ⊎ ((j ≡ x) × (get_or (rooms S) j 0 ≡ 1) × (length (get_or (rows S) j []) + need L (length S) j ≤ 1 + block))
 
   -- with these rooms, the pairs of old slot k can leave it: each of its parts has room for all that it gets, except part x, which may have no block and takes that of the old slot

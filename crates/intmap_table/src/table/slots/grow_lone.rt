@@ -8,17 +8,18 @@ use crate::bits::Bits;
 use crate::key::IntKey;
 use crate::lone::Lone;
 use crate::steps::Steps;
-use crate::table::index_of;
 use crate::table::slots::Directory;
 use crate::table::slots::grow::reserve_slots;
+use crate::table::slots::place::place;
 use std::alloc::{AllocError, Allocator};
 use std::mem;
 
 /// Moves the pairs of all old slots to their slots, each of which gets one at most.
-fn move_lone<K: IntKey, X, A: Allocator>(
+fn move_lone<K: IntKey, X: Drop, A: Allocator + Copy>(
     bits: &mut Bits<A>,
     lone: &mut [Lone<K, X>],
     old: &Directory<A>,
+    alloc: A,
     placed: &mut Steps,
 )
     requires unmarked { bits.old ≡ replicate (64 * ((length lone.old + 63) / 64)) false }
@@ -31,10 +32,9 @@ fn move_lone<K: IntKey, X, A: Allocator>(
 {
     for index in old.bits.iter() {
         let pair = lone[index].take();
-        let target = index_of(pair.0.key(), lone.len());
-        bits.set(target);
-        lone[target].put(pair);
-        placed.tick();
+        let mut none = [];
+        let mut block = Vec::new(alloc);
+        place(bits, lone, &mut none, pair, false, &mut block, placed);
     }
 }
 
@@ -78,9 +78,10 @@ pub(super) fn grow_lone<K: IntKey, X: Drop, A: Allocator + Copy>(
     ensures err { OnErr result (lone.new.items ≡ lone.old.items) }
     ensures none_placed { OnErr result (placed.new ≡ placed.old) }
 {
+    let alloc = *lone.allocator();
     let mut bits = reserve_slots(lone, capacity)?;
     add_lone(lone, capacity);
-    move_lone(&mut bits, lone, directory, placed);
+    move_lone(&mut bits, lone, directory, alloc, placed);
     *directory = Directory {
         mask: capacity - 1,
         bits,

@@ -1,19 +1,20 @@
 //! Growth with a new pair, which is the last one of its slot.
-ghost use Rattle.std.specs.Prelude.{◌≡◌, ◌+◌, ◌^◌, ◌<◌, ◌≤◌, ◌==◌, [], ◌∷◌, ◌++◌, length, OnOk, OnErr, IfErr, option_copied};
+ghost use Rattle.std.specs.Prelude.{◌≡◌, ◌+◌, ◌*◌, ◌/◌, ◌^◌, ◌<◌, ◌≤◌, ◌==◌, ℕ, List, [], ◌∷◌, ◌++◌, false, length, replicate, vec_capacity, OnOk, OnErr, IfErr, option_copied};
 ghost use Rattle.std.specs.List.{list_any};
 ghost use Rattle.std.specs.Option.{option_to_list};
 ghost use Rattle.intmap_table.specs.Classes.{IsCapacity, slot_number};
 ghost use Rattle.intmap_table.specs.Walk.{slot_of};
-ghost use Rattle.intmap_table.specs.Tables.Slots.{rows, row_of, joined, AreSlots, IsTable, IsDirectory};
-ghost use Rattle.intmap_table.specs.Tables.Moves.{need, IsMoved};
+ghost use Rattle.intmap_table.specs.Tables.Slots.{rows, row_of, joined, AreMarked, AreSlots, IsTable, IsDirectory};
+ghost use Rattle.intmap_table.specs.Tables.Moves.{need, ArePut, CanPut, IsGrown, IsMoved, bare_slot};
 
+use crate::bits::Bits;
 use crate::key::IntKey;
 use crate::lone::Lone;
 use crate::slot::Slot;
 use crate::steps::Steps;
 use crate::table::index_of;
-use crate::table::slots::forms::share_each;
-use crate::table::slots::grow_lone::grow_lone;
+use crate::table::slots::grow::{add_slots, reserve_slots};
+use crate::table::slots::place::place;
 use crate::table::slots::{Directory, Slots};
 use crate::table::stored::Stored;
 use std::alloc::Allocator;
@@ -42,15 +43,45 @@ fn any_meets<K: IntKey, X>(pairs: &[(Stored<K>, X)], target: usize, capacity: us
     )
 }
 
-/// Moves the pairs of lone slots to their slots among `capacity` slots, makes these shared, and
-/// puts one pair more behind those of its slot, which holds some. All memory is allocated before a
-/// pair moves. If an allocation fails, the value is returned, and no pair moves.
+/// Moves the pairs of all lone slots, slot after slot, to larger shared ones, each of which holds
+/// none and gets one at most.
+fn share_apart<K: IntKey, X: Drop, A: Allocator>(
+    bits: &mut Bits<A>,
+    shared: &mut [Slot<K, X, A>],
+    lone: &mut [Lone<K, X>],
+    old: &Directory<A>,
+    block: &mut Vec<(Stored<K>, X), A>,
+    placed: &mut Steps,
+)
+    requires bare { shared.old ≡ replicate (length shared.old) bare_slot }
+    requires unmarked { bits.old ≡ replicate (64 * ((length shared.old + 63) / 64)) false }
+    requires grown { IsGrown (length lone.old) (length shared.old) }
+    requires table { IsTable K.number_of lone.old }
+    requires marks { AreMarked (rows lone.old) old.now.bits }
+    requires block { block.old.items ≡ [] }
+    ensures put { ArePut K.number_of shared.old bits.old placed.old (joined (rows lone.old))
+        shared.new bits.new placed.new }
+    ensures can { (rest : List (K × X)) → CanPut K.number_of shared.old bits.old
+        (joined (rows lone.old) ++ rest) (vec_capacity block.old)
+        → CanPut K.number_of shared.new bits.new rest (vec_capacity block.new) }
+    ensures few { (j : ℕ) → need K.number_of (joined (rows lone.old)) (length shared.old) j ≤ 1 }
+    ensures block { block.new.items ≡ [] }
+{
+    for index in old.bits.iter() {
+        let pair = lone[index].take();
+        let mut none = [];
+        place(bits, &mut none, shared, pair, true, block, placed);
+    }
+}
+
+/// Moves the pairs of lone slots to their slots among `capacity` shared ones, and puts one pair more
+/// at the end of its slot. All memory is allocated before a pair moves. If an allocation fails, the
+/// value is returned, and no pair moves.
 fn grow_shared<K: IntKey, X: Drop, A: Allocator + Copy>(
     lone: &mut Vec<Lone<K, X>, A>,
     shared: &mut Vec<Slot<K, X, A>, A>,
     directory: &mut Directory<A>,
     capacity: usize,
-    target: usize,
     pair: (Stored<K>, X),
     placed: &mut Steps,
 ) -> Result<(), X>
@@ -59,8 +90,6 @@ fn grow_shared<K: IntKey, X: Drop, A: Allocator + Copy>(
     requires directory { IsDirectory lone.old.items directory.old.bits directory.old.mask }
     requires capacity { IsCapacity capacity }
     requires larger { length lone.old.items ≤ capacity }
-    requires slot { target ≡ slot_number K.number_of pair.0 capacity }
-    requires meets { 0 < need K.number_of (joined (rows lone.old.items)) capacity target }
     ensures moved { OnOk result (IsMoved K.number_of (joined (rows lone.old.items) ++ pair ∷ [])
         capacity (lone.new.items ++ shared.new.items)) }
     ensures slots { AreSlots lone.new.items shared.new.items directory.new.bits directory.new.mask }
@@ -74,19 +103,20 @@ fn grow_shared<K: IntKey, X: Drop, A: Allocator + Copy>(
     let Ok(mut block) = Vec::with_capacity(alloc, 1) else {
         return Err(pair.1);
     };
-    let Ok(mut made) = Vec::with_capacity(alloc, capacity) else {
+    let Ok(mut bits) = reserve_slots(shared, capacity) else {
         return Err(pair.1);
     };
-    let Ok(()) = grow_lone(lone, directory, capacity, placed) else {
-        return Err(pair.1);
+    add_slots(shared, capacity);
+    share_apart(&mut bits, shared, lone, directory, &mut block, placed);
+    let mut none = [];
+    place(
+        &mut bits, &mut none, shared, pair, false, &mut block, placed,
+    );
+    *lone = Vec::new(alloc);
+    *directory = Directory {
+        mask: capacity - 1,
+        bits,
     };
-    if !lone[target].is_filled() {
-        unreachable!();
-    }
-    share_each(lone, &mut made);
-    made[target].push_with(pair, &mut block);
-    *shared = made;
-    placed.tick();
     Ok(())
 }
 
@@ -109,7 +139,6 @@ impl<K: IntKey, X: Drop, A: Allocator + Copy> Slots<K, X, A> {
     fn grow_apart(
         &mut self,
         capacity: usize,
-        target: usize,
         pair: (Stored<K>, X),
         placed: &mut Steps,
     ) -> Result<(), X>
@@ -117,8 +146,8 @@ impl<K: IntKey, X: Drop, A: Allocator + Copy> Slots<K, X, A> {
         requires capacity { IsCapacity capacity }
         requires larger { length self.old ≤ capacity }
         requires fits { length (joined (rows self.old)) < 2 ^ 64 }
-        requires slot { target ≡ slot_number K.number_of pair.0 capacity }
-        requires alone { slot_of K.number_of (joined (rows self.old)) capacity target ≡ [] }
+        requires alone { slot_of K.number_of (joined (rows self.old)) capacity
+            (slot_number K.number_of pair.0 capacity) ≡ [] }
         ensures moved { OnOk result (IsMoved K.number_of (joined (rows self.old) ++ pair ∷ [])
             capacity self.new) }
         ensures placed { OnOk result
@@ -130,8 +159,16 @@ impl<K: IntKey, X: Drop, A: Allocator + Copy> Slots<K, X, A> {
         let Ok(()) = self.grow(capacity, true, placed) else {
             return Err(pair.1);
         };
-        self.put_first(target, pair);
-        placed.tick();
+        let mut block = Vec::new(self.allocator());
+        place(
+            &mut self.directory.bits,
+            &mut self.lone,
+            &mut self.shared,
+            pair,
+            true,
+            &mut block,
+            placed,
+        );
         Ok(())
     }
 
@@ -197,7 +234,7 @@ impl<K: IntKey, X: Drop, A: Allocator + Copy> Slots<K, X, A> {
     {
         let target = index_of(pair.0.key(), capacity);
         if !self.meets(slot, target, capacity) {
-            return self.grow_apart(capacity, target, pair, placed);
+            return self.grow_apart(capacity, pair, placed);
         }
         if self.lone.is_empty() {
             return self.push_and_grow(capacity, slot, pair, placed);
@@ -207,7 +244,6 @@ impl<K: IntKey, X: Drop, A: Allocator + Copy> Slots<K, X, A> {
             &mut self.shared,
             &mut self.directory,
             capacity,
-            target,
             pair,
             placed,
         )

@@ -13,7 +13,7 @@ use crate::table::index_of;
 use crate::table::slots::Directory;
 use crate::table::slots::grow::reserve_slots;
 use crate::table::slots::grow_lone::add_lone;
-use crate::table::stored::Stored;
+use crate::table::slots::place::place;
 use std::alloc::{AllocError, Allocator};
 
 /// From so many slots on, a growth may part pairs. In fewer slots, pairs soon share one again.
@@ -60,31 +60,12 @@ pub(super) fn are_apart<K: IntKey, X, A: Allocator>(
     true
 }
 
-/// Puts a pair into its slot, which holds none, and counts it. The slot's bit is set.
-#[inline(always)]
-fn put<K: IntKey, X, A: Allocator>(
-    bits: &mut Bits<A>,
-    lone: &mut [Lone<K, X>],
-    pair: (Stored<K>, X),
-    placed: &mut Steps,
-)
-    requires { (rest : List (K × X)) × CanPut K.number_of lone.old bits.old (pair ∷ rest) 0 }
-    ensures put { ArePut K.number_of lone.old bits.old placed.old (pair ∷ []) lone.new bits.new
-        placed.new }
-    ensures can { (rest : List (K × X)) → CanPut K.number_of lone.old bits.old (pair ∷ rest) 0
-        → CanPut K.number_of lone.new bits.new rest 0 }
-{
-    let index = index_of(pair.0.key(), lone.len());
-    bits.set(index);
-    lone[index].put_back(pair);
-    placed.tick();
-}
-
 /// Moves the pairs of a shared slot, in order, to their slots.
-fn put_slot<K: IntKey, X: Drop, A: Allocator>(
+fn put_slot<K: IntKey, X: Drop, A: Allocator + Copy>(
     bits: &mut Bits<A>,
     lone: &mut [Lone<K, X>],
     slot: &mut Slot<K, X, A>,
+    alloc: A,
     placed: &mut Steps,
 )
     requires { (rest : List (K × X))
@@ -97,15 +78,18 @@ fn put_slot<K: IntKey, X: Drop, A: Allocator>(
 {
     while slot.is_filled() {
         let pair = slot.take_front();
-        put(bits, lone, pair, placed);
+        let mut none = [];
+        let mut block = Vec::new(alloc);
+        place(bits, lone, &mut none, pair, false, &mut block, placed);
     }
 }
 
 /// Moves the pairs of all shared slots, slot after slot, to their slots.
-fn put_all<K: IntKey, X: Drop, A: Allocator>(
+fn put_all<K: IntKey, X: Drop, A: Allocator + Copy>(
     bits: &mut Bits<A>,
     lone: &mut [Lone<K, X>],
     shared: &mut [Slot<K, X, A>],
+    alloc: A,
     placed: &mut Steps,
 )
     requires { CanPut K.number_of lone.old bits.old (joined (rows shared.old)) 0 }
@@ -113,7 +97,7 @@ fn put_all<K: IntKey, X: Drop, A: Allocator>(
         bits.new placed.new }
 {
     for index in 0..shared.len() {
-        put_slot(bits, lone, &mut shared[index], placed);
+        put_slot(bits, lone, &mut shared[index], alloc, placed);
     }
 }
 
@@ -140,10 +124,11 @@ pub(super) fn part<K: IntKey, X: Drop, A: Allocator + Copy>(
     ensures err { OnErr result (lone.new.items ++ shared.new.items ≡ shared.old.items) }
     ensures none_placed { OnErr result (placed.new ≡ placed.old) }
 {
+    let alloc = *shared.allocator();
     let mut bits = reserve_slots(lone, capacity)?;
     add_lone(lone, capacity);
-    put_all(&mut bits, lone, shared, placed);
-    *shared = Vec::new(*shared.allocator());
+    put_all(&mut bits, lone, shared, alloc, placed);
+    *shared = Vec::new(alloc);
     *directory = Directory {
         mask: capacity - 1,
         bits,

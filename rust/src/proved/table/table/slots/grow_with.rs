@@ -1,13 +1,14 @@
 //! Growth with a new pair, which is the last one of its slot.
 
 use crate::memory::prelude::*;
+use crate::proved::table::bits::Bits;
 use crate::proved::table::key::IntKey;
 use crate::proved::table::lone::Lone;
 use crate::proved::table::slot::Slot;
 use crate::proved::table::steps::Steps;
 use crate::proved::table::table::index_of;
-use crate::proved::table::table::slots::forms::share_each;
-use crate::proved::table::table::slots::grow_lone::grow_lone;
+use crate::proved::table::table::slots::grow::{add_slots, reserve_slots};
+use crate::proved::table::table::slots::place::place;
 use crate::proved::table::table::slots::{Directory, Slots};
 use crate::proved::table::table::stored::Stored;
 use crate::memory::alloc::Allocator;
@@ -27,15 +28,31 @@ fn any_meets<K: IntKey, X>(pairs: &[(Stored<K>, X)], target: usize, capacity: us
     )
 }
 
-/// Moves the pairs of lone slots to their slots among `capacity` slots, makes these shared, and
-/// puts one pair more behind those of its slot, which holds some. All memory is allocated before a
-/// pair moves. If an allocation fails, the value is returned, and no pair moves.
+/// Moves the pairs of all lone slots, slot after slot, to larger shared ones, each of which holds
+/// none and gets one at most.
+fn share_apart<K: IntKey, X, A: Allocator>(
+    bits: &mut Bits<A>,
+    shared: &mut [Slot<K, X, A>],
+    lone: &mut [Lone<K, X>],
+    old: &Directory<A>,
+    block: &mut Vec<(Stored<K>, X), A>,
+    placed: &mut Steps,
+) {
+    for index in old.bits.iter() {
+        let pair = lone[index].take();
+        let mut none = [];
+        place(bits, &mut none, shared, pair, true, block, placed);
+    }
+}
+
+/// Moves the pairs of lone slots to their slots among `capacity` shared ones, and puts one pair more
+/// at the end of its slot. All memory is allocated before a pair moves. If an allocation fails, the
+/// value is returned, and no pair moves.
 fn grow_shared<K: IntKey, X, A: Allocator + Copy>(
     lone: &mut Vec<Lone<K, X>, A>,
     shared: &mut Vec<Slot<K, X, A>, A>,
     directory: &mut Directory<A>,
     capacity: usize,
-    target: usize,
     pair: (Stored<K>, X),
     placed: &mut Steps,
 ) -> Result<(), X> {
@@ -43,19 +60,20 @@ fn grow_shared<K: IntKey, X, A: Allocator + Copy>(
     let Ok(mut block) = Vec::with_capacity(alloc, 1) else {
         return Err(pair.1);
     };
-    let Ok(mut made) = Vec::with_capacity(alloc, capacity) else {
+    let Ok(mut bits) = reserve_slots(shared, capacity) else {
         return Err(pair.1);
     };
-    let Ok(()) = grow_lone(lone, directory, capacity, placed) else {
-        return Err(pair.1);
+    add_slots(shared, capacity);
+    share_apart(&mut bits, shared, lone, directory, &mut block, placed);
+    let mut none = [];
+    place(
+        &mut bits, &mut none, shared, pair, false, &mut block, placed,
+    );
+    *lone = Vec::new(alloc);
+    *directory = Directory {
+        mask: capacity - 1,
+        bits,
     };
-    if !lone[target].is_filled() {
-        unreachable!();
-    }
-    share_each(lone, &mut made);
-    made[target].push_with(pair, &mut block);
-    *shared = made;
-    placed.tick();
     Ok(())
 }
 
@@ -73,15 +91,22 @@ impl<K: IntKey, X, A: Allocator + Copy> Slots<K, X, A> {
     fn grow_apart(
         &mut self,
         capacity: usize,
-        target: usize,
         pair: (Stored<K>, X),
         placed: &mut Steps,
     ) -> Result<(), X> {
         let Ok(()) = self.grow(capacity, true, placed) else {
             return Err(pair.1);
         };
-        self.put_first(target, pair);
-        placed.tick();
+        let mut block = Vec::new(self.allocator());
+        place(
+            &mut self.directory.bits,
+            &mut self.lone,
+            &mut self.shared,
+            pair,
+            true,
+            &mut block,
+            placed,
+        );
         Ok(())
     }
 
@@ -121,7 +146,7 @@ impl<K: IntKey, X, A: Allocator + Copy> Slots<K, X, A> {
     ) -> Result<(), X> {
         let target = index_of(pair.0.key(), capacity);
         if !self.meets(slot, target, capacity) {
-            return self.grow_apart(capacity, target, pair, placed);
+            return self.grow_apart(capacity, pair, placed);
         }
         if self.lone.is_empty() {
             return self.push_and_grow(capacity, slot, pair, placed);
@@ -131,7 +156,6 @@ impl<K: IntKey, X, A: Allocator + Copy> Slots<K, X, A> {
             &mut self.shared,
             &mut self.directory,
             capacity,
-            target,
             pair,
             placed,
         )

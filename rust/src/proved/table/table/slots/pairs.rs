@@ -52,7 +52,7 @@ impl<K: IntKey, X, A: Allocator> Slots<K, X, A> {
     pub(in crate::proved::table) fn put_back(&mut self, index: usize, pair: (Stored<K>, X)) {
         let was_filled = self.directory.bits.set(index);
         if index < self.lone.len() {
-            self.lone[index].put_back(pair);
+            self.lone[index].put(pair);
             return;
         }
         let slot = &mut self.shared[index];
@@ -93,16 +93,6 @@ impl<K: IntKey, X, A: Allocator> Slots<K, X, A> {
 }
 
 impl<K: IntKey, X, A: Allocator + Copy> Slots<K, X, A> {
-    /// Puts a pair into a slot that holds none. It allocates nothing.
-    pub(super) fn put_first(&mut self, index: usize, pair: (Stored<K>, X)) {
-        self.directory.bits.set(index);
-        if index < self.lone.len() {
-            self.lone[index].put(pair);
-        } else {
-            self.shared[index].put_first(pair);
-        }
-    }
-
     /// Makes room for one more pair in a slot, and allocates for exactly that. It returns whether
     /// it allocated.
     pub(in crate::proved::table) fn reserve_one(&mut self, index: usize) -> Result<bool, AllocError> {

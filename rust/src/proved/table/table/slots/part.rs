@@ -10,7 +10,7 @@ use crate::proved::table::table::index_of;
 use crate::proved::table::table::slots::Directory;
 use crate::proved::table::table::slots::grow::reserve_slots;
 use crate::proved::table::table::slots::grow_lone::add_lone;
-use crate::proved::table::table::stored::Stored;
+use crate::proved::table::table::slots::place::place;
 use crate::memory::alloc::{AllocError, Allocator};
 
 /// From so many slots on, a growth may part pairs. In fewer slots, pairs soon share one again.
@@ -50,42 +50,32 @@ pub(super) fn are_apart<K: IntKey, X, A: Allocator>(
     true
 }
 
-/// Puts a pair into its slot, which holds none, and counts it. The slot's bit is set.
-#[inline(always)]
-fn put<K: IntKey, X, A: Allocator>(
-    bits: &mut Bits<A>,
-    lone: &mut [Lone<K, X>],
-    pair: (Stored<K>, X),
-    placed: &mut Steps,
-) {
-    let index = index_of(pair.0.key(), lone.len());
-    bits.set(index);
-    lone[index].put_back(pair);
-    placed.tick();
-}
-
 /// Moves the pairs of a shared slot, in order, to their slots.
-fn put_slot<K: IntKey, X, A: Allocator>(
+fn put_slot<K: IntKey, X, A: Allocator + Copy>(
     bits: &mut Bits<A>,
     lone: &mut [Lone<K, X>],
     slot: &mut Slot<K, X, A>,
+    alloc: A,
     placed: &mut Steps,
 ) {
     while slot.is_filled() {
         let pair = slot.take_front();
-        put(bits, lone, pair, placed);
+        let mut none = [];
+        let mut block = Vec::new(alloc);
+        place(bits, lone, &mut none, pair, false, &mut block, placed);
     }
 }
 
 /// Moves the pairs of all shared slots, slot after slot, to their slots.
-fn put_all<K: IntKey, X, A: Allocator>(
+fn put_all<K: IntKey, X, A: Allocator + Copy>(
     bits: &mut Bits<A>,
     lone: &mut [Lone<K, X>],
     shared: &mut [Slot<K, X, A>],
+    alloc: A,
     placed: &mut Steps,
 ) {
     for index in 0..shared.len() {
-        put_slot(bits, lone, &mut shared[index], placed);
+        put_slot(bits, lone, &mut shared[index], alloc, placed);
     }
 }
 
@@ -99,10 +89,11 @@ pub(super) fn part<K: IntKey, X, A: Allocator + Copy>(
     capacity: usize,
     placed: &mut Steps,
 ) -> Result<(), AllocError> {
+    let alloc = *shared.allocator();
     let mut bits = reserve_slots(lone, capacity)?;
     add_lone(lone, capacity);
-    put_all(&mut bits, lone, shared, placed);
-    *shared = Vec::new(*shared.allocator());
+    put_all(&mut bits, lone, shared, alloc, placed);
+    *shared = Vec::new(alloc);
     *directory = Directory {
         mask: capacity - 1,
         bits,

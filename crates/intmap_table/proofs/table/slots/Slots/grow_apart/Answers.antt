@@ -1,30 +1,60 @@
-use Rattle.std.proofs.Common.{◌≡◌, ◌<◌, ◌∙◌, [], ◌∷◌, ◌++◌, sym, ap}
-use Rattle.intmap_table.specs.Tables.Slots.{rows, row_of, joined}
+use Rattle.std.proofs.Common.{◌≡◌, ◌⊎◌, ◌∙◌, [], ◌++◌, inl, inr, length, sym, ap}
+use Rattle.std.specs.Vec.{with_items}
+use Rattle.std.proofs.lemmas.List.{with_items_is, nil_from_length}
+use Rattle.intmap_table.specs.Tables.Slots.{rows, joined, AreMarked}
 use Rattle.intmap_table.specs.Tables.Moves.{IsMoved}
-use Rattle.intmap_table.proofs.SlotNumberLemmas.{slot_number-below}
-use Rattle.intmap_table.proofs.Tables.AddedLemmas.{IsMoved-from, IsMoved-added}
+use Rattle.intmap_table.proofs.Tables.AddedLemmas.{IsMoved-from}
+use Rattle.intmap_table.proofs.Tables.SharingLemmas.{AreFree-alone, CanPut-alone, IsMoved-put, AreMarked-put}
 use Rattle.intmap_table.proofs.table.slots.Slots.grow_apart.Goals as goal
-use Rattle.intmap_table.proofs.table.slots.Slots.grow_apart.Goals.{In-Ok}
+use Rattle.intmap_table.proofs.table.slots.Slots.grow_apart.Goals.{After-deref_mut-2, After-place}
 
-module _ (g : _) (c : In-Ok g) where
-  within : c.args.target < c.args.capacity
-  within = rw c.requires.slot (slot_number-below g.K.IntKey.number_of c.args.pair.0 _ c.requires.capacity)
+module _ (g : _) (c : After-deref_mut-2 g) where
+  -- the slots that are lent are those that have grown
+  lent : c.deref_mut.result.now ++ c.deref_mut-2.result.now ≡ c.self.inside.lone.items ++ c.self.inside.shared.items
+  lent = ap (λ M. M ++ c.deref_mut-2.result.now) c.deref_mut.ensures.value ∙ ap (λ M. c.self.inside.lone.items ++ M) c.deref_mut-2.ensures.value
 
-  moved : IsMoved g.K.IntKey.number_of (joined (rows c.args.self.now)) c.args.capacity c.grow.new.self
-  moved = IsMoved-from g.K.IntKey.number_of _ _ _ c.in-Ok.ensures.table c.in-Ok.ensures.walk c.in-Ok.ensures.len
+  moved : IsMoved g.K.IntKey.number_of (joined (rows c.args.self.now)) c.args.capacity (c.deref_mut.result.now ++ c.deref_mut-2.result.now)
+  moved = rw (lent, c.self.view_is) (IsMoved-from g.K.IntKey.number_of _ _ _ c.in-Ok.ensures.table c.in-Ok.ensures.walk c.in-Ok.ensures.len)
 
-  -- the slot of the new pair holds none
-  empty : row_of c.grow.new.self c.args.target ≡ []
-  empty = moved.rows _ within ∙ c.requires.alone
+  marks : AreMarked (rows (c.deref_mut.result.now ++ c.deref_mut-2.result.now)) c.self.inside.directory.bits
+  marks = rw lent c.self.invariant.directory.marks
 
-pub put_first-requires-clause-within : goal.put_first-requires-clause-within
-put_first-requires-clause-within g c = rw c.in-Ok.ensures.len (within g (goal.at.put_first-requires-clause-within g c).In-Ok)
+pub place-requires-clause-can : goal.place-requires-clause-can
+place-requires-clause-can g c =
+    let at = (goal.at.place-requires-clause-can g c).After-deref_mut-2 in
+    ([], CanPut-alone g.K.IntKey.number_of _ _ c.args.pair _ (moved g at) c.requires.alone _ _ (marks g at))
 
-pub put_first-requires-clause-empty : goal.put_first-requires-clause-empty
-put_first-requires-clause-empty g c = empty g (goal.at.put_first-requires-clause-empty g c).In-Ok
+pub place-requires-clause-alone : goal.place-requires-clause-alone
+place-requires-clause-alone g c = λ _.
+    AreFree-alone g.K.IntKey.number_of _ _ c.args.pair _ (moved g (goal.at.place-requires-clause-alone g c).After-deref_mut-2) c.requires.alone
+
+module _ (g : _) (c : After-place g) where
+  lone : (with_items c.self.inside.lone c.place.new.lone).items ≡ c.place.new.lone
+  lone = with_items_is c.self.inside.lone c.place.new.lone (c.place.ensures.lone ∙ c.deref_mut.ensures.len)
+
+  shared : (with_items c.self.inside.shared c.place.new.shared).items ≡ c.place.new.shared
+  shared = with_items_is c.self.inside.shared c.place.new.shared (c.place.ensures.shared ∙ c.deref_mut-2.ensures.len)
+
+  form : (c.place.new.lone ≡ []) ⊎ (c.place.new.shared ≡ [])
+  form = elim c.self.invariant.form [
+    | inl none ↦ inl (nil_from_length c.place.new.lone (c.place.ensures.lone ∙ ap length (c.deref_mut.ensures.value ∙ none)))
+    | inr none ↦ inr (nil_from_length c.place.new.shared (c.place.ensures.shared ∙ ap length (c.deref_mut-2.ensures.value ∙ none)))
+  ]
+
+pub invariant_of-self : goal.invariant_of-self
+invariant_of-self g c =
+    let at = goal.at.invariant_of-self g c in let lent = lent g at.After-deref_mut-2 in
+    let len = c.place.ensures.put.len ∙ ap length lent in let count = c.self.invariant.directory.count in
+    rw (lone g at.After-place, shared g at.After-place) (record {
+      directory = record {
+        marks = AreMarked-put g.K.IntKey.number_of _ _ c.args.pair _ (moved g at.After-deref_mut-2) _ _ _ _ _ c.place.ensures.put (marks g at.After-deref_mut-2);
+        count = count ∙ sym len;
+      };
+      form = form g at.After-place;
+    })
 
 pub returns-clause-moved : goal.returns-clause-moved
 returns-clause-moved g c =
-    let at = (goal.at.returns-clause-moved g c).In-Ok in
-    IsMoved-added g.K.IntKey.number_of _ _ _ c.args.pair _ _ (moved g at) (sym c.requires.slot)
-    (rw (sym (ap (λ R. R ++ c.args.pair ∷ []) (empty g at))) at c.put_first.ensures)
+    let at = goal.at.returns-clause-moved g c in
+    rw (lone g at.After-place, shared g at.After-place)
+    (IsMoved-put g.K.IntKey.number_of _ _ c.args.pair _ (moved g at.After-deref_mut-2) _ _ _ _ _ c.place.ensures.put)

@@ -4,7 +4,7 @@ use Rattle.std.proofs.lemmas.Result.{on_ok_weaker, on_err_weaker}
 use Rattle.intmap_table.specs.Classes.{slot_number}
 use Rattle.intmap_table.specs.Walk.{slot_of}
 use Rattle.intmap_table.specs.Tables.Slots.{rows, row_of, joined, IsTable, IsDirectory}
-use Rattle.intmap_table.proofs.Tables.AddedLemmas.{slot_of-any, need-any, slot_of-meeting}
+use Rattle.intmap_table.proofs.Tables.AddedLemmas.{slot_of-any, slot_of-meeting}
 use Rattle.intmap_table.proofs.Tables.FormLemmas.{lone-view, none-shared}
 use Rattle.intmap_table.proofs.Tables.GrownLemmas.{IsGrown-from}
 use Rattle.intmap_table.proofs.table.slots.Slots.grow_with.Goals as goal
@@ -22,7 +22,9 @@ module _ (g : _) (c : After-index_of-target g) where
 
 pub grow_apart-requires-clause-alone : goal.grow_apart-requires-clause-alone
 grow_apart-requires-clause-alone g c =
-    meeting g (goal.at.grow_apart-requires-clause-alone g c).After-index_of-target ∙ slot_of-any g.K.IntKey.number_of (row_of c.args.self.now c.args.slot) c.args.capacity c.index_of-target.result (sym c.meets.ensures ∙ c.if-not-meets.true)
+    let at = (goal.at.grow_apart-requires-clause-alone g c).After-index_of-target in
+    rw (← target g at)
+    (meeting g at ∙ slot_of-any g.K.IntKey.number_of (row_of c.args.self.now c.args.slot) c.args.capacity c.index_of-target.result (sym c.meets.ensures ∙ c.if-not-meets.true))
 
 -- lone slots
 module _ (g : _) (c : After-is_empty g) (some : c.is_empty.result ≡ false) where
@@ -46,11 +48,6 @@ pub grow_shared-requires-clause-directory : goal.grow_shared-requires-clause-dir
 grow_shared-requires-clause-directory g c =
     let lone = lone g (goal.at.grow_shared-requires-clause-directory g c).After-is_empty c.if-is_empty.false in
     subst (λ S. IsDirectory S c.self.inside.directory.bits c.self.inside.directory.mask) (c.self.view_is ∙ sym lone) c.self.invariant.directory
-
-pub grow_shared-requires-clause-meets : goal.grow_shared-requires-clause-meets
-grow_shared-requires-clause-meets g c =
-    let at = goal.at.grow_shared-requires-clause-meets g c in
-    rw (lone g at.After-is_empty c.if-is_empty.false, meeting g at.After-index_of-target) (need-any g.K.IntKey.number_of (row_of c.args.self.now c.args.slot) c.args.capacity c.index_of-target.result (sym c.meets.ensures ∙ c.if-not-meets.false))
 
 pub returns-clause-moved : goal.returns-clause-moved
 returns-clause-moved g c =

@@ -1,4 +1,4 @@
-use Rattle.std.proofs.Common.{◌≡◌, ◌<◌, ◌≤◌, ◌∙◌, List, [], ◌∷◌, ◌++◌, true, length, sym, ap, arith}
+use Rattle.std.proofs.Common.{inl, ◌≡◌, ◌<◌, ◌≤◌, ◌∙◌, List, [], ◌∷◌, ◌++◌, true, length, sym, ap, arith}
 use Rattle.std.specs.Prelude.{nat_lt, Result, Ok, Err, OnOk, OnErr}
 use Rattle.std.proofs.lemmas.Bool.{ltb-true}
 use Rattle.std.proofs.lemmas.Result.{IfOk-weaker, on_ok_weaker, on_err_weaker}
@@ -57,8 +57,8 @@ none g c =
 
 pub put-requires : goal.put-requires
 put-requires g c =
-    lone-row _ _ c.self.invariant.form c.args.index c.index_mut.result.now (omega (arith, c.if-index-len.true, c.len.ensures)) c.index_mut.ensures.value
-    ∙ none g (goal.at.put-requires g c).After-index_mut
+    inl (lone-row _ _ c.self.invariant.form c.args.index c.index_mut.result.now (omega (arith, c.if-index-len.true, c.len.ensures)) c.index_mut.ensures.value
+    ∙ none g (goal.at.put-requires g c).After-index_mut)
 
 pub invariant_of-self : goal.invariant_of-self
 invariant_of-self g c =

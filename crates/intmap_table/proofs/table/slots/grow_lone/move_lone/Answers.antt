@@ -1,9 +1,11 @@
-use Rattle.std.proofs.Common.{◌+◌, ◌<◌, ◌∙◌, ◌∷◌, length, set, sym, ap, length-set}
-use Rattle.intmap_table.specs.Classes.{slot_number}
+use Rattle.std.proofs.Common.{◌≡◌, ◌+◌, ◌<◌, ◌∙◌, ◌∷◌, [], append-nil, get_or, length, set}
+use Rattle.std.proofs.lemmas.List.{nil_from_length}
+use Rattle.intmap_table.specs.Tables.Slots.{Held}
+use Rattle.intmap_table.specs.Tables.Moves.{CanPut}
 use Rattle.intmap_table.proofs.Tables.CountLemmas.{offset-fits}
-use Rattle.intmap_table.proofs.Tables.ApartLemmas.{AreApart, CanPutApart, AreApart-start, IsMoved-apart, AreMarked-apart, counted-apart, within-apart, filled-apart, capacity-apart, CanPutApart-taken}
+use Rattle.intmap_table.proofs.Tables.ApartLemmas.{AreApart, AreApart-start, IsMoved-apart, AreMarked-apart, counted-apart, within-apart, filled-apart, CanPut-apart, AreApart-next}
 use Rattle.intmap_table.proofs.table.slots.grow_lone.move_lone.Goals as goal
-use Rattle.intmap_table.proofs.table.slots.grow_lone.move_lone.Goals.{In-Some, After-index_of-target}
+use Rattle.intmap_table.proofs.table.slots.grow_lone.move_lone.Goals.{In-Some}
 
 pub loop-index-init : goal.loop-index-init
 loop-index-init g c =
@@ -32,42 +34,25 @@ take-pair-requires g c =
     filled-apart _ _ _ _ c.requires.longer c.requires.bare _ _ _ _ _ _ (next g (goal.at.take-pair-requires g c).In-Some)
     c.index-lone-index.result
 
-pub index_of-target-requires : goal.index_of-target-requires
-index_of-target-requires g c =
-    capacity-apart _ _ _ _ c.requires.longer c.requires.bare _ _ _ _ _ _ (next g (goal.at.index_of-target-requires g c).In-Some)
-    c.take-pair.result c.take-pair.new.self c.index-lone-index.result c.take-pair.ensures.pairs c.take-pair.ensures.emptied
+-- its pair can be put into its own slot
+can : (g : _) (c : In-Some g) (p : g.row.K.Denot × g.row.X.Denot) (left : Held g.row.K.Denot g.row.X.Denot) (d : Held g.row.K.Denot g.row.X.Denot)
+    → (get_or c.loop-index.lone c.in-Some.index d).pairs ≡ p ∷ [] → left.pairs ≡ []
+    → CanPut g.K.IntKey.number_of (set c.loop-index.lone c.in-Some.index left) c.loop-index.bits (p ∷ []) 0
+can g c p left d row none = CanPut-apart _ _ _ _ c.requires.longer c.requires.bare _ _ _ _ _ _ (next g c) p left d row none
 
--- its pair can be put into the slot of its key
-taken : (g : _) (c : After-index_of-target g)
-    → AreApart g.K.IntKey.number_of c.args.lone.now (c.args.old.now.mask + 1) c.args.placed.now (c.in-Some.index ∷ c.next.new.self)
-    c.loop-index.bits c.loop-index.lone c.loop-index.placed
-    → CanPutApart g.K.IntKey.number_of c.args.lone.now (c.args.old.now.mask + 1) c.args.placed.now c.next.new.self c.loop-index.bits
-    (set c.loop-index.lone c.in-Some.index c.take-pair.new.self) c.loop-index.placed c.take-pair.result c.index_of-target.result
-taken g c next =
-    let slot = ap (λ k. slot_number g.K.IntKey.number_of k (length (set c.loop-index.lone c.in-Some.index c.take-pair.new.self)))
-    (sym c.key.ensures.value) ∙ sym c.index_of-target.ensures.slot in
-    CanPutApart-taken _ _ _ _ c.requires.longer c.requires.bare _ _ _ _ _ _ next
-    c.take-pair.result c.take-pair.new.self c.index-lone-index.result c.take-pair.ensures.pairs c.take-pair.ensures.emptied _ slot
-
-pub set-requires : goal.set-requires
-set-requires g c = let at = goal.at.set-requires g c in (taken g at.After-index_of-target (next g at.In-Some)).words
-
-pub offset_bounds-lone-target : goal.offset_bounds-lone-target
-offset_bounds-lone-target g c = record {
-  fits = offset-fits _ _ _
-      (rw (length-set c.loop-index.lone c.in-Some.index c.take-pair.new.self, c.loop-index.auto.lone) at c.index_of-target.ensures.within)
-      c.well_formed.1.0.1;
-}
-
-pub put-requires : goal.put-requires
-put-requires g c =
-    let at = goal.at.put-requires g c in (taken g at.After-index_of-target (next g at.In-Some)).free c.index-lone-target.result
+pub place-requires-clause-can : goal.place-requires-clause-can
+place-requires-clause-can g c = (
+  [],
+  rw (append-nil (set c.loop-index.lone c.in-Some.index c.take-pair.new.self), c.new-block.ensures.capacity)
+      (can g (goal.at.place-requires-clause-can g c).In-Some _ _ c.index-lone-index.result c.take-pair.ensures.pairs c.take-pair.ensures.emptied),
+)
 
 pub loop-index-preserved : goal.loop-index-preserved
 loop-index-preserved g c =
-    let at = goal.at.loop-index-preserved g c in
-    rw (c.set.ensures.marks, c.tick.ensures)
-    ((taken g at.After-index_of-target (next g at.In-Some)).next c.put.new.self c.put.ensures.pairs)
+    let end = c.place.new in let none = nil_from_length end.shared c.place.ensures.shared in
+    AreApart-next _ _ _ _ c.requires.longer c.requires.bare _ _ _ _ _ _ (next g (goal.at.loop-index-preserved g c).In-Some)
+    c.take-pair.result c.take-pair.new.self c.index-lone-index.result c.take-pair.ensures.pairs c.take-pair.ensures.emptied end.lone end.bits end.placed
+    (rw (append-nil (set c.loop-index.lone c.in-Some.index c.take-pair.new.self), none, append-nil end.lone) at c.place.ensures.put)
 
 pub returns-clause-moved : goal.returns-clause-moved
 returns-clause-moved g c =

@@ -3,8 +3,8 @@ use Rattle.intmap_table.specs.Tables.Moves.{ArePut, CanPut}
 use Rattle.intmap_table.proofs.table.slots.part.put_slot.Given as goal
 
 -- the pairs so far are put, and the others can be
-abbrev pub invariant-loop-slot : goal.invariant-loop-slot
-invariant-loop-slot g l = record {
+abbrev pub invariant-loop-alloc : goal.invariant-loop-alloc
+invariant-loop-alloc g l = record {
   done : List (g.row.K.Denot × g.row.X.Denot);
   all : done ++ l.slot.pairs ≡ l.fn.slot.pairs;
   put : ArePut g.K.IntKey.number_of l.fn.lone l.fn.bits l.fn.placed done l.lone l.bits l.placed;
@@ -12,5 +12,5 @@ invariant-loop-slot g l = record {
       → CanPut g.K.IntKey.number_of l.lone l.bits (l.slot.pairs ++ rest) 0;
 }
 
-abbrev pub decreases-loop-slot : goal.decreases-loop-slot
-decreases-loop-slot g l = length l.slot.pairs
+abbrev pub decreases-loop-alloc : goal.decreases-loop-alloc
+decreases-loop-alloc g l = length l.slot.pairs

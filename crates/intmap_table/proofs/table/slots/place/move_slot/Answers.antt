@@ -1,5 +1,5 @@
 use Rattle.std.proofs.Common.{◌≡◌, ◌<◌, ◌∙◌, [], ◌∷◌, length, get_or, set, ap, arith, length-set}
-use Rattle.std.proofs.lemmas.List.{set-get_or, map-set}
+use Rattle.std.proofs.lemmas.List.{set-get_or, map-set, nil_from_length}
 use Rattle.intmap_table.specs.Tables.Slots.{Held, rows}
 use Rattle.intmap_table.specs.Tables.Moves.{AreFree}
 use Rattle.intmap_table.proofs.Tables.CountLemmas.{offset-fits}
@@ -30,7 +30,7 @@ pub place-requires-clause-can : goal.place-requires-clause-can
 place-requires-clause-can g c =
     let at = (goal.at.place-requires-clause-can g c).In-Some in let left = c.take_lone.new.self in let none = c.in-Some.ensures.emptied in
     let can = rw (row g at) at c.requires.ready.can in
-    ([], CanPut-lone g.K.IntKey.number_of c.args.slots.now c.args.index left c.in-Some.lone _ _ _ none c.take_lone.ensures.some_room (free g at) can)
+    ([], CanPut-lone g.K.IntKey.number_of c.args.slots.now c.args.index left c.in-Some.lone _ _ _ none (free g at) can)
 
 pub place-requires-clause-alone : goal.place-requires-clause-alone
 place-requires-clause-alone g c = λ _.
@@ -42,7 +42,7 @@ pub returns-in-Some-clause-moved : goal.returns-in-Some-clause-moved
 returns-in-Some-clause-moved g c = record {
   left = c.take_lone.new.self;
   none = c.in-Some.ensures.emptied;
-  put = rw (row g (goal.at.returns-in-Some-clause-moved g c).In-Some) c.place.ensures.put;
+  put = rw (row g (goal.at.returns-in-Some-clause-moved g c).In-Some) (rw (nil_from_length c.place.new.lone c.place.ensures.lone) at c.place.ensures.put);
 }
 
 pub move_several-requires-clause-several : goal.move_several-requires-clause-several
