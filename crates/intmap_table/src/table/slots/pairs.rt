@@ -7,7 +7,7 @@ ghost use Rattle.intmap_table.specs.Tables.Slots.{rows, row_of, IsRowSet};
 use crate::key::IntKey;
 use crate::table::slots::{Slots, unmark_unless};
 use crate::table::stored::Stored;
-use std::alloc::{AllocError, Allocator};
+use std::alloc::Allocator;
 use std::vec::IntoIter;
 
 impl<K: IntKey, X: Drop, A: Allocator + Copy> Slots<K, X, A> {
@@ -137,30 +137,6 @@ impl<K: IntKey, X, A: Allocator> Slots<K, X, A> {
         let first = slot.take_front();
         unmark_unless(&mut self.directory.bits, slot.is_filled(), index);
         first
-    }
-}
-
-impl<K: IntKey, X: Drop, A: Allocator + Copy> Slots<K, X, A> {
-    /// Makes room for one more pair in a slot, and allocates for exactly that. It returns whether
-    /// it allocated.
-    pub(crate) fn reserve_one(&mut self, index: usize) -> Result<bool, AllocError>
-        requires { index < length self.old }
-        ensures { rows self.new ≡ rows self.old }
-    {
-        if index < self.lone.len() {
-            return Ok(false);
-        }
-        self.shared[index].reserve_one()
-    }
-
-    /// Gives back the room of a slot that no pair needs.
-    pub(crate) fn shrink(&mut self, index: usize)
-        requires { index < length self.old }
-        ensures { rows self.new ≡ rows self.old }
-    {
-        if index >= self.lone.len() {
-            self.shared[index].shrink();
-        }
     }
 }
 

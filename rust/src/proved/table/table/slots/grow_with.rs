@@ -120,15 +120,9 @@ impl<K: IntKey, X, A: Allocator + Copy> Slots<K, X, A> {
         placed: &mut Steps,
     ) -> Result<(), X> {
         let (key, value) = pair;
-        let Ok(is_made) = self.reserve_one(slot) else {
-            return Err(value);
-        };
         let place = self.push(slot, key, value)?;
         let Ok(()) = self.grow(capacity, false, placed) else {
             let (_, value) = self.take_at(slot, place);
-            if is_made {
-                self.shrink(slot);
-            }
             return Err(value);
         };
         Ok(())

@@ -4,7 +4,7 @@ use crate::memory::prelude::*;
 use crate::proved::table::key::IntKey;
 use crate::proved::table::table::slots::{Slots, unmark_unless};
 use crate::proved::table::table::stored::Stored;
-use crate::memory::alloc::{AllocError, Allocator};
+use crate::memory::alloc::Allocator;
 use crate::memory::vec::IntoIter;
 
 impl<K: IntKey, X, A: Allocator + Copy> Slots<K, X, A> {
@@ -89,24 +89,6 @@ impl<K: IntKey, X, A: Allocator> Slots<K, X, A> {
         let first = slot.take_front();
         unmark_unless(&mut self.directory.bits, slot.is_filled(), index);
         first
-    }
-}
-
-impl<K: IntKey, X, A: Allocator + Copy> Slots<K, X, A> {
-    /// Makes room for one more pair in a slot, and allocates for exactly that. It returns whether
-    /// it allocated.
-    pub(in crate::proved::table) fn reserve_one(&mut self, index: usize) -> Result<bool, AllocError> {
-        if index < self.lone.len() {
-            return Ok(false);
-        }
-        self.shared[index].reserve_one()
-    }
-
-    /// Gives back the room of a slot that no pair needs.
-    pub(in crate::proved::table) fn shrink(&mut self, index: usize) {
-        if index >= self.lone.len() {
-            self.shared[index].shrink();
-        }
     }
 }
 
