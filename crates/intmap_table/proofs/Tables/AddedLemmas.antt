@@ -7,12 +7,11 @@ use Rattle.std.proofs.Math.Seq.{get_or-append_seam}
 use Rattle.std.proofs.lemmas.List.{length_push, set-set, set-get_or, map-set}
 use Rattle.std.proofs.lemmas.List.Elements.{filter-append}
 use Rattle.intmap_table.specs.Classes.{slot_number}
-use Rattle.intmap_table.specs.Walk.{slot_of, walk_of}
+use Rattle.intmap_table.specs.Walk.{slot_of}
 use Rattle.intmap_table.specs.Tables.Slots.{Held, rows, row_of, joined, IsTable, IsRowSet}
 use Rattle.intmap_table.specs.Tables.Moves.{IsGrown, IsMoved}
-use Rattle.intmap_table.proofs.WalkLemmas.{slot_of-walk_of}
 use Rattle.intmap_table.proofs.Tables.GrownLemmas.{slot_of-old, slot_number-grown}
-use Rattle.intmap_table.proofs.Tables.TableLemmas.{IsSlot, length-rows, length-row_set, row-set, row-set_other, slot_of-joined, Belong-push, Belong-here, IsTable-set, within}
+use Rattle.intmap_table.proofs.Tables.TableLemmas.{IsSlot, length-rows, length-row_set, row-set, row-set_other, Belong-push, Belong-here, IsTable-set, within}
 
 module _ {P : Type 0} where
   -- the last of several elements is removed again
@@ -25,14 +24,6 @@ module _ {K X : Type 0} (number : K → ℕ) where
   pub slot_of-any : (L : List (K × X)) (D j : ℕ) → list_any (λ p. slot_number number p.0 D == j) L ≡ false → slot_of number L D j ≡ []
   slot_of-any [] D j none = refl
   slot_of-any (p ∷ L) D j none = let rest = slot_of-any L D j in grind (arith, rest, none)
-
-  -- pairs are moved if the slots are a table with their walk
-  pub IsMoved-from : (L : List (K × X)) (C : ℕ) (T : List (Held K X)) → IsTable number T → joined (rows T) ≡ walk_of number L C → length T ≡ C → IsMoved number L C T
-  IsMoved-from L C T table walk len = record {
-    capacity = rw len at table.capacity;
-    len = len;
-    rows = λ j below. sym (rw (len, walk) at (slot_of-joined number T table j)) ∙ slot_of-walk_of number C L j below;
-  }
 
   module _ (S : List (Held K X)) (D i : ℕ) (p : K × X) (table : IsTable number S) (grown : IsGrown (length S) D) (at : i ≡ slot_number number p.0 (length S)) where
     -- of all pairs, those of one old slot alone go to the new slot of a key of that slot

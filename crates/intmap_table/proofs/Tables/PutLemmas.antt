@@ -137,11 +137,11 @@ module _ {K X : Type 0} (number : K → ℕ) where
         counted = let a = first.counted in let b = more.counted in omega (arith, a, b, length-append L M);
       }
 
-  -- a lone pair can be put into a slot that holds none without a block, whatever the slot has that it was removed from
-  pub CanPut-lone : (S : List (Held K X)) (i : ℕ) (h : Held K X) (p : K × X) (marks : List Bool) (given block : ℕ) → h.pairs ≡ []
+  -- the only pair of a slot can be put into one that holds none without a block, whatever the slot has that it was removed from
+  pub CanPut-only : (S : List (Held K X)) (i : ℕ) (h : Held K X) (p : K × X) (marks : List Bool) (given block : ℕ) → h.pairs ≡ []
       → AreFree number (set (rows S) i []) (p ∷ []) (length S) → CanPut number (set S i bare_slot) marks (p ∷ []) given
       → CanPut number (set S i h) marks (p ∷ []) block
-  CanPut-lone S i h p marks given block none free can =
+  CanPut-only S i h p marks given block none free can =
       let n = length-set S i h in let m = length-set S i bare_slot in
       let row : (s : Held K X) → rows (set S i s) ≡ set (rows S) i s.pairs = λ s. map-set (λ (t : Held K X). t.pairs) S i s in
       record {

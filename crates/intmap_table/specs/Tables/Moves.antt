@@ -3,7 +3,7 @@ use Rattle.std.specs.Prelude.{◌≡◌, ◌≢◌, ◌⊎◌, ◌||◌, ◌==�
 use Rattle.intmap_table.specs.Classes.{IsCapacity, slot_number}
 use Rattle.intmap_table.specs.Walk.{slot_of}
 use Rattle.intmap_table.specs.Tables.Bits.{marked}
-use Rattle.intmap_table.specs.Tables.Slots.{Held, rows, AreMarked}
+use Rattle.intmap_table.specs.Tables.Slots.{Held, rows, AreMarked, IsTable}
 
 -- how many pairs each slot has room for
 abbrev pub rooms : {K X : Type 0} → List (Held K X) → List ℕ
@@ -71,10 +71,11 @@ module _ {K X : Type 0} (number : K → ℕ) where
         ⊎ ((j ≡ x) × (get_or (rooms S) j 0 ≡ 1) × (length (get_or (rows S) j []) + need L (length S) j ≤ 1 + block))
 
   -- with these rooms, the pairs of old slot k can leave it: each of its parts has room for all that it gets, except part x, which may have no block and takes that of the old slot
+  -- a part that gets one pair alone needs no room
   pub record CanLeave (r : List ℕ) (L : List (K × X)) (C D k : ℕ) : Type 0 where
-    pub fits : length L ≤ get_or r k 0
+    pub fits : (length L ≤ 1) ⊎ (length L ≤ get_or r k 0)
     pub x : ℕ
-    pub room : (j : ℕ) → j < D → j % C ≡ k → (need L D j ≤ room_without r k j) ⊎ ((j ≡ x) × (room_without r k j ≡ 1))
+    pub room : (j : ℕ) → j < D → j % C ≡ k → (need L D j ≤ 1) ⊎ (need L D j ≤ room_without r k j) ⊎ ((j ≡ x) × (room_without r k j ≡ 1))
 
   -- the pairs of the first C slots can move on: the others hold none, and each of these can be left, and has at most so many behind its first
   pub record CanMoveOn (marks : List Bool) (C longest : ℕ) (S : List (Held K X)) : Type 0 where
@@ -88,6 +89,17 @@ module _ {K X : Type 0} (number : K → ℕ) where
     pub capacity : IsCapacity C
     pub len : length S ≡ C
     pub rows : (j : ℕ) → j < C → get_or (rows S) j [] ≡ slot_of number L C j
+
+  -- a table that may grow to D slots
+  pub record CanGrow (S : List (Held K X)) (D : ℕ) : Type 0 where
+    pub table : IsTable number S
+    pub capacity : IsCapacity D
+    pub larger : length S ≤ D
+
+  -- the pairs of L have moved to D slots, and each of them was counted
+  pub record HasGrown (L : List (K × X)) (D : ℕ) (S : List (Held K X)) (n n' : ℕ) : Type 0 where
+    pub moved : IsMoved L D S
+    pub counted : n' ≡ n + length L
 
   -- in none of the rows of the slots of D that these pairs go to is a pair
   abbrev pub AreFree : List (List (K × X)) → List (K × X) → ℕ → Type 0

@@ -51,8 +51,8 @@ impl<K: IntKey, X: Drop, A: Allocator + Copy> Slot<K, X, A> {
         ensures pairs { self.old.pairs ≡ result ∷ into_iter_items rest.new }
         ensures emptied { self.new.pairs ≡ [] }
     {
-        if let Some(lone) = self.take_lone() {
-            return lone;
+        if let Some(pair) = self.take_only() {
+            return pair;
         }
         let alloc = *self.rest.allocator();
         *rest = mem::replace(&mut self.rest, Vec::new(alloc)).into_iter();

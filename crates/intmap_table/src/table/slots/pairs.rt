@@ -58,9 +58,9 @@ impl<K: IntKey, X, A: Allocator> Slots<K, X, A> {
             return pair;
         }
         let slot = &mut self.shared[index];
-        if let Some(lone) = slot.take_lone() {
+        if let Some(pair) = slot.take_only() {
             self.directory.bits.clear_in(word, index);
-            return lone;
+            return pair;
         }
         slot.take_at(place)
     }

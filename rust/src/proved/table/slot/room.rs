@@ -31,8 +31,8 @@ impl<K: IntKey, X, A: Allocator + Copy> Slot<K, X, A> {
     /// with their block. No pair moves.
     #[inline(always)]
     pub(in crate::proved::table) fn take_all(&mut self, rest: &mut IntoIter<(Stored<K>, X), A>) -> (Stored<K>, X) {
-        if let Some(lone) = self.take_lone() {
-            return lone;
+        if let Some(pair) = self.take_only() {
+            return pair;
         }
         let alloc = *self.rest.allocator();
         *rest = mem::replace(&mut self.rest, Vec::new(alloc)).into_iter();

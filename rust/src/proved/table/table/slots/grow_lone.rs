@@ -12,7 +12,7 @@ use crate::memory::alloc::{AllocError, Allocator};
 use core::mem;
 
 /// Moves the pairs of all old slots to their slots, each of which gets one at most.
-fn move_lone<K: IntKey, X, A: Allocator + Copy>(
+fn move_lone_slots<K: IntKey, X, A: Allocator + Copy>(
     bits: &mut Bits<A>,
     lone: &mut [Lone<K, X>],
     old: &Directory<A>,
@@ -53,7 +53,7 @@ pub(super) fn grow_lone<K: IntKey, X, A: Allocator + Copy>(
     let alloc = *lone.allocator();
     let mut bits = reserve_slots(lone, capacity)?;
     add_lone(lone, capacity);
-    move_lone(&mut bits, lone, directory, alloc, placed);
+    move_lone_slots(&mut bits, lone, directory, alloc, placed);
     *directory = Directory {
         mask: capacity - 1,
         bits,

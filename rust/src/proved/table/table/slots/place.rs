@@ -73,25 +73,25 @@ fn move_several<K: IntKey, X, A: Allocator + Copy>(
 /// Moves the pairs of an old slot, in order, to the ends of their slots. If the slot holds a single
 /// pair, it may keep its block.
 #[inline(always)]
-fn move_slot<K: IntKey, X, A: Allocator + Copy>(
+fn move_shared_slot<K: IntKey, X, A: Allocator + Copy>(
     bits: &mut Bits<A>,
     slots: &mut [Slot<K, X, A>],
     index: usize,
     buffer: &mut Vec<(Stored<K>, X), A>,
     placed: &mut Steps,
 ) {
-    if let Some(lone) = slots[index].take_lone() {
+    if let Some(pair) = slots[index].take_only() {
         // its new slot holds no pair, so it needs no memory here
         let mut block = Vec::new(*buffer.allocator());
         let mut none = [];
-        place(bits, &mut none, slots, lone, true, &mut block, placed);
+        place(bits, &mut none, slots, pair, true, &mut block, placed);
         return;
     }
     move_several(bits, slots, index, buffer, placed);
 }
 
 /// Moves the pairs of all old slots, slot after slot, to the ends of their slots.
-pub(super) fn move_all<K: IntKey, X, A: Allocator + Copy>(
+pub(super) fn move_shared_slots<K: IntKey, X, A: Allocator + Copy>(
     bits: &mut Bits<A>,
     slots: &mut [Slot<K, X, A>],
     old: &Directory<A>,
@@ -99,6 +99,6 @@ pub(super) fn move_all<K: IntKey, X, A: Allocator + Copy>(
     placed: &mut Steps,
 ) {
     for index in old.bits.iter() {
-        move_slot(bits, slots, index, buffer, placed);
+        move_shared_slot(bits, slots, index, buffer, placed);
     }
 }

@@ -4,7 +4,7 @@ use Rattle.std.proofs.lemmas.Bool.{ltb-true}
 use Rattle.std.proofs.lemmas.Result.{IfOk-weaker, on_ok_weaker, on_err_weaker}
 use Rattle.intmap_table.specs.Tables.Slots.{row_of}
 use Rattle.intmap_table.proofs.Tables.FilledLemmas.{filled-pushed}
-use Rattle.intmap_table.proofs.Tables.FormLemmas.{lone-row, shared-row, shared_set-rows, AreSlots-lone_set, AreSlots-shared_set, IsRowSet-lone, IsRowSet-shared}
+use Rattle.intmap_table.proofs.Tables.FormLemmas.{lone-row, shared-row, shared_set-rows, AreSlots-lone_filled, AreSlots-shared_set, IsRowSet-lone, IsRowSet-shared}
 use Rattle.intmap_table.proofs.Tables.MarkedLemmas.{row-none}
 use Rattle.intmap_table.proofs.table.slots.Slots.push.Goals as goal
 use Rattle.intmap_table.proofs.table.slots.Slots.push.Goals.{After-is_filled, After-index_mut, After-set-2}
@@ -63,7 +63,7 @@ put-requires g c =
 pub invariant_of-self : goal.invariant_of-self
 invariant_of-self g c =
     rw c.set.ensures.marks
-    (AreSlots-lone_set _ _ c.self.invariant c.args.index c.put.new.self (omega (arith, c.if-index-len.true, c.len.ensures)) true (ap (λ ps. nat_lt 0 (length ps)) (sym c.put.ensures.pairs)))
+    (AreSlots-lone_filled _ _ c.self.invariant c.args.index c.put.new.self (omega (arith, c.if-index-len.true, c.len.ensures)) _ c.put.ensures.pairs)
 
 pub returns-then-index-len-clause-place : goal.returns-then-index-len-clause-place
 returns-then-index-len-clause-place g c =

@@ -3,7 +3,7 @@ use Rattle.std.specs.Prelude.{nat_lt}
 use Rattle.intmap_table.specs.Tables.Slots.{row_of}
 use Rattle.intmap_table.specs.Tables.Moves.{rooms}
 use Rattle.intmap_table.proofs.Tables.FilledLemmas.{filled-pushed}
-use Rattle.intmap_table.proofs.Tables.FormLemmas.{lone-row, lone-room, shared-row, AreSlots-lone_set, AreSlots-shared_set, IsRowSet-lone, IsRowSet-shared}
+use Rattle.intmap_table.proofs.Tables.FormLemmas.{lone-row, lone-room, shared-row, AreSlots-lone_filled, AreSlots-shared_set, IsRowSet-lone, IsRowSet-shared}
 use Rattle.intmap_table.proofs.table.slots.Slots.put_back.Goals as goal
 use Rattle.intmap_table.proofs.table.slots.Slots.put_back.Goals.{After-index_mut, After-index_mut-slot}
 
@@ -29,7 +29,7 @@ put-requires g c =
 pub invariant_of-self : goal.invariant_of-self
 invariant_of-self g c =
     rw c.set-was_filled.ensures.marks
-    (AreSlots-lone_set _ _ c.self.invariant c.args.index c.put.new.self (omega (arith, c.if-index-len.true, c.len.ensures)) true (ap (λ ps. nat_lt 0 (length ps)) (sym c.put.ensures.pairs)))
+    (AreSlots-lone_filled _ _ c.self.invariant c.args.index c.put.new.self (omega (arith, c.if-index-len.true, c.len.ensures)) _ c.put.ensures.pairs)
 
 pub returns-then-index-len : goal.returns-then-index-len
 returns-then-index-len g c =

@@ -36,7 +36,7 @@ pub invariant_of-self : goal.invariant_of-self
 invariant_of-self g c =
     let at = (goal.at.invariant_of-self g c).After-retain in let few = length-Retains (KeepsAt g.F.FnMut) _ _ _ _ (lone g at) in
     rw (c.unmark_unless.ensures, c.is_filled.ensures.filled)
-    (AreSlots-lone_changed _ _ c.self.invariant c.args.index c.retain.new.self (below g at) (λ some. omega (arith, some, few)))
+    (AreSlots-lone_changed _ _ c.self.invariant c.args.index c.retain.new.self (below g at) few)
 
 pub returns-then-index-len : goal.returns-then-index-len
 returns-then-index-len g c =
