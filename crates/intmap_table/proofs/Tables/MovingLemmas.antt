@@ -15,9 +15,9 @@ use Rattle.intmap_table.proofs.SlotNumberLemmas.{slot_number-below, capacity-pos
 use Rattle.intmap_table.proofs.Tables.TableLemmas.{length-rows, room-set_other, walk_of-rows}
 use Rattle.intmap_table.proofs.Tables.MarkedLemmas.{get_or-of_default}
 use Rattle.intmap_table.proofs.Tables.FilledLemmas.{pairs_at-marked}
-use Rattle.intmap_table.proofs.Tables.GrownLemmas.{modulo-below, grown-more, filter_none, slot_of-apart, slot_of-old, part-of}
+use Rattle.intmap_table.proofs.Tables.GrownLemmas.{modulo-below, grown-more, filter_none, slot_of-elsewhere, slot_of-old, part-of}
 use Rattle.intmap_table.proofs.Tables.LeftLemmas.{AreSplit, AreSplit-marked, AreSplit-next, first-left, row-old, own-row}
-use Rattle.intmap_table.proofs.Tables.PartsLemmas.{joined-before}
+use Rattle.intmap_table.proofs.Tables.AroundLemmas.{joined-before}
 use Rattle.intmap_table.proofs.Tables.RoomLemmas.{CanLeave-same, CanLeave-few, need-most, room-emptied}
 
 -- an old slot whose pairs have not moved: they can leave it, and no part of it is marked
@@ -175,7 +175,7 @@ module _ {K X : Type 0} (number : K → ℕ) (S₀ : List (Held K X)) (old : Lis
       -- what the parts of another old slot hold, their rooms and their marks are as they were
       module _ (k j : ℕ) (apart : k ≢ index) (part : j % C ≡ k) where
         other : slot_of number (row index) D j ≡ []
-        other = slot_of-apart number C D longer.grown (row index) index j (own index here.old) (λ q. apart (sym part ∙ q))
+        other = slot_of-elsewhere number C D longer.grown (row index) index j (own index here.old) (λ q. apart (sym part ∙ q))
 
         not-index : j ≢ index
         not-index q = apart (sym part ∙ ap (λ n. n % C) q ∙ modulo-below C index here.old)

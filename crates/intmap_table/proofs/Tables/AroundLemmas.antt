@@ -1,4 +1,4 @@
--- The pairs of a table in parts: those before a slot, those of the slot, and those behind it.
+-- The pairs of a table around a slot: those before it, its own, and those behind it.
 use Rattle.std.proofs.Common.{◌≡◌, ℕ, zero, suc, ◌+◌, ◌<◌, ◌≤◌, List, [], ◌∷◌, ◌++◌, length, get_or, set, take, drop, refl, sym, ap, ◌∙◌, arith, append-nil, append_assoc, length-append}
 use Rattle.std.specs.List.{FoldsTo}
 use Rattle.std.proofs.lemmas.List.{append_cancel_left, drop-set-lt, get_or-drop, map-set, take-append-drop, take-set-le}
@@ -19,15 +19,15 @@ module _ {P : Type 0} where
   pub joined-taken : (i : ℕ) (R : List (List P)) → joined (take (i + 1) R) ≡ joined (take i R) ++ get_or R i []
   joined-taken i R = let one : i + 1 ≡ suc i = omega arith in ap (λ n. joined (take n R)) one ∙ joined-take i R
 
-  pub joined-parts : (i : ℕ) (R : List (List P)) → joined R ≡ joined (take i R) ++ (get_or R i [] ++ joined (drop (i + 1) R))
-  joined-parts i R =
+  pub joined-around : (i : ℕ) (R : List (List P)) → joined R ≡ joined (take i R) ++ (get_or R i [] ++ joined (drop (i + 1) R))
+  joined-around i R =
       joined-cut (i + 1) R ∙ ap (λ Z. Z ++ joined (drop (i + 1) R)) (joined-taken i R)
       ∙ append_assoc (joined (take i R)) (get_or R i []) (joined (drop (i + 1) R))
 
-  pub length-parts : (i : ℕ) (R : List (List P))
+  pub length-around : (i : ℕ) (R : List (List P))
       → length (joined R) ≡ length (joined (take i R)) + (length (get_or R i []) + length (joined (drop (i + 1) R)))
-  length-parts i R =
-      ap length (joined-parts i R) ∙ length-append (joined (take i R)) (get_or R i [] ++ joined (drop (i + 1) R))
+  length-around i R =
+      ap length (joined-around i R) ∙ length-append (joined (take i R)) (get_or R i [] ++ joined (drop (i + 1) R))
       ∙ ap (λ n. length (joined (take i R)) + n) (length-append (get_or R i []) (joined (drop (i + 1) R)))
 
   -- rows without pairs are passed over
@@ -57,7 +57,7 @@ module _ {P : Type 0} (R : List (List P)) (from i : ℕ) (next : IsNextRow R fro
   pub next-left : joined (drop from R) ≡ get_or R i [] ++ joined (drop (i + 1) R)
   next-left =
       append_cancel_left (joined (take from R)) _ _
-      (sym (joined-cut from R) ∙ joined-parts i R ∙ ap (λ Z. Z ++ (get_or R i [] ++ joined (drop (i + 1) R))) next-taken)
+      (sym (joined-cut from R) ∙ joined-around i R ∙ ap (λ Z. Z ++ (get_or R i [] ++ joined (drop (i + 1) R))) next-taken)
 
 -- the slots with another row of slot i
 module _ {K X : Type 0} (S : List (Held K X)) (i : ℕ) (row : List (K × X)) (T : List (Held K X)) (below : i < length S) (is : IsRowSet S i row T) where
