@@ -54,7 +54,6 @@ impl<K: IntKey, X> Lone<K, X> {
     #[inline(always)]
     pub(crate) fn is_filled(&self) -> bool
         ensures filled { result ≡ nat_lt 0 (length self.now.pairs) }
-        ensures few { length self.now.pairs ≤ 1 }
         ensures room { self.now.room ≡ 1 }
     {
         self.pair.is_some()

@@ -138,26 +138,42 @@ module _ {K X : Type 0} (L S : List (Held K X)) {bits : List Bool} {mask : ℕ} 
     pub shared_set-leaves_room : length h.pairs < h.room → length (row_of (L ++ set S i h) i) < get_or (rooms (L ++ set S i h)) i 0
     shared_set-leaves_room room = rw (shared-set L S are.form i h past within, row-set (L ++ S) i h within, room-set (L ++ S) i h within) room
 
--- slots V of either form: if some are lone, these are all of them, and if none is, the shared ones are
-module _ {K X : Type 0} (L S V : List (Held K X)) (view : L ++ S ≡ V) where
-  pub lone-view : S ≡ [] → L ≡ V
-  lone-view none = sym (append-nil L) ∙ ap (λ M. L ++ M) (sym none) ∙ view
+-- slots V of either form: some are lone, so these are all of them
+pub record AreLone {K X : Type 0} (L S V : List (Held K X)) (bits : List Bool) (mask : ℕ) : Type 0 where
+  pub none : S ≡ []
+  pub all : L ≡ V
+  pub directory : IsDirectory L bits mask
+  pub few : (i : ℕ) → length (row_of L i) ≤ 1
 
-  pub shared-view : L ≡ [] → S ≡ V
-  shared-view none = ap (λ M. M ++ S) (sym none) ∙ view
+-- or none is, so the shared ones are
+pub record AreShared {K X : Type 0} (L S V : List (Held K X)) (bits : List Bool) (mask : ℕ) : Type 0 where
+  pub none : L ≡ []
+  pub all : S ≡ V
+  pub directory : IsDirectory S bits mask
 
-  -- where some are lone, none is shared
-  pub none-shared : (L ≡ []) ⊎ (S ≡ []) → 0 < length L → S ≡ []
-  none-shared form some = elim form [
-    | inl none ↦ absurd (let zero = ap length none in omega (arith, some, zero))
-    | inr none ↦ none
-  ]
+module _ {K X : Type 0} (L S V : List (Held K X)) (view : L ++ S ≡ V) {bits : List Bool} {mask : ℕ} (are : AreSlots L S bits mask) where
+  pub AreLone-some : 0 < length L → AreLone L S V bits mask
+  AreLone-some some =
+      let none : S ≡ [] = elim are.form [
+        | inl none ↦ absurd (let zero = ap length none in omega (arith, some, zero))
+        | inr none ↦ none
+      ] in
+      let same : L ++ S ≡ L = ap (λ M. L ++ M) none ∙ append-nil L in
+      record {
+        none = none;
+        all = sym same ∙ view;
+        directory = subst (λ T. IsDirectory T bits mask) same are.directory;
+        few = λ i.
+            let past = get_or_past (rows L) i [] in let n = length-rows L in let few = are.few i in let row = ap (λ T. length (row_of T i)) same in
+            grind (arith, nat_tests, past, n, few, row);
+      }
 
-  -- then each row has one pair at most
-  pub few-view : S ≡ [] → {bits : List Bool} {mask : ℕ} → AreSlots L S bits mask → (i : ℕ) → length (row_of L i) ≤ 1
-  few-view none are i =
-      let past = get_or_past (rows L) i [] in let n = length-rows L in let few = are.few i in
-      let row = ap (λ T. length (row_of T i)) (ap (λ M. L ++ M) none ∙ append-nil L) in grind (arith, nat_tests, past, n, few, row)
+  pub AreShared-none : L ≡ [] → AreShared L S V bits mask
+  AreShared-none none = let same : L ++ S ≡ S = ap (λ M. M ++ S) none in record {
+    none = none;
+    all = sym same ∙ view;
+    directory = subst (λ T. IsDirectory T bits mask) same are.directory;
+  }
 
 -- slots of one form alone
 module _ {K X : Type 0} (L S : List (Held K X)) (bits : List Bool) (mask : ℕ) where

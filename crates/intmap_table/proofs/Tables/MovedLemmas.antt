@@ -26,6 +26,11 @@ module _ {K X : Type 0} (number : K → ℕ) where
   need-joined S D can few j =
       rw (slot_of-old number (length S) D (IsGrown-can S D can) (rows S) (record { len = length-rows S; own = can.table.in_place }) j) (few (j % length S) j)
 
+  -- as where no old one has more
+  pub few-joined : (S : List (Held K X)) (D : ℕ) → CanGrow number S D → ((i : ℕ) → length (get_or (rows S) i []) ≤ 1) → (j : ℕ) → need number (joined (rows S)) D j ≤ 1
+  few-joined S D can few =
+      need-joined S D can (λ i j. let most = need-most number (get_or (rows S) i []) D j in let one = few i in omega (arith, most, one))
+
   -- a slot gets the pairs of both lists
   slot_of-both : (L M : List (K × X)) (D j : ℕ) → slot_of number (L ++ M) D j ≡ slot_of number L D j ++ slot_of number M D j
   slot_of-both L M D j = filter-append (λ p. slot_number number p.0 D == j) L M

@@ -1,9 +1,9 @@
-use Rattle.std.proofs.Common.{◌≡◌, ◌∙◌, [], ap, arith, false, subst, sym}
+use Rattle.std.proofs.Common.{◌≡◌, ◌∙◌, ap, arith, false, sym}
 use Rattle.std.proofs.lemmas.Bool.Decides.{nat_tests}
 use Rattle.std.proofs.lemmas.Result.{on_err_weaker}
-use Rattle.intmap_table.specs.Tables.Slots.{rows, row_of, IsDirectory}
+use Rattle.intmap_table.specs.Tables.Slots.{rows, row_of}
 use Rattle.intmap_table.proofs.Tables.AddedLemmas.{slot_of-any, slot_of-meeting}
-use Rattle.intmap_table.proofs.Tables.FormLemmas.{lone-view, none-shared, few-view}
+use Rattle.intmap_table.proofs.Tables.FormLemmas.{AreLone, AreLone-some}
 use Rattle.intmap_table.proofs.Tables.MovedLemmas.{IsGrown-can}
 use Rattle.intmap_table.proofs.table.slots.Slots.grow_with.Goals as goal
 use Rattle.intmap_table.proofs.table.slots.Slots.grow_with.Goals.{After-is_empty}
@@ -16,34 +16,28 @@ grow_and_place-requires-clause-alone g c =
     ∙ rw c.requires.target at (slot_of-any number (row_of c.args.self.now c.args.slot) c.args.capacity c.args.target (sym c.meets.ensures ∙ c.if-not-meets.true))
 
 -- lone slots
-module _ (g : _) (c : After-is_empty g) (some : c.is_empty.result ≡ false) where
-  no_shared : c.self.inside.shared.items ≡ []
-  no_shared =
-      let len = c.self.inside.lone.ok.0 in let test = c.is_empty.ensures in
-      none-shared c.self.inside.lone.items _ _ c.self.view_is c.self.invariant.form (grind (arith, nat_tests, some, test, len))
-
-  lone : c.self.inside.lone.items ≡ c.args.self.now
-  lone = lone-view _ _ _ c.self.view_is no_shared
+lone : (g : _) (c : After-is_empty g) → c.is_empty.result ≡ false
+    → AreLone c.self.inside.lone.items c.self.inside.shared.items c.args.self.now c.self.inside.directory.bits c.self.inside.directory.mask
+lone g c some =
+    let len = c.self.inside.lone.ok.0 in let test = c.is_empty.ensures in
+    AreLone-some _ _ _ c.self.view_is c.self.invariant (grind (arith, nat_tests, some, test, len))
 
 pub grow_to_shared-requires-clause-none : goal.grow_to_shared-requires-clause-none
-grow_to_shared-requires-clause-none g c = no_shared g (goal.at.grow_to_shared-requires-clause-none g c).After-is_empty c.if-is_empty.false
+grow_to_shared-requires-clause-none g c = (lone g (goal.at.grow_to_shared-requires-clause-none g c).After-is_empty c.if-is_empty.false).none
 
 pub grow_to_shared-requires-clause-ready : goal.grow_to_shared-requires-clause-ready
-grow_to_shared-requires-clause-ready g c = rw (lone g (goal.at.grow_to_shared-requires-clause-ready g c).After-is_empty c.if-is_empty.false) c.requires.ready
+grow_to_shared-requires-clause-ready g c = rw (lone g (goal.at.grow_to_shared-requires-clause-ready g c).After-is_empty c.if-is_empty.false).all c.requires.ready
 
 pub grow_to_shared-requires-clause-few : goal.grow_to_shared-requires-clause-few
-grow_to_shared-requires-clause-few g c =
-    few-view _ _ _ c.self.view_is (no_shared g (goal.at.grow_to_shared-requires-clause-few g c).After-is_empty c.if-is_empty.false) c.self.invariant
+grow_to_shared-requires-clause-few g c = (lone g (goal.at.grow_to_shared-requires-clause-few g c).After-is_empty c.if-is_empty.false).few
 
 pub grow_to_shared-requires-clause-directory : goal.grow_to_shared-requires-clause-directory
-grow_to_shared-requires-clause-directory g c =
-    let lone = lone g (goal.at.grow_to_shared-requires-clause-directory g c).After-is_empty c.if-is_empty.false in
-    subst (λ S. IsDirectory S c.self.inside.directory.bits c.self.inside.directory.mask) (c.self.view_is ∙ sym lone) c.self.invariant.directory
+grow_to_shared-requires-clause-directory g c = (lone g (goal.at.grow_to_shared-requires-clause-directory g c).After-is_empty c.if-is_empty.false).directory
 
 pub returns-clause-grown : goal.returns-clause-grown
-returns-clause-grown g c = rw (← lone g (goal.at.returns-clause-grown g c).After-is_empty c.if-is_empty.false) c.grow_to_shared.ensures.grown
+returns-clause-grown g c = rw (← (lone g (goal.at.returns-clause-grown g c).After-is_empty c.if-is_empty.false).all) c.grow_to_shared.ensures.grown
 
 pub returns-clause-err : goal.returns-clause-err
 returns-clause-err g c =
     let lone = lone g (goal.at.returns-clause-err g c).After-is_empty c.if-is_empty.false in
-    on_err_weaker c.grow_to_shared.result (λ same. ap rows (same ∙ lone)) c.grow_to_shared.ensures.err
+    on_err_weaker c.grow_to_shared.result (λ same. ap rows (same ∙ lone.all)) c.grow_to_shared.ensures.err

@@ -40,8 +40,8 @@ module _ (g : _) (c : After-set-2 g) where
 pub push_second-requires-clause-one : goal.push_second-requires-clause-one
 push_second-requires-clause-one g c =
     let some = ltb-true 0 (length c.index.result.now.pairs) (sym c.is_filled.ensures.filled ∙ c.if-is_filled.true) in
-    let row = ap length (lone g (goal.at.push_second-requires-clause-one g c).After-is_filled) in
-    rw (← c.self.view_is) (omega (arith, some, c.is_filled.ensures.few, row))
+    let at = (goal.at.push_second-requires-clause-one g c).After-is_filled in let row = ap length (lone g at) in
+    let few = c.self.invariant.few c.args.index (below g at) in rw (← c.self.view_is) (omega (arith, some, few, row))
 
 pub returns-then-is_filled-clause-memory : goal.returns-then-is_filled-clause-memory
 returns-then-is_filled-clause-memory g c =

@@ -1,12 +1,11 @@
-use Rattle.std.proofs.Common.{◌≡◌, ◌-◌, ◌++◌, ◌∙◌, [], arith, get_or, length, replicate}
+use Rattle.std.proofs.Common.{◌≡◌, ◌-◌, ◌++◌, ◌∙◌, [], length, replicate}
 use Rattle.std.specs.Vec.{with_items}
 use Rattle.std.proofs.lemmas.List.{with_items_is}
 use Rattle.intmap_table.specs.Tables.Slots.{rows, joined}
 use Rattle.intmap_table.specs.Tables.Moves.{IsGrown, IsMoved}
 use Rattle.intmap_table.proofs.Tables.MemoryLemmas.{rows-added, length-added, joined-added, bare-added, row-added, IsLonger-added}
-use Rattle.intmap_table.proofs.Tables.MovedLemmas.{IsGrown-can, IsDirectory-moved, need-joined, few-moved}
+use Rattle.intmap_table.proofs.Tables.MovedLemmas.{IsGrown-can, IsDirectory-moved, few-joined, few-moved}
 use Rattle.intmap_table.proofs.Tables.MovingLemmas.{CanMoveOn-few}
-use Rattle.intmap_table.proofs.Tables.RoomLemmas.{need-most}
 use Rattle.intmap_table.proofs.table.slots.grow_lone.grow_lone.Goals as goal
 use Rattle.intmap_table.proofs.table.slots.grow_lone.grow_lone.Goals.{After-deref_mut, After-move_lone_slots}
 
@@ -54,5 +53,4 @@ returns-clause-directory g c =
 pub returns-clause-few : goal.returns-clause-few
 returns-clause-few g c =
     let at = goal.at.returns-clause-few g c in
-    few-moved _ _ _ _ (moved g at.After-move_lone_slots (len g at.After-deref_mut) (pairs g at.After-deref_mut))
-    (need-joined _ _ _ c.requires.ready (λ i j. let most = need-most g.K.IntKey.number_of (get_or (rows c.args.lone.now.items) i []) c.args.capacity j in let few = c.requires.few i in omega (arith, most, few)))
+    few-moved _ _ _ _ (moved g at.After-move_lone_slots (len g at.After-deref_mut) (pairs g at.After-deref_mut)) (few-joined _ _ _ c.requires.ready c.requires.few)

@@ -1,14 +1,13 @@
-use Rattle.std.proofs.Common.{◌≡◌, ◌+◌, ◌*◌, ◌/◌, ◌≤◌, ◌++◌, ◌∷◌, ◌∙◌, ℕ, [], false, inl, inr, ap, arith, get_or, replicate, vec_capacity}
+use Rattle.std.proofs.Common.{◌≡◌, ◌+◌, ◌*◌, ◌/◌, ◌++◌, ◌∷◌, ◌∙◌, [], false, inl, inr, ap, arith, replicate, vec_capacity}
 use Rattle.std.specs.Vec.{with_items}
 use Rattle.std.proofs.lemmas.List.{with_items_is, nil_from_length}
 use Rattle.intmap_table.specs.Classes.{slot_number}
 use Rattle.intmap_table.specs.Tables.Slots.{rows, joined}
-use Rattle.intmap_table.specs.Tables.Moves.{ArePut, CanPut, bare_slot, need}
+use Rattle.intmap_table.specs.Tables.Moves.{ArePut, CanPut, bare_slot}
 use Rattle.intmap_table.proofs.Tables.FormLemmas.{AreSlots-shared_alone}
 use Rattle.intmap_table.proofs.Tables.MemoryLemmas.{alone}
-use Rattle.intmap_table.proofs.Tables.MovedLemmas.{need-joined, need-more, CanPut-empty, IsMoved-empty, IsDirectory-put}
+use Rattle.intmap_table.proofs.Tables.MovedLemmas.{few-joined, need-more, CanPut-empty, IsMoved-empty, IsDirectory-put}
 use Rattle.intmap_table.proofs.Tables.PutLemmas.{ArePut-more}
-use Rattle.intmap_table.proofs.Tables.RoomLemmas.{need-most}
 use Rattle.intmap_table.proofs.table.slots.grow_to_shared.grow_to_shared.Goals as goal
 use Rattle.intmap_table.proofs.table.slots.grow_to_shared.grow_to_shared.Goals.{After-deref_mut-2, After-deref_mut-3, After-place}
 
@@ -26,11 +25,9 @@ module _ (g : _) (c : After-deref_mut-2 g) where
       (vec_capacity c.in-Ok.block)
   can =
       let L = joined (rows c.args.lone.now.items) in let D = c.args.capacity in let room = c.in-Ok.ensures.capacity in
-      let few : (j : ℕ) → need g.K.IntKey.number_of L D j ≤ 1 = need-joined g.K.IntKey.number_of _ _ c.requires.ready (λ i j.
-      let most = need-most g.K.IntKey.number_of (get_or (rows c.args.lone.now.items) i []) D j in let one = c.requires.few i in omega (arith, most, one)) in
       rw (bare, old, c.in-Ok-reserve_slots.ensures.bits)
       (CanPut-empty g.K.IntKey.number_of (L ++ c.args.pair ∷ []) D c.requires.ready.capacity (slot_number g.K.IntKey.number_of c.args.pair.0 D) _
-      (λ j. elim (need-more g.K.IntKey.number_of L D c.args.pair few j) [
+      (λ j. elim (need-more g.K.IntKey.number_of L D c.args.pair (few-joined _ _ _ c.requires.ready c.requires.few) j) [
         | inl one ↦ inl one
         | inr two ↦ inr (two.0, (let most = two.1 in omega (arith, most, room)))
       ]))
