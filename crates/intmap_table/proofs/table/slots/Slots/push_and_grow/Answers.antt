@@ -1,4 +1,4 @@
-use Rattle.std.proofs.Common.{◌<◌, ◌∷◌, ◌++◌, [], length, refl, ap, arith}
+use Rattle.std.proofs.Common.{◌≡◌, ◌+◌, ◌<◌, ◌∷◌, ◌++◌, [], length, refl, ap, arith}
 use Rattle.std.proofs.lemmas.List.{length_push}
 use Rattle.intmap_table.specs.Tables.Slots.{rows, row_of, joined, IsRowSet}
 use Rattle.intmap_table.specs.Tables.Moves.{IsGrown}
@@ -20,6 +20,10 @@ module _ (g : _) (c : In_ok-place g) where
   pushed : IsRowSet c.args.self.now c.args.slot (row_of c.args.self.now c.args.slot ++ c.args.pair ∷ []) c.push.new.self
   pushed = c.in_ok-place.ensures.ok
 
+  -- so there is one more
+  more : length (joined (rows c.push.new.self)) ≡ length (joined (rows c.args.self.now)) + 1
+  more = length-pushed _ _ _ c.push.new.self _ _ c.args.pair c.args.pair within pushed refl c.in_ok-place.ensures.place
+
 pub push-requires : goal.push-requires
 push-requires g c = rw (← c.requires.slot) at (slot_number-below g.K.IntKey.number_of c.args.pair.0 _ c.requires.ready.table.capacity)
 
@@ -34,9 +38,7 @@ grow-requires-clause-ready g c =
 
 pub grow-requires-clause-fits : goal.grow-requires-clause-fits
 grow-requires-clause-fits g c =
-    let at = (goal.at.grow-requires-clause-fits g c).In_ok-place in
-    let n = length-pushed c.args.self.now c.push.new.self c.push.new.self c.push.new.self c.args.slot _ c.args.pair c.args.pair (within g at) (pushed g at) refl c.in_ok-place.ensures.place in
-    omega (arith, n, c.requires.fits)
+    let n = more g (goal.at.grow-requires-clause-fits g c).In_ok-place in omega (arith, n, c.requires.fits)
 
 pub take_at-value-requires : goal.take_at-value-requires
 take_at-value-requires g c =
@@ -56,8 +58,7 @@ returns-in_default-clause-value_returned g c =
 
 pub returns-clause-grown : goal.returns-clause-grown
 returns-clause-grown g c =
-    let at = (goal.at.returns-clause-grown g c).In_ok-place in
-    let n = length-pushed c.args.self.now c.push.new.self c.push.new.self c.push.new.self c.args.slot _ c.args.pair c.args.pair (within g at) (pushed g at) refl c.in_ok-place.ensures.place in
+    let at = (goal.at.returns-clause-grown g c).In_ok-place in let n = more g at in
     let all = length_push (joined (rows c.args.self.now)) c.args.pair in let sum = c.in-Ok.ensures.grown.counted in
     record {
       moved = IsMoved-pushed _ _ _ _ c.args.pair c.requires.ready.table (grown g at) c.requires.slot _ (pushed g at) _ c.in-Ok.ensures.grown.moved;

@@ -1,8 +1,9 @@
-use Rattle.std.proofs.Common.{◌≡◌, ◌∙◌, ◌++◌, ◌∷◌, [], length, refl, sym, ap, append-nil, append_assoc, arith}
+use Rattle.std.proofs.Common.{◌≡◌, ◌∙◌, ◌++◌, ◌∷◌, [], false, length, refl, sym, ap, append-nil, append_assoc, arith}
 use Rattle.std.proofs.lemmas.Bool.Decides.{nat_tests}
 use Rattle.std.proofs.lemmas.List.{nil_from_length}
 use Rattle.intmap_table.proofs.Tables.PutLemmas.{ArePut-none, ArePut-more}
 use Rattle.intmap_table.proofs.table.slots.grow_to_lone.move_slot_to_lone.Goals as goal
+use Rattle.intmap_table.proofs.table.slots.grow_to_lone.move_slot_to_lone.Goals.{After-is_filled}
 
 pub loop-alloc-init : goal.loop-alloc-init
 loop-alloc-init g c = record {
@@ -38,14 +39,14 @@ loop-alloc-preserved g c =
           (c.place.ensures.can (left ++ rest) (rw (append-nil c.loop-alloc.lone, c.new-block.ensures.capacity) (rw next at (before.can rest can))));
     }
 
+-- in the end none is left
+none : (g : _) (c : After-is_filled g) → c.is_filled.result ≡ false → c.loop-alloc.slot.pairs ≡ []
+none g c end = let test = c.is_filled.ensures in nil_from_length c.loop-alloc.slot.pairs (grind (arith, nat_tests, test, end))
+
 pub returns-clause-put : goal.returns-clause-put
 returns-clause-put g c =
-    let before = c.loop-alloc.invariant in let test = c.is_filled.ensures in let end = c.loop-alloc-test.false in
-    let none : c.loop-alloc.slot.pairs ≡ [] = nil_from_length c.loop-alloc.slot.pairs (grind (arith, nat_tests, test, end)) in
-    let all = sym (append-nil before.done) ∙ ap (λ L. before.done ++ L) (sym none) ∙ before.all in rw all at before.put
+    let none = none g (goal.at.returns-clause-put g c).After-is_filled c.loop-alloc-test.false in let before = c.loop-alloc.invariant in
+    rw (sym (append-nil before.done) ∙ ap (λ L. before.done ++ L) (sym none) ∙ before.all) at before.put
 
 pub returns-clause-can : goal.returns-clause-can
-returns-clause-can g c =
-    let test = c.is_filled.ensures in let end = c.loop-alloc-test.false in
-    let none : c.loop-alloc.slot.pairs ≡ [] = nil_from_length c.loop-alloc.slot.pairs (grind (arith, nat_tests, test, end)) in
-    rw none at c.loop-alloc.invariant.can
+returns-clause-can g c = rw (none g (goal.at.returns-clause-can g c).After-is_filled c.loop-alloc-test.false) at c.loop-alloc.invariant.can

@@ -23,6 +23,10 @@ module _ (g : _) (c : After-set-is_filled g) where
   within : c.index_of-index.result < length all
   within = rw len c.index_of-index.ensures.within
 
+  within-shared : length c.args.lone.now ≤ c.index_of-index.result → c.index_of-index.result < length c.args.shared.now
+  within-shared past =
+      let gone = ap length (none-lone c.args.lone.now c.args.shared.now c.requires.form c.index_of-index.result past within) in omega (arith, gone, len, within)
+
   -- the slot that is indexed is that of the pair
   slot : slot_number g.K.IntKey.number_of c.args.pair.0 (length all) ≡ c.index_of-index.result
   slot = rw len (ap (λ k. slot_number g.K.IntKey.number_of k (length c.args.lone.now + length c.args.shared.now)) (sym c.key.ensures.value)
@@ -75,17 +79,12 @@ put-requires g c =
     ]
 
 pub bounds-shared-index : goal.bounds-shared-index
-bounds-shared-index g c =
-    let at = (goal.at.bounds-shared-index g c).After-set-is_filled in
-    let gone = ap length (none-lone c.args.lone.now c.args.shared.now c.requires.form c.index_of-index.result c.if-index-lone.false (within g at)) in
-    let len = len g at in let below = within g at in omega (arith, gone, len, below)
+bounds-shared-index g c = within-shared g (goal.at.bounds-shared-index g c).After-set-is_filled c.if-index-lone.false
 
 pub offset_bounds-shared-index : goal.offset_bounds-shared-index
 offset_bounds-shared-index g c =
-    let at = (goal.at.offset_bounds-shared-index g c).After-set-is_filled in
-    let gone = ap length (none-lone c.args.lone.now c.args.shared.now c.requires.form c.index_of-index.result c.if-index-lone.false (within g at)) in
-    let len = len g at in let below = within g at in
-    record { fits = offset-fits _ _ _ (omega (arith, gone, len, below)) c.well_formed.1.1.0.1 }
+    let below = within-shared g (goal.at.offset_bounds-shared-index g c).After-set-is_filled c.if-index-lone.false in
+    record { fits = offset-fits _ _ _ below c.well_formed.1.1.0.1 }
 
 pub push_with-requires-clause-filled : goal.push_with-requires-clause-filled
 push_with-requires-clause-filled g c =

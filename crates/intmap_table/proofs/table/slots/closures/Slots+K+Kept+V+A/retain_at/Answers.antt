@@ -2,8 +2,7 @@ use Rattle.std.proofs.Common.{◌<◌, ◌≤◌, ◌++◌, length, refl, ap, ar
 use Rattle.intmap_table.specs.Retaining.{KeepsAt, Retains}
 use Rattle.intmap_table.specs.Tables.Slots.{row_of}
 use Rattle.intmap_table.proofs.RetainLemmas.{length-Retains}
-use Rattle.intmap_table.proofs.Tables.FormLemmas.{lone-row, shared-row}
-use Rattle.intmap_table.proofs.Tables.FormLemmas.{AreSlots-lone_changed, AreSlots-shared_changed, IsRowSet-lone, IsRowSet-shared}
+use Rattle.intmap_table.proofs.Tables.FormLemmas.{lone-row, shared-row, AreSlots-lone_changed, AreSlots-shared_changed, IsRowSet-lone, IsRowSet-shared}
 use Rattle.intmap_table.proofs.table.slots.closures.Slots+K+Kept+V+A.retain_at.Goals as goal
 use Rattle.intmap_table.proofs.table.slots.closures.Slots+K+Kept+V+A.retain_at.Goals.{After-retain, After-retain-2}
 
