@@ -11,10 +11,9 @@ use Rattle.intmap_table.specs.Walk.{walk_of}
 use Rattle.intmap.specs.Growth.{IsThreshold, MeetsLoad, is_due}
 use Rattle.intmap.specs.Map.{MapState, IsMapWalk}
 use Rattle.intmap.specs.Consistency.{IsConsistent}
-use Rattle.intmap_table.proofs.SlotNumberLemmas.{slot_number-below}
+use Rattle.intmap_table.proofs.SlotNumberLemmas.{slot_number-below, capacity-positive}
 use Rattle.intmap.proofs.CostLemmas.{HasDistinctKeys-tail}
 use Rattle.intmap.proofs.LoadFactorLemmas.{IsLoaded, IsLoaded-from, IsLoaded-fewer, IsLoaded-more}
-use Rattle.intmap_table.proofs.SlotNumberLemmas.{capacity-positive}
 use Rattle.intmap_table.proofs.WalkLemmas.{walk_of-walk_of}
 use Rattle.intmap_table.proofs.DistinctLemmas.{length-walk_of, length-take_key, length-put_pair, HasDistinctKeys-nil, HasDistinctKeys-walk_of, HasDistinctKeys-take_key, HasDistinctKeys-put_pair, All-walk_of, All-take_key, All-put_pair}
 

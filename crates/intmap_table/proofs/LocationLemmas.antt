@@ -8,20 +8,22 @@ use Rattle.std.proofs.lemmas.List.{length_push}
 use Rattle.std.proofs.lemmas.List.Elements.{All-cons, All-head, All-tail, filter-append}
 use Rattle.std.proofs.lemmas.List.Folds.{position_or_len_push}
 use Rattle.std.proofs.lemmas.List.Sums.{sum_by-cons}
-use Rattle.intmap_table.specs.Classes.{IsCapacity, slot_number, same_key, agrees}
-use Rattle.intmap_table.specs.Bindings.{swap_out, value_of, IsPresent, take_key, put_pair, write_value, HasDistinctKeys}
-use Rattle.intmap_table.specs.Locations.{IsAt, IsLast}
+use Rattle.intmap_table.specs.Classes.{slot_number, same_key, agrees}
+use Rattle.intmap_table.specs.Bindings.{swap_out, value_of, IsPresent, put_pair, write_value, HasDistinctKeys}
+use Rattle.intmap_table.specs.Locations.{IsAt}
 use Rattle.intmap_table.specs.Tables.Slots.{Grid, Held, rows, row_of, joined, write_at, write_row, IsTable, IsRowSet}
 use Rattle.intmap_table.specs.Walk.{slot_of, walk_of}
 use Rattle.intmap_table.proofs.WrittenLemmas.{slot_of-write_value}
 use Rattle.intmap_table.specs.declared.table.locate.Location.{Location}
 use Rattle.intmap_table.proofs.MappedLemmas.{flat_map-map}
 use Rattle.intmap_table.proofs.PositionLemmas.{swap_out-none, swap_remove-position, position-within, position_or_len-none, first_value-position, position-from_none}
-use Rattle.intmap_table.proofs.Tables.TableLemmas.{Grid-same, IsSlot, slot_of-here, value_of-here, walk_of-joined, joined-set, row-set, length-row_set, within, IsTable-set, Belong-here, Belong-push}
+use Rattle.intmap_table.specs.Tables.Moves.{IsMoved}
+use Rattle.intmap_table.proofs.Tables.MovingLemmas.{IsTable-moved}
+use Rattle.intmap_table.proofs.Tables.TableLemmas.{Grid-same, IsSlot, slot_of-here, value_of-here, walk_of-joined, slot_of-joined, joined-set, row-set, length-row_set, within, IsTable-set, Belong-here, Belong-push}
 use Rattle.intmap_table.proofs.Tables.SwapOutLemmas.{any}
 use Rattle.intmap_table.proofs.Tables.RowLemmas.{IsRowSet-write_row}
 use Rattle.intmap_table.proofs.SlotNumberLemmas.{slot_number-below}
-use Rattle.intmap_table.proofs.WalkLemmas.{same_key-slot, slot_of-walk_of, value_of-slot_of}
+use Rattle.intmap_table.proofs.WalkLemmas.{same_key-slot, value_of-slot_of}
 
 -- no more elements pass a test once others were left out
 count_by-filter-le : {X : Type 0} (keep test : X → Bool) (xs : List X) → count_by test (filter keep xs) ≤ count_by test xs
@@ -170,43 +172,32 @@ module _ {K X : Type 0} (number : K → ℕ) (S : List (Held K X)) (i : ℕ) (k 
           place = ap (position (λ p. same_key number k p.0)) (there ∙ row) ∙ position-push (λ p. same_key number k p.0) (row_of S i) (k, v) none own;
         }
 
--- the pair of k is last in its slot
-module _ {K X : Type 0} (number : K → ℕ) (S : List (Held K X)) (i : ℕ) (k : K) (at : IsSlot number S i k) (last : IsLast number (joined (rows S)) (length S) k) where
-  slot-last : slot_of number (joined (rows S)) (length S) (slot_number number k (length S)) ≡ row_of S i
-  slot-last = ap (slot_of number (joined (rows S)) (length S)) (sym at.slot) ∙ slot_of-here number S i k at
-
-  pub slot-some : 0 < length (row_of S i)
-  slot-some = let e = ap length slot-last in let n = last.last in omega (arith, e, n)
-
-  -- its place is the last
-  pub IsAt-last : (place : ℕ) → place + 1 ≡ length (row_of S i) → IsAt number (joined (rows S)) (length S) (record { key = k; slot = i; place = place })
-  IsAt-last place is =
-      let e = ap length slot-last in
-      let n = last.last in
-      let end : last.place ≡ place = omega (arith, is, e, n) in
-      record {
-        slot = at.slot;
-        place = ap (λ j. position (λ p. same_key number k p.0) (slot_of number (joined (rows S)) (length S) j)) at.slot ∙ last.stands ∙ ap (λ n. Some n) end;
-      }
-
 module _ {K V : Type 0} (number : K → ℕ) where
   -- where a key is absent, its pair is put behind all others
   pub put_pair-new : (L : List (K × V)) (C : ℕ) (k : K) (v : V) → value_of number L k ≡ None → put_pair number L C k v ≡ L ++ (k, v) ∷ []
   put_pair-new L C k v missing = ap (λ M. M ++ (k, v) ∷ []) (swap_out-none (λ (p : K × V). same_key number k p.0) (λ p. agrees number C k p.0) L (position-from_none (same_key number k) L missing))
 
-  -- the pair of a key that was absent is last in its slot, however many slots there are
-  pub IsLast-new : (L : List (K × V)) (C D : ℕ) (k : K) (v : V) → value_of number L k ≡ None → IsCapacity D → IsLast number (walk_of number (put_pair number L C k v) D) D k
-  IsLast-new L C D k v missing cap =
-      let T : List (K × V) = take_key number L C k in
-      let same : T ≡ L = swap_out-none (λ (p : K × V). same_key number k p.0) (λ p. agrees number C k p.0) L (position-from_none (same_key number k) L missing) in
-      let i : ℕ = slot_number number k D in
-      let here : (slot_number number k D == i) ≡ true = eq-eqb (slot_number number k D) i refl in
+-- the pair of a new key has moved, behind all others, to slot i of C slots
+module _ {K X : Type 0} (number : K → ℕ) (L : List (K × X)) (k : K) (v : X) (C : ℕ) (T : List (Held K X)) (moved : IsMoved number (L ++ (k, v) ∷ []) C T)
+    (i : ℕ) (at : i ≡ slot_number number k C) where
+  row-new : row_of T i ≡ slot_of number L C i ++ (k, v) ∷ []
+  row-new =
+      let here : (slot_number number k C == i) ≡ true = eq-eqb (slot_number number k C) i (sym at) in
+      moved.rows i (rw at (slot_number-below number k C moved.capacity)) ∙ filter-append (λ p. slot_number number p.0 C == i) L ((k, v) ∷ []) ∙ simp here refl
+
+  pub some-new : 0 < length (row_of T i)
+  some-new = let n = ap length row-new ∙ length_push (slot_of number L C i) (k, v) in omega (arith, n)
+
+  -- there it is the last
+  pub IsAt-new : value_of number L k ≡ None → (place : ℕ) → place + 1 ≡ length (row_of T i)
+      → IsAt number (joined (rows T)) (length T) (record { key = k; slot = i; place = place })
+  IsAt-new missing place last =
       let own : same_key number k k ≡ true = eq-eqb (number k) (number k) refl in
-      let none = position-from_none (same_key number k) (slot_of number T D i) (value_of-slot_of number D T k ∙ ap (λ M. value_of number M k) same ∙ missing) in
-      let row : slot_of number (walk_of number (T ++ (k, v) ∷ []) D) D i ≡ slot_of number T D i ++ (k, v) ∷ [] =
-      slot_of-walk_of number D (T ++ (k, v) ∷ []) i (slot_number-below number k D cap) ∙ filter-append (λ p. slot_number number p.0 D == i) T ((k, v) ∷ []) ∙ simp here refl in
+      let none = position-from_none (same_key number k) (slot_of number L C i)
+      (ap (λ j. value_of number (slot_of number L C j) k) at ∙ value_of-slot_of number C L k ∙ missing) in
+      let end : length (slot_of number L C i) ≡ place = (let n = ap length row-new ∙ length_push (slot_of number L C i) (k, v) in omega (arith, n, last)) in
       record {
-        place = length (slot_of number T D i);
-        stands = ap (position (λ p. same_key number k p.0)) row ∙ position-push (λ p. same_key number k p.0) (slot_of number T D i) (k, v) none own;
-        last = sym (ap length row ∙ length_push (slot_of number T D i) (k, v));
+        slot = rw moved.len at;
+        place = ap (position (λ p. same_key number k p.0)) (slot_of-joined number T (IsTable-moved number _ C T moved) i ∙ row-new)
+            ∙ position-push (λ p. same_key number k p.0) (slot_of number L C i) (k, v) none own ∙ ap (λ n. Some n) end;
       }

@@ -1,6 +1,7 @@
 -- Lemmas on bits, slots and tables.
 pub mod AddedLemmas
-pub mod ApartLemmas
+pub mod AcrossLemmas
+pub mod AroundLemmas
 pub mod BitsLemmas
 pub mod CloneLemmas
 pub mod CountLemmas
@@ -16,10 +17,8 @@ pub mod GrownLemmas
 pub mod LeftLemmas
 pub mod RoomLemmas
 pub mod RowLemmas
-pub mod PartingLemmas
-pub mod PartsLemmas
-pub mod PositionLemmas
 pub mod PutLemmas
+pub mod MovedLemmas
 pub mod MovingLemmas
 pub mod NextMarkLemmas
 pub mod SameKeysLemmas

@@ -1,6 +1,6 @@
 -- Where the pair of a key is in a table.
 use Rattle.std.proofs.Common.{subst}
-use Rattle.std.specs.Prelude.{◌≡◌, ℕ, zero, suc, ◌+◌, List, [], ◌∷◌, length, cond, Option, Some, None, IsSome, position}
+use Rattle.std.specs.Prelude.{◌≡◌, ℕ, zero, suc, List, [], ◌∷◌, cond, Option, Some, None, IsSome, position}
 use Rattle.intmap_table.specs.Classes.{slot_number, same_key}
 use Rattle.intmap_table.specs.Walk.{slot_of}
 use Rattle.intmap_table.specs.declared.table.locate.Location.{Location}
@@ -21,12 +21,6 @@ module _ {K V : Type 0} (number : K → ℕ) where
   pub record IsAt (W : List (K × V)) (C : ℕ) (at : Location K) : Type 0 where
     pub slot : at.slot ≡ slot_number number at.key C
     pub place : position (λ p. same_key number at.key p.0) (slot_of number W C at.slot) ≡ Some at.place
-
-  -- the pair of k is the last of its slot
-  pub record IsLast (W : List (K × V)) (C : ℕ) (k : K) : Type 0 where
-    pub place : ℕ
-    pub stands : position (λ p. same_key number k p.0) (slot_of number W C (slot_number number k C)) ≡ Some place
-    pub last : place + 1 ≡ length (slot_of number W C (slot_number number k C))
 
   -- a pair is at the place of the slot, and its key is found there
   pub record IsFound (W : List (K × V)) (C slot place : ℕ) : Type 0 where

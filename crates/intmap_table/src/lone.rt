@@ -1,5 +1,5 @@
 //! A slot that holds one pair at most. Its calls say what those of `slot` say.
-ghost use Rattle.std.specs.Prelude.{◌≡◌, ◌+◌, ◌<◌, ◌≤◌, [], ◌∷◌, length, position, slice_index_or, nat_lt, IfOk, IfSome, IfNone, option_copied};
+ghost use Rattle.std.specs.Prelude.{◌≡◌, ◌⊎◌, ◌+◌, ◌<◌, ◌≤◌, [], ◌∷◌, length, position, slice_index_or, nat_lt, IfOk, IfSome, IfNone, option_copied};
 ghost use Rattle.std.specs.List.{AllZip};
 ghost use Rattle.intmap_table.specs.Classes.{same_key};
 ghost use Rattle.intmap_table.specs.Cloning.{IsPairClone};
@@ -54,7 +54,6 @@ impl<K: IntKey, X> Lone<K, X> {
     #[inline(always)]
     pub(crate) fn is_filled(&self) -> bool
         ensures filled { result ≡ nat_lt 0 (length self.now.pairs) }
-        ensures few { length self.now.pairs ≤ 1 }
         ensures room { self.now.room ≡ 1 }
     {
         self.pair.is_some()
@@ -152,23 +151,10 @@ impl<K: IntKey, X> Lone<K, X> {
         }
     }
 
-    /// Puts the pair into a slot without one.
+    /// Puts the pair into a slot without one. A slot with room for a pair has none.
     #[inline(always)]
     pub(crate) fn put(&mut self, pair: (Stored<K>, X))
-        requires { self.old.pairs ≡ [] }
-        ensures pairs { self.new.pairs ≡ pair ∷ [] }
-        ensures room { self.new.room ≡ self.old.room }
-    {
-        match self.pair.replace(pair) {
-            None => {}
-            Some(_) => unreachable!(),
-        }
-    }
-
-    /// Puts a pair into a slot that has room for it, and so holds none.
-    #[inline(always)]
-    pub(crate) fn put_back(&mut self, pair: (Stored<K>, X))
-        requires { length self.old.pairs < self.old.room }
+        requires { (self.old.pairs ≡ []) ⊎ (length self.old.pairs < self.old.room) }
         ensures before { self.old.pairs ≡ [] }
         ensures pairs { self.new.pairs ≡ pair ∷ [] }
         ensures room { self.new.room ≡ self.old.room }

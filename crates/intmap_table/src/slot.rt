@@ -177,7 +177,7 @@ impl<K: IntKey, X, A: Allocator> Slot<K, X, A> {
     }
 
     /// The first pair, if there is one, and the rest, by reference.
-    pub(crate) fn parts(&self) -> (Option<&(Stored<K>, X)>, &[(Stored<K>, X)])
+    pub(crate) fn first_and_rest(&self) -> (Option<&(Stored<K>, X)>, &[(Stored<K>, X)])
         ensures { self.now.pairs ≡ all_pairs (option_copied result.0) result.1.now }
     {
         (self.first.as_ref(), self.rest.as_slice())

@@ -1,5 +1,5 @@
 -- Growth of a table with a new pair, which is the last one of its slot.
-use Rattle.std.proofs.Common.{◌≡◌, ℕ, zero, suc, ◌+◌, ◌%◌, ◌<◌, true, false, List, [], ◌∷◌, ◌++◌, length, get_or, set, refl, sym, ap, ◌∙◌, arith, append-nil, length-append}
+use Rattle.std.proofs.Common.{◌≡◌, ℕ, zero, suc, ◌+◌, ◌%◌, ◌<◌, false, List, [], ◌∷◌, ◌++◌, length, get_or, set, refl, sym, ap, ◌∙◌, arith, append-nil, length-append}
 use Rattle.std.specs.Prelude.{◌==◌, swap_remove}
 use Rattle.std.specs.List.{list_any}
 use Rattle.std.proofs.lemmas.Bool.Decides.{nat_tests}
@@ -7,13 +7,11 @@ use Rattle.std.proofs.Math.Seq.{get_or-append_seam}
 use Rattle.std.proofs.lemmas.List.{length_push, set-set, set-get_or, map-set}
 use Rattle.std.proofs.lemmas.List.Elements.{filter-append}
 use Rattle.intmap_table.specs.Classes.{slot_number}
-use Rattle.intmap_table.specs.Walk.{slot_of, walk_of}
+use Rattle.intmap_table.specs.Walk.{slot_of}
 use Rattle.intmap_table.specs.Tables.Slots.{Held, rows, row_of, joined, IsTable, IsRowSet}
-use Rattle.intmap_table.specs.Tables.Moves.{need, IsGrown, IsMoved}
-use Rattle.intmap_table.proofs.SlotNumberLemmas.{slot_number-below}
-use Rattle.intmap_table.proofs.WalkLemmas.{slot_of-walk_of}
+use Rattle.intmap_table.specs.Tables.Moves.{IsGrown, IsMoved}
 use Rattle.intmap_table.proofs.Tables.GrownLemmas.{slot_of-old, slot_number-grown}
-use Rattle.intmap_table.proofs.Tables.TableLemmas.{IsSlot, length-rows, length-row_set, row-set, row-set_other, slot_of-joined, Belong-push, Belong-here, IsTable-set, within}
+use Rattle.intmap_table.proofs.Tables.TableLemmas.{IsSlot, length-rows, length-row_set, row-set, row-set_other, Belong-push, Belong-here, IsTable-set, within}
 
 module _ {P : Type 0} where
   -- the last of several elements is removed again
@@ -26,32 +24,6 @@ module _ {K X : Type 0} (number : K → ℕ) where
   pub slot_of-any : (L : List (K × X)) (D j : ℕ) → list_any (λ p. slot_number number p.0 D == j) L ≡ false → slot_of number L D j ≡ []
   slot_of-any [] D j none = refl
   slot_of-any (p ∷ L) D j none = let rest = slot_of-any L D j in grind (arith, rest, none)
-
-  pub need-any : (L : List (K × X)) (D j : ℕ) → list_any (λ p. slot_number number p.0 D == j) L ≡ true → 0 < need number L D j
-  need-any [] D j some = absurd (cc)
-  need-any (p ∷ L) D j some = let rest = need-any L D j in grind (arith, rest, some)
-
-  -- pairs are moved if the slots are a table with their walk
-  pub IsMoved-from : (L : List (K × X)) (C : ℕ) (T : List (Held K X)) → IsTable number T → joined (rows T) ≡ walk_of number L C → length T ≡ C → IsMoved number L C T
-  IsMoved-from L C T table walk len = record {
-    capacity = rw len at table.capacity;
-    len = len;
-    rows = λ j below. sym (rw (len, walk) at (slot_of-joined number T table j)) ∙ slot_of-walk_of number C L j below;
-  }
-
-  -- once pairs are moved, with one more at the end of its slot it is moved too
-  pub IsMoved-added : (L : List (K × X)) (C i : ℕ) (p : K × X) (T U : List (Held K X)) → IsMoved number L C T → slot_number number p.0 C ≡ i
-      → IsRowSet T i (row_of T i ++ p ∷ []) U → IsMoved number (L ++ p ∷ []) C U
-  IsMoved-added L C i p T U moved at is = record {
-    capacity = moved.capacity;
-    len = length-row_set T i _ U is ∙ moved.len;
-    rows = λ j below.
-        let lt : i < length T = rw (moved.len, ← at) (slot_number-below number p.0 C moved.capacity) in
-        let both = filter-append (λ q. slot_number number q.0 C == j) L (p ∷ []) in
-        let old = moved.rows j below in let own = row-set T i is.slot lt ∙ is.pairs in let other = row-set_other T i is.slot j in
-        let set = ap (λ V. get_or (rows V) j []) is.others in let nil = append-nil (slot_of number L C j) in
-        grind (arith, nat_tests, both, old, own, other, set, nil, at);
-  }
 
   module _ (S : List (Held K X)) (D i : ℕ) (p : K × X) (table : IsTable number S) (grown : IsGrown (length S) D) (at : i ≡ slot_number number p.0 (length S)) where
     -- of all pairs, those of one old slot alone go to the new slot of a key of that slot

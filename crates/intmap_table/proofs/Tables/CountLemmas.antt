@@ -11,7 +11,7 @@ use Rattle.intmap_table.specs.Tables.Moves.{rooms, part_room, bare_slot, IsLonge
 use Rattle.intmap_table.proofs.Tables.TableLemmas.{length-rows, length-same_rows, get_or-rows, get_or-rooms, rows-kept, room-set, room-set_other}
 use Rattle.intmap_table.proofs.Tables.GrownLemmas.{modulo-below, grown-more}
 use Rattle.intmap_table.proofs.Tables.LeftLemmas.{AreSplit, AreSplit-marked, AreSplit-next, first-left, own-row}
-use Rattle.intmap_table.proofs.Tables.RoomLemmas.{CanLeave-same, CanLeave-none}
+use Rattle.intmap_table.proofs.Tables.RoomLemmas.{CanLeave-same, CanLeave-few}
 
 -- slot t C + i is one of P parts of C slots
 pub part-within : (P C t i : ℕ) → t < P → i < C → t * C + i < P * C
@@ -142,7 +142,7 @@ module _ {K X : Type 0} (number : K → ℕ) (S₀ : List (Held K X)) (marks : L
     split = AreSplit-marked number S₀ marks C longer (IsAhead S₀ C S₀) (IsReady number S₀ C 0 S₀)
         (λ k lt some. record { old = lt; some = some; rooms = λ _ _. refl })
         (λ k _ none. record {
-          leave = CanLeave-none number (rooms S₀) (get_or (rows S₀) k []) C (length S₀) k none;
+          leave = (let e = ap length none in CanLeave-few number (rooms S₀) (get_or (rows S₀) k []) C (length S₀) k (omega (arith, e)));
           short = (let e = ap length none in omega (arith, e));
         });
   }

@@ -6,7 +6,7 @@ use Rattle.intmap_table.specs.Picking.{ExtractsBehind}
 use Rattle.intmap_table.specs.Tables.Slots.{Held, rows, row_of, joined, IsRowSet}
 use Rattle.intmap_table.proofs.ExtractLemmas.{ExtractsBehind-part, ExtractsNext-end, StepsFrom, StepsFrom-part, Takes, TakesEach-step, length-ExtractsBehind}
 use Rattle.intmap_table.proofs.Tables.CursorLemmas.{IsInRows, IsInRows-past, drop-reached}
-use Rattle.intmap_table.proofs.Tables.PartsLemmas.{joined-parts, length-parts, left-same, row-same, taken-same}
+use Rattle.intmap_table.proofs.Tables.AroundLemmas.{joined-around, length-around, left-same, row-same, taken-same}
 
 -- the pairs of slot i from place j on were asked about, with n passed before. `row` is left of the slot, with place k reached and m passed
 pub record IsAsked {K X F : Type 0} (R : F → K × X → Bool → F → K × X → Type 0) (S T : List (Held K X)) (row : List (K × X))
@@ -35,18 +35,24 @@ module _ {K X F : Type 0} {R : F → K × X → Bool → F → K × X → Type 0
   left : joined (drop (i + 1) (rows T)) ≡ behind
   left = left-same S i row T asked.below asked.is
 
-  count : m ≡ length before + k
-  count = omega (arith, asked.on, asked.at.count)
+  counted : n ≡ length before + j
+  counted = let at = asked.at in omega (arith, at.count, at.within)
 
-  parts : joined (rows T) ≡ before ++ (row ++ behind)
-  parts = joined-parts i (rows T) ∙ (λ h. taken h ++ (row-new h ++ left h))
+  count : m ≡ length before + k
+  count = omega (arith, asked.on, counted)
+
+  around : joined (rows T) ≡ before ++ (row ++ behind)
+  around = joined-around i (rows T) ∙ (λ h. taken h ++ (row-new h ++ left h))
 
   fewer : length (row_of S i) ≡ length row + option_len r
   fewer = length-ExtractsBehind R f g (row_of S i) row j k r asked.step
 
   -- the place that was reached there, which is one of the pairs that were there
   pub IsInRows-step : IsInRows (rows T) i k m
-  IsInRows-step = record { within = rw row-new asked.within; count = rw taken count }
+  IsInRows-step = record {
+    within = rw row-new asked.within;
+    count = (let front = ap length taken in let here = ap length row-new in omega (arith, count, asked.within, front, here));
+  }
 
   pub place-on : k ≤ length (row_of S i)
   place-on = omega (arith, fewer, asked.within)
@@ -54,7 +60,7 @@ module _ {K X F : Type 0} {R : F → K × X → Bool → F → K × X → Type 0
   -- no more pairs are left
   pub joined-few : length (joined (rows T)) ≤ length (joined (rows S))
   joined-few =
-      let old = length-parts i (rows S) in let new = length-parts i (rows T) in
+      let old = length-around i (rows S) in let new = length-around i (rows T) in
       let front = ap length taken in let here = ap length row-new in let back = ap length left in
       omega (arith, fewer, old, new, front, here, back)
 
@@ -67,13 +73,13 @@ module _ {K X F : Type 0} {R : F → K × X → Bool → F → K × X → Type 0
   -- one of the pairs was picked
   pub ExtractsBehind-slot : (p : K × X) → r ≡ Some p → ExtractsBehind R f (joined (rows S)) n (Some p) g (joined (rows T)) m
   ExtractsBehind-slot p is =
-      rw (joined-parts i (rows S), parts, asked.at.count, count)
+      rw (joined-around i (rows S), around, counted, count)
       (ExtractsBehind-part R f g before (row_of S i) row behind j k asked.at.within asked.within p (rw is at asked.step))
 
   -- none of them was
   pub StepsFrom-slot : r ≡ None → StepsFrom R f (joined (rows S)) n g (joined (rows T)) m
   StepsFrom-slot none =
-      rw (joined-parts i (rows S), parts, asked.at.count, count)
+      rw (joined-around i (rows S), around, counted, count)
       (StepsFrom-part R f g before (row_of S i) row behind j k asked.at.within asked.within (rw none at asked.step))
 
   -- so all pairs of the slot were passed

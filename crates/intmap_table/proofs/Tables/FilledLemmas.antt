@@ -84,10 +84,6 @@ module _ {K X : Type 0} (S : List (Held K X)) {bits : List Bool} {mask : ℕ} (o
     | inr none ↦ rw none (IsDirectory-set false (sym none))
   ]
 
--- slots with the same rows have the same marks
-pub IsDirectory-same_rows : {K X : Type 0} (S T : List (Held K X)) (bits : List Bool) (mask : ℕ) → rows T ≡ rows S → IsDirectory S bits mask → IsDirectory T bits mask
-IsDirectory-same_rows S T bits mask same old = record { marks = rw same old.marks; count = old.count ∙ sym (length-rows S) ∙ ap length (sym same) ∙ length-rows T }
-
 -- the marked indices are indices of slots
 pub indices-within : {K X : Type 0} (S : List (Held K X)) (bits : List Bool) → AreMarked (rows S) bits → All (λ index. index < length S) (marked_indices bits)
 indices-within S bits marks = λ k d lt.

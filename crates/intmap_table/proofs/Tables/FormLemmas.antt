@@ -1,11 +1,12 @@
 -- Slots of either form are one list: those of the other form are none.
-use Rattle.std.proofs.Common.{◌≡◌, inl, inr, ℕ, ◌<◌, ◌≤◌, List, Bool, false, cond, [], ◌++◌, length, get_or, set, sym, ap, ◌∙◌, subst, arith, append-nil, length-append, length-set}
+use Rattle.std.proofs.Common.{◌≡◌, inl, inr, ℕ, ◌<◌, ◌≤◌, List, Bool, true, false, cond, [], ◌∷◌, ◌++◌, length, get_or, set, sym, ap, ◌∙◌, subst, arith, append-nil, length-append, length-set}
 use Rattle.std.specs.Prelude.{◌⊎◌, nat_lt}
-use Rattle.std.proofs.lemmas.List.{get_or_append_left, set-append_left}
+use Rattle.std.proofs.lemmas.Bool.Decides.{nat_tests}
+use Rattle.std.proofs.lemmas.List.{get_or_append_left, get_or_past, set-append_left}
 use Rattle.intmap_table.specs.Tables.Moves.{rooms}
 use Rattle.intmap_table.specs.Tables.Slots.{Held, rows, row_of, IsDirectory, AreSlots, IsRowSet}
 use Rattle.intmap_table.proofs.Tables.FilledLemmas.{IsDirectory-set, IsDirectory-kept, IsDirectory-changed}
-use Rattle.intmap_table.proofs.Tables.TableLemmas.{row-at, rows-kept_at, row-set, room-set, get_or-rooms}
+use Rattle.intmap_table.proofs.Tables.TableLemmas.{length-rows, row-at, rows-kept_at, row-set, row-set_other, room-set, get_or-rooms}
 
 module _ {H : Type 0} (L S : List H) (form : (L ≡ []) ⊎ (S ≡ [])) (i : ℕ) where
   -- a slot that isn't lone is shared, and then none is lone
@@ -71,23 +72,36 @@ module _ {K X : Type 0} (L S : List (Held K X)) {bits : List Bool} {mask : ℕ} 
     within-lone : i < length (L ++ S)
     within-lone = let len = length-append L S in omega (arith, below, len)
 
-    AreSlots-lone : (marks : List Bool) → IsDirectory (set (L ++ S) i h) marks mask → AreSlots (set L i h) S marks mask
-    AreSlots-lone marks directory = record {
+    AreSlots-lone : length h.pairs ≤ 1 → (marks : List Bool) → IsDirectory (set (L ++ S) i h) marks mask → AreSlots (set L i h) S marks mask
+    AreSlots-lone few marks directory = record {
       directory = rw (lone-set L S are.form i h below) directory;
       form = elim are.form [
         | inl none ↦ absurd (let zero = ap length none in omega (arith, below, zero))
         | inr none ↦ inr none
       ];
+      few = rw (lone-set L S are.form i h below, length-set L i h) (λ k lt.
+          let own = row-set (L ++ S) i h within-lone in let other = row-set_other (L ++ S) i h k in let old = are.few k lt in
+          grind (arith, nat_tests, own, other, old, few));
     }
 
-    pub AreSlots-lone_set : (b : Bool) → b ≡ nat_lt 0 (length h.pairs) → AreSlots (set L i h) S (set bits i b) mask
-    AreSlots-lone_set b is = AreSlots-lone (set bits i b) (IsDirectory-set (L ++ S) are.directory i within-lone h b is)
+    pub AreSlots-lone_emptied : h.pairs ≡ [] → AreSlots (set L i h) S (set bits i false) mask
+    AreSlots-lone_emptied none =
+        AreSlots-lone (let n = ap length none in omega (arith, n)) (set bits i false)
+        (IsDirectory-set (L ++ S) are.directory i within-lone h false (ap (λ ps. nat_lt 0 (length ps)) (sym none)))
 
-    pub AreSlots-lone_kept : nat_lt 0 (length (row_of (L ++ S) i)) ≡ nat_lt 0 (length h.pairs) → AreSlots (set L i h) S bits mask
-    AreSlots-lone_kept is = AreSlots-lone bits (IsDirectory-kept (L ++ S) are.directory i within-lone h is)
+    pub AreSlots-lone_filled : (p : K × X) → h.pairs ≡ p ∷ [] → AreSlots (set L i h) S (set bits i true) mask
+    AreSlots-lone_filled p one =
+        AreSlots-lone (let n = ap length one in omega (arith, n)) (set bits i true)
+        (IsDirectory-set (L ++ S) are.directory i within-lone h true (ap (λ ps. nat_lt 0 (length ps)) (sym one)))
 
-    pub AreSlots-lone_changed : (0 < length h.pairs → 0 < length (row_of (L ++ S) i)) → AreSlots (set L i h) S (cond (nat_lt 0 (length h.pairs)) bits (set bits i false)) mask
-    AreSlots-lone_changed filled = AreSlots-lone _ (IsDirectory-changed (L ++ S) are.directory i within-lone h filled)
+    pub AreSlots-lone_kept : length (row_of (L ++ S) i) ≡ length h.pairs → AreSlots (set L i h) S bits mask
+    AreSlots-lone_kept is =
+        AreSlots-lone (let few = are.few i below in omega (arith, few, is)) bits (IsDirectory-kept (L ++ S) are.directory i within-lone h (ap (nat_lt 0) is))
+
+    pub AreSlots-lone_changed : length h.pairs ≤ length (row_of (L ++ S) i) → AreSlots (set L i h) S (cond (nat_lt 0 (length h.pairs)) bits (set bits i false)) mask
+    AreSlots-lone_changed less =
+        AreSlots-lone (let few = are.few i below in omega (arith, few, less)) _
+        (IsDirectory-changed (L ++ S) are.directory i within-lone h (λ some. omega (arith, some, less)))
 
     pub IsRowSet-lone : (row : List (K × X)) → h.pairs ≡ row → IsRowSet (L ++ S) i row (set L i h ++ S)
     IsRowSet-lone row pairs = record { slot = h; pairs = pairs; others = lone-set L S are.form i h below }
@@ -102,6 +116,7 @@ module _ {K X : Type 0} (L S : List (Held K X)) {bits : List Bool} {mask : ℕ} 
     AreSlots-shared marks directory = record {
       directory = rw (shared-set L S are.form i h past within) directory;
       form = inl (none-lone L S are.form i past within);
+      few = λ k lt. absurd (let none = ap length (none-lone L S are.form i past within) in omega (arith, lt, none));
     }
 
     pub AreSlots-shared_set : (b : Bool) → b ≡ nat_lt 0 (length h.pairs) → AreSlots L (set S i h) (set bits i b) mask
@@ -123,31 +138,57 @@ module _ {K X : Type 0} (L S : List (Held K X)) {bits : List Bool} {mask : ℕ} 
     pub shared_set-leaves_room : length h.pairs < h.room → length (row_of (L ++ set S i h) i) < get_or (rooms (L ++ set S i h)) i 0
     shared_set-leaves_room room = rw (shared-set L S are.form i h past within, row-set (L ++ S) i h within, room-set (L ++ S) i h within) room
 
--- slots V of either form: if some are lone, these are all of them, and if none is, the shared ones are
-module _ {K X : Type 0} (L S V : List (Held K X)) (view : L ++ S ≡ V) where
-  pub lone-view : S ≡ [] → L ≡ V
-  lone-view none = sym (append-nil L) ∙ ap (λ M. L ++ M) (sym none) ∙ view
+-- slots V of either form: some are lone, so these are all of them
+pub record AreLone {K X : Type 0} (L S V : List (Held K X)) (bits : List Bool) (mask : ℕ) : Type 0 where
+  pub none : S ≡ []
+  pub all : L ≡ V
+  pub directory : IsDirectory L bits mask
+  pub few : (i : ℕ) → length (row_of L i) ≤ 1
 
-  pub shared-view : L ≡ [] → S ≡ V
-  shared-view none = ap (λ M. M ++ S) (sym none) ∙ view
+-- or none is, so the shared ones are
+pub record AreShared {K X : Type 0} (L S V : List (Held K X)) (bits : List Bool) (mask : ℕ) : Type 0 where
+  pub none : L ≡ []
+  pub all : S ≡ V
+  pub directory : IsDirectory S bits mask
 
-  -- where some are lone, none is shared
-  pub none-shared : (L ≡ []) ⊎ (S ≡ []) → 0 < length L → S ≡ []
-  none-shared form some = elim form [
-    | inl none ↦ absurd (let zero = ap length none in omega (arith, some, zero))
-    | inr none ↦ none
-  ]
+module _ {K X : Type 0} (L S V : List (Held K X)) (view : L ++ S ≡ V) {bits : List Bool} {mask : ℕ} (are : AreSlots L S bits mask) where
+  pub AreLone-some : 0 < length L → AreLone L S V bits mask
+  AreLone-some some =
+      let none : S ≡ [] = elim are.form [
+        | inl none ↦ absurd (let zero = ap length none in omega (arith, some, zero))
+        | inr none ↦ none
+      ] in
+      let same : L ++ S ≡ L = ap (λ M. L ++ M) none ∙ append-nil L in
+      record {
+        none = none;
+        all = sym same ∙ view;
+        directory = subst (λ T. IsDirectory T bits mask) same are.directory;
+        few = λ i.
+            let past = get_or_past (rows L) i [] in let n = length-rows L in let few = are.few i in let row = ap (λ T. length (row_of T i)) same in
+            grind (arith, nat_tests, past, n, few, row);
+      }
+
+  pub AreShared-none : L ≡ [] → AreShared L S V bits mask
+  AreShared-none none = let same : L ++ S ≡ S = ap (λ M. M ++ S) none in record {
+    none = none;
+    all = sym same ∙ view;
+    directory = subst (λ T. IsDirectory T bits mask) same are.directory;
+  }
 
 -- slots of one form alone
 module _ {K X : Type 0} (L S : List (Held K X)) (bits : List Bool) (mask : ℕ) where
-  pub AreSlots-lone_alone : S ≡ [] → IsDirectory L bits mask → AreSlots L S bits mask
-  AreSlots-lone_alone none directory = record {
-    directory = subst (λ T. IsDirectory T bits mask) (sym (append-nil L) ∙ ap (λ M. L ++ M) (sym none)) directory;
-    form = inr none;
-  }
+  pub AreSlots-lone_alone : S ≡ [] → ((i : ℕ) → length (row_of L i) ≤ 1) → IsDirectory L bits mask → AreSlots L S bits mask
+  AreSlots-lone_alone none few directory =
+      let all : L ≡ L ++ S = sym (append-nil L) ∙ ap (λ M. L ++ M) (sym none) in
+      record {
+        directory = subst (λ T. IsDirectory T bits mask) all directory;
+        form = inr none;
+        few = λ i _. subst (λ T. length (row_of T i) ≤ 1) all (few i);
+      }
 
   pub AreSlots-shared_alone : L ≡ [] → IsDirectory S bits mask → AreSlots L S bits mask
   AreSlots-shared_alone none directory = record {
     directory = subst (λ T. IsDirectory T bits mask) (ap (λ M. M ++ S) (sym none)) directory;
     form = inl none;
+    few = λ i lt. absurd (let zero = ap length none in omega (arith, lt, zero));
   }

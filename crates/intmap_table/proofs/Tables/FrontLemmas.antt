@@ -7,7 +7,7 @@ use Rattle.intmap_table.specs.Classes.{slot_number}
 use Rattle.intmap_table.specs.Walk.{ArePassed}
 use Rattle.intmap_table.specs.Tables.Slots.{Held, rows, row_of, joined, IsNextRow, IsTable, IsRowSet}
 use Rattle.intmap_table.proofs.Tables.FilledLemmas.{joined-emptied}
-use Rattle.intmap_table.proofs.Tables.PartsLemmas.{joined-cut, joined-take_past, row-taken, row-left, next-within}
+use Rattle.intmap_table.proofs.Tables.AroundLemmas.{joined-cut, joined-take_past, row-taken, row-left, next-within}
 use Rattle.intmap_table.proofs.Tables.TableLemmas.{slot_of-joined, row-set_other, IsTable-row_set}
 
 module _ {K X : Type 0} (number : K → ℕ) (S : List (Held K X)) (table : IsTable number S) (n : ℕ) where

@@ -61,15 +61,15 @@ grown-more C D grown = rw grown.times.1 (le-mul_of_pos_right C (pow_pos grown.ti
 
 module _ {K X : Type 0} (number : K → ℕ) (C D : ℕ) (grown : IsGrown C D) where
   -- pairs of old slot k don't go to a part of another
-  pub slot_of-apart : (L : List (K × X)) (k j : ℕ) → All (λ p. slot_number number p.0 C ≡ k) L → j % C ≢ k → slot_of number L D j ≡ []
-  slot_of-apart L k j own apart =
+  pub slot_of-elsewhere : (L : List (K × X)) (k j : ℕ) → All (λ p. slot_number number p.0 C ≡ k) L → j % C ≢ k → slot_of number L D j ≡ []
+  slot_of-elsewhere L k j own apart =
       filter_none (λ p. slot_number number p.0 D == j) L
       (All-weaker (λ p. slot_number number p.0 C ≡ k) (λ p. (slot_number number p.0 D == j) ≡ false)
       (λ p here. ne_eqb (slot_number number p.0 D) j (λ q. apart (ap (λ m. m % C) (sym q) ∙ slot_number-grown number C D p.0 grown ∙ here))) L own)
 
   -- so a slot that gets some is a part of it
   pub part-of : (L : List (K × X)) (k j : ℕ) → All (λ p. slot_number number p.0 C ≡ k) L → 0 < length (slot_of number L D j) → j % C ≡ k
-  part-of L k j own some = let none = slot_of-apart L k j own in grind (arith, none, some)
+  part-of L k j own some = let none = slot_of-elsewhere L k j own in grind (arith, none, some)
 
   module _ (R : List (List (K × X))) (is : IsOldRows number R C) where
     -- the pairs of a slot are all of its old row

@@ -8,7 +8,7 @@ use Rattle.std.proofs.lemmas.List.{get_or-take}
 use Rattle.std.proofs.lemmas.List.Folds.{list_any_none}
 use Rattle.intmap_table.specs.Classes.{slot_number}
 use Rattle.intmap_table.specs.Tables.Bits.{marked, marked_indices}
-use Rattle.intmap_table.specs.Tables.Slots.{Held, rows}
+use Rattle.intmap_table.specs.Tables.Slots.{Held, rows, AreMarked}
 use Rattle.intmap_table.specs.Tables.Moves.{IsLonger}
 use Rattle.intmap_table.proofs.Tables.MarkedLemmas.{AllPairs-marked_indices}
 use Rattle.intmap_table.proofs.Tables.FilledLemmas.{row-unmarked, row-within}
@@ -51,6 +51,18 @@ kept-passes : (test : ℕ → Bool) (k : ℕ) (ns : List ℕ) → list_any (λ i
 kept-passes test k [] found = absurd cc
 kept-passes test k (n ∷ ns) found = let rest = kept-passes test k ns in grind (arith, nat_tests, found, rest)
 
+-- at first those are left that hold pairs
+pub AreSplit-rows : {P : Type 0} (R : List (List P)) (marks : List Bool) → AreMarked R marks → (Left Done : ℕ → Type 0)
+    → ((k : ℕ) → k < length R → 0 < length (get_or R k []) → Left k) → ((k : ℕ) → k < length R → get_or R k [] ≡ [] → Done k)
+    → AreSplit Left Done (length R) (marked_indices marks)
+AreSplit-rows R marks are Left Done ahead done = record {
+  ascending = AllPairs-marked_indices marks;
+  ahead = λ k found.
+      let some = ltb-true 0 (length (get_or R k [])) (sym (are.own k) ∙ kept-passes (marked marks) k (range_with_len 0 (length marks)) found) in
+      ahead k (row-within R k some) some;
+  done = λ k lt missed. done k lt (row-unmarked R marks are k missed);
+}
+
 module _ {K X : Type 0} (number : K → ℕ) (S : List (Held K X)) (marks : List Bool) (C : ℕ) (longer : IsLonger number marks C S) where
   pub row-old : (k : ℕ) → k < C → get_or (take C (rows S)) k [] ≡ get_or (rows S) k []
   row-old k lt = get_or-take C (rows S) k [] lt
@@ -59,15 +71,10 @@ module _ {K X : Type 0} (number : K → ℕ) (S : List (Held K X)) (marks : List
   pub own-row : (k : ℕ) → k < C → All (λ p. slot_number number p.0 C ≡ k) (get_or (rows S) k [])
   own-row k lt = rw (row-old k lt) at (longer.own.own k lt)
 
-  -- at first those are left that hold pairs
+  -- and so with old slots
   pub AreSplit-marked : (Left Done : ℕ → Type 0) → ((k : ℕ) → k < C → 0 < length (get_or (rows S) k []) → Left k)
       → ((k : ℕ) → k < C → get_or (rows S) k [] ≡ [] → Done k) → AreSplit Left Done C (marked_indices marks)
-  AreSplit-marked Left Done ahead done = record {
-    ascending = AllPairs-marked_indices marks;
-    ahead = λ k found.
-        let is = kept-passes (marked marks) k (range_with_len 0 (length marks)) found in
-        let some = ltb-true 0 (length (get_or (take C (rows S)) k [])) (sym (longer.marked.own k) ∙ is) in
-        let old : k < C = (let w = row-within (take C (rows S)) k some in let n = longer.own.len in omega (arith, w, n)) in
-        ahead k old (rw (row-old k old) at some);
-    done = λ k lt missed. done k lt (sym (row-old k lt) ∙ row-unmarked (take C (rows S)) marks longer.marked k missed);
-  }
+  AreSplit-marked Left Done ahead done =
+      rw longer.own.len at (AreSplit-rows (take C (rows S)) marks longer.marked Left Done
+      (λ k lt some. let old = rw longer.own.len at lt in ahead k old (rw (row-old k old) at some))
+      (λ k lt none. let old = rw longer.own.len at lt in done k old (sym (row-old k old) ∙ none)))

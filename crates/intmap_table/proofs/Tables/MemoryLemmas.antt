@@ -4,7 +4,7 @@ use Rattle.std.proofs.Math.Nat.{mul-div_cancel_left}
 use Rattle.std.proofs.Math.Seq.{take-append_seam}
 use Rattle.std.specs.Prelude.{Result, Ok, Err, OnOk, OnErr, is_err}
 use Rattle.std.proofs.lemmas.Grind.{flat_map-append}
-use Rattle.std.proofs.lemmas.List.{replicate_more, length-replicate, get_or-replicate, get_or-append_right, map-append, take-map}
+use Rattle.std.proofs.lemmas.List.{replicate_more, length-replicate, get_or-replicate, get_or-append_right, get_or-take, map-append, take-map}
 use Rattle.intmap_table.specs.Classes.{IsCapacity}
 use Rattle.intmap_table.specs.Tables.Slots.{Held, rows, joined, IsTable, IsDirectory}
 use Rattle.intmap_table.specs.Tables.Moves.{IsGrown, IsLonger, bare_slot}
@@ -89,6 +89,9 @@ module _ {K X : Type 0} (S T : List (Held K X)) (D : ℕ) (grown : IsGrown (leng
   take-added =
       ap (λ n. take n (rows T)) (sym (length-rows S)) ∙ ap (take (length (rows S))) added
       ∙ take-append_seam (rows S) (replicate (D - length S) [])
+
+  pub row-added : (k : ℕ) → k < length S → get_or (rows T) k [] ≡ get_or (rows S) k []
+  row-added k lt = sym (get_or-take (length S) (rows T) k [] lt) ∙ ap (λ R. get_or R k []) take-added
 
   -- and there are no more pairs
   pub joined-added : joined (rows T) ≡ joined (rows S)

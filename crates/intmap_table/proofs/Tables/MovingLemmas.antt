@@ -15,10 +15,10 @@ use Rattle.intmap_table.proofs.SlotNumberLemmas.{slot_number-below, capacity-pos
 use Rattle.intmap_table.proofs.Tables.TableLemmas.{length-rows, room-set_other, walk_of-rows}
 use Rattle.intmap_table.proofs.Tables.MarkedLemmas.{get_or-of_default}
 use Rattle.intmap_table.proofs.Tables.FilledLemmas.{pairs_at-marked}
-use Rattle.intmap_table.proofs.Tables.GrownLemmas.{modulo-below, grown-more, filter_none, slot_of-apart, slot_of-old, part-of}
+use Rattle.intmap_table.proofs.Tables.GrownLemmas.{modulo-below, grown-more, filter_none, slot_of-elsewhere, slot_of-old, part-of}
 use Rattle.intmap_table.proofs.Tables.LeftLemmas.{AreSplit, AreSplit-marked, AreSplit-next, first-left, row-old, own-row}
-use Rattle.intmap_table.proofs.Tables.PartsLemmas.{joined-before}
-use Rattle.intmap_table.proofs.Tables.RoomLemmas.{CanLeave-same, need-most, room-emptied}
+use Rattle.intmap_table.proofs.Tables.AroundLemmas.{joined-before}
+use Rattle.intmap_table.proofs.Tables.RoomLemmas.{CanLeave-same, CanLeave-few, need-most, room-emptied}
 
 -- an old slot whose pairs have not moved: they can leave it, and no part of it is marked
 pub record IsLeft {K X : Type 0} (number : K → ℕ) (S₀ : List (Held K X)) (C : ℕ) (bits : List Bool) (S : List (Held K X)) (k : ℕ) : Type 0 where
@@ -175,7 +175,7 @@ module _ {K X : Type 0} (number : K → ℕ) (S₀ : List (Held K X)) (old : Lis
       -- what the parts of another old slot hold, their rooms and their marks are as they were
       module _ (k j : ℕ) (apart : k ≢ index) (part : j % C ≡ k) where
         other : slot_of number (row index) D j ≡ []
-        other = slot_of-apart number C D longer.grown (row index) index j (own index here.old) (λ q. apart (sym part ∙ q))
+        other = slot_of-elsewhere number C D longer.grown (row index) index j (own index here.old) (λ q. apart (sym part ∙ q))
 
         not-index : j ≢ index
         not-index q = apart (sym part ∙ ap (λ n. n % C) q ∙ modulo-below C index here.old)
@@ -220,6 +220,16 @@ module _ {K X : Type 0} (number : K → ℕ) (S₀ : List (Held K X)) (old : Lis
       }
 
 module _ {K X : Type 0} (number : K → ℕ) where
+  -- slots of one pair at most can move on without a buffer
+  pub CanMoveOn-few : (marks : List Bool) (C : ℕ) (S : List (Held K X)) → IsLonger number marks C S
+      → ((j : ℕ) → C ≤ j → j < length S → get_or (rows S) j [] ≡ []) → ((k : ℕ) → k < C → length (get_or (rows S) k []) ≤ 1) → CanMoveOn number marks C 0 S
+  CanMoveOn-few marks C S longer bare few = record {
+    longer = longer;
+    bare = bare;
+    leave = λ k lt. CanLeave-few number (rooms S) (get_or (rows S) k []) C (length S) k (few k lt);
+    short = λ k lt. let one = few k lt in omega (arith, one);
+  }
+
   -- once all are moved, the rows, joined, are the walk of the pairs
   pub joined-moved : (L : List (K × X)) (C : ℕ) (T : List (Held K X)) → IsMoved number L C T → joined (rows T) ≡ walk_of number L C
   joined-moved L C T moved = sym (walk_of-rows number L C T (sym moved.len) (λ j below. sym (moved.rows j below)))

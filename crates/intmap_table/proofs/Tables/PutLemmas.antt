@@ -59,8 +59,8 @@ module _ {K X : Type 0} (number : K → ℕ) where
     pub told-at : (d : Held K X) → marked marks j ≡ nat_lt 0 (length (get_or S j d).pairs)
     told-at d = let n = one in can.told j below (omega (arith, n)) ∙ ap (λ ps. nat_lt 0 (length ps)) (get_or-rows S j d below)
 
-    -- it has room for the pair, or the current block has
-    pub room-at : (d : Held K X) → let h = get_or S j d in (length h.pairs < h.room) ⊎ ((h.room ≡ 1) × (length h.pairs < 1 + block))
+    -- it is empty or has room for the pair, or the current block has
+    pub room-at : (d : Held K X) → let h = get_or S j d in (length h.pairs ≡ 0) ⊎ (length h.pairs < h.room) ⊎ ((h.room ≡ 1) × (length h.pairs < 1 + block))
     room-at d =
         let n = one in let row = ap length (get_or-rows S j d below) in let room = get_or-rooms S j d below in
         let has = can.room j below (omega (arith, n)) in grind (arith, n, row, room, has)
@@ -137,11 +137,11 @@ module _ {K X : Type 0} (number : K → ℕ) where
         counted = let a = first.counted in let b = more.counted in omega (arith, a, b, length-append L M);
       }
 
-  -- a lone pair can be put into a slot that holds none without a block, whatever room the slot has that it was removed from
-  pub CanPut-lone : (S : List (Held K X)) (i : ℕ) (h : Held K X) (p : K × X) (marks : List Bool) (given block : ℕ) → h.pairs ≡ [] → 0 < h.room
+  -- the only pair of a slot can be put into one that holds none without a block, whatever the slot has that it was removed from
+  pub CanPut-only : (S : List (Held K X)) (i : ℕ) (h : Held K X) (p : K × X) (marks : List Bool) (given block : ℕ) → h.pairs ≡ []
       → AreFree number (set (rows S) i []) (p ∷ []) (length S) → CanPut number (set S i bare_slot) marks (p ∷ []) given
       → CanPut number (set S i h) marks (p ∷ []) block
-  CanPut-lone S i h p marks given block none some_room free can =
+  CanPut-only S i h p marks given block none free can =
       let n = length-set S i h in let m = length-set S i bare_slot in
       let row : (s : Held K X) → rows (set S i s) ≡ set (rows S) i s.pairs = λ s. map-set (λ (t : Held K X). t.pairs) S i s in
       record {
@@ -151,7 +151,5 @@ module _ {K X : Type 0} (number : K → ℕ) where
         x = 0;
         room = rw (n, row h, none) (λ j lt some.
             let most = need-most number (p ∷ []) (length S) j in let empty = ap length (free j lt some) in
-            let fits = (rw (m, row bare_slot) at can.room) j lt some in
-            let own = room-set S i h in let other = room-set_other S i h j in let bare = room-set_other S i bare_slot j in
-            inl (grind (arith, lt, most, empty, some_room, own, other, bare, fits)));
+            inl (omega (arith, most, empty)));
       }

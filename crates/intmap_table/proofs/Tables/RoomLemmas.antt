@@ -33,17 +33,19 @@ module _ {K X : Type 0} (number : K → ℕ) where
   -- an old slot can be left as long as the rooms of its parts stay
   pub CanLeave-same : (q r : List ℕ) (L : List (K × X)) (C D k : ℕ) → k < C → C ≤ D → ((j : ℕ) → j < D → j % C ≡ k → get_or q j 0 ≡ get_or r j 0) → CanLeave number r L C D k → CanLeave number q L C D k
   CanLeave-same q r L C D k below more same can = record {
-    fits = (let room = same k (omega (arith, below, more)) (modulo-below C k below) in let fits = can.fits in omega (arith, room, fits));
+    fits = (let room = same k (omega (arith, below, more)) (modulo-below C k below) in let fits = can.fits in grind (arith, room, fits));
     x = can.x;
-    room = λ j lt part. subst (λ n. (need number L D j ≤ cond (j == k) 1 n) ⊎ ((j ≡ can.x) × (cond (j == k) 1 n ≡ 1))) (sym (same j lt part)) (can.room j lt part);
+    room = λ j lt part.
+        subst (λ n. (need number L D j ≤ 1) ⊎ (need number L D j ≤ cond (j == k) 1 n) ⊎ ((j ≡ can.x) × (cond (j == k) 1 n ≡ 1)))
+        (sym (same j lt part)) (can.room j lt part);
   }
 
-  -- one without pairs can
-  pub CanLeave-none : (r : List ℕ) (L : List (K × X)) (C D k : ℕ) → L ≡ [] → CanLeave number r L C D k
-  CanLeave-none r L C D k none = record {
-    fits = (let n = ap length none in omega (arith, n));
+  -- one of one pair at most can
+  pub CanLeave-few : (r : List ℕ) (L : List (K × X)) (C D k : ℕ) → length L ≤ 1 → CanLeave number r L C D k
+  CanLeave-few r L C D k few = record {
+    fits = inl few;
     x = 0;
-    room = λ j _ _. inl (let most = need-most L D j in let n = ap length none in omega (arith, most, n));
+    room = λ j _ _. inl (let most = need-most L D j in omega (arith, most, few));
   }
 
   -- the room of each slot once the block of slot k is taken away
@@ -68,7 +70,7 @@ module _ {K X : Type 0} (number : K → ℕ) where
   CanLeave-short r L C D k few fits bare =
       let one = few_need_one L D few in
       record {
-        fits = fits;
+        fits = inr fits;
         x = one.0;
         room = λ j lt part. let alone = bare j lt part in let le = one.1 j in grind (arith, nat_tests, alone, le);
       }
@@ -89,7 +91,7 @@ module _ {K X : Type 0} (number : K → ℕ) where
   pub CanLeave-parts : (S : List (Held K X)) (L : List (K × X)) (C D k x : ℕ) (counts : List ℕ) → IsGrown C D → k < C → D ≡ length counts * C → All (λ p. slot_number number p.0 C ≡ k) L
       → length L ≤ get_or (rooms S) k 0 → ((t : ℕ) → t < length counts → get_or counts t 0 ≡ in_part number L C (length counts * C) t) → HasParts S C k counts x → CanLeave number (rooms S) L C D k
   CanLeave-parts S L C D k x counts grown below all own fits counted parts = record {
-    fits = fits;
+    fits = inr fits;
     x = x * C + k;
     room = λ j lt part.
         let is : j / C * C + k ≡ j = ap (λ n. j / C * C + n) (sym part) ∙ div-add-mod' j C in
@@ -97,7 +99,7 @@ module _ {K X : Type 0} (number : K → ℕ) where
         let e : get_or counts (j / C) 0 ≡ need number L D j = counted (j / C) w ∙ ap (λ d. in_part number L C d (j / C)) (sym all) ∙ in_part-need L C D k (j / C) grown below own ∙ ap (need number L D) is in
         let room : part_room (rooms S) C k (j / C) ≡ room_without (rooms S) k j = ap (room_without (rooms S) k) is in
         elim (parts.room (j / C) w) [
-          | inl has ↦ inl (omega (arith, has, e, room))
-          | inr bare ↦ inr (sym is ∙ ap (λ n. n * C + k) bare.0, sym room ∙ bare.1)
+          | inl has ↦ inr (inl (omega (arith, has, e, room)))
+          | inr bare ↦ inr (inr (sym is ∙ ap (λ n. n * C + k) bare.0, sym room ∙ bare.1))
         ];
   }

@@ -1,5 +1,5 @@
 -- What lists of pairs, tables and maps are by their keys alone: so are others with these keys.
-use Rattle.std.proofs.Common.{◌≡◌, inl, inr, ℕ, zero, suc, ◌+◌, ◌*◌, ◌/◌, ◌<◌, Bool, List, [], ◌∷◌, ◌++◌, length, map, get_or, set, take, drop, refl, sym, ap, ◌∙◌, subst}
+use Rattle.std.proofs.Common.{arith, ◌≡◌, inl, inr, ℕ, zero, suc, ◌+◌, ◌*◌, ◌/◌, ◌<◌, Bool, List, [], ◌∷◌, ◌++◌, length, map, get_or, set, take, drop, refl, sym, ap, ◌∙◌, subst}
 use Rattle.std.specs.Prelude.{All, nat_lt}
 use Rattle.std.specs.List.{flat_map, range_with_len}
 use Rattle.std.specs.Map.{keys_of}
@@ -93,6 +93,10 @@ module _ {K X Y : Type 0} (S : List (Held K X)) (T : List (Held K Y)) (same : ro
   row-same : (i : ℕ) → keys_of (get_or (rows S) i []) ≡ keys_of (get_or (rows T) i [])
   row-same i = sym (get_or-row_keys S i) ∙ ap (λ ks. get_or ks i []) same ∙ get_or-row_keys T i
 
+  -- and as many pairs
+  pub length-row_same : (i : ℕ) → length (get_or (rows S) i []) ≡ length (get_or (rows T) i [])
+  length-row_same i = length-same_keys (get_or (rows S) i []) (get_or (rows T) i []) (row-same i)
+
   -- slots with the keys of a table are one
   pub IsTable-same_keys : (number : K → ℕ) → IsTable number S → IsTable number T
   IsTable-same_keys number table = record {
@@ -109,7 +113,7 @@ module _ {K X Y : Type 0} (S : List (Held K X)) (T : List (Held K Y)) (same : ro
       let len : length (rows S) ≡ length (rows T) = length-map S (λ h. h.pairs) ∙ length-row_keys ∙ sym (length-map T (λ h. h.pairs)) in
       record {
         words = are.words ∙ ap (λ n. 64 * ((n + 63) / 64)) len;
-        own = λ i. are.own i ∙ ap (nat_lt 0) (length-same_keys (get_or (rows S) i []) (get_or (rows T) i []) (row-same i));
+        own = λ i. are.own i ∙ ap (nat_lt 0) (length-row_same i);
       }
 
   -- if those are none, so are these
@@ -122,12 +126,14 @@ module _ {K X Y : Type 0} (S : List (Held K X)) (T : List (Held K Y)) (same : ro
 -- slots of either form with these keys are of that form
 pub AreSlots-same_keys : {K X Y : Type 0} (L S : List (Held K X)) (M T : List (Held K Y)) → row_keys L ≡ row_keys M → row_keys S ≡ row_keys T
     → {bits : List Bool} {mask : ℕ} → AreSlots L S bits mask → AreSlots M T bits mask
-AreSlots-same_keys L S M T lone shared {bits} {mask} are = record {
-  directory =
-      let append = map-append (λ (h : Held _ _). keys_of h.pairs) in
-      IsDirectory-same_keys (L ++ S) (M ++ T) (append L S ∙ (λ i. lone i ++ shared i) ∙ sym (map-append (λ h. keys_of h.pairs) M T)) bits mask are.directory;
-  form = elim are.form [
-    | inl none ↦ inl (none-same_keys L M lone none)
-    | inr none ↦ inr (none-same_keys S T shared none)
-  ];
-}
+AreSlots-same_keys L S M T lone shared {bits} {mask} are =
+    let all = map-append (λ (h : Held _ _). keys_of h.pairs) L S ∙ (λ i. lone i ++ shared i) ∙ sym (map-append (λ h. keys_of h.pairs) M T) in
+    record {
+      directory = IsDirectory-same_keys (L ++ S) (M ++ T) all bits mask are.directory;
+      form = elim are.form [
+        | inl none ↦ inl (none-same_keys L M lone none)
+        | inr none ↦ inr (none-same_keys S T shared none)
+      ];
+      few = λ i lt.
+          let n = length-row_same (L ++ S) (M ++ T) all i in let old = are.few i (rw (length-row_keys L M lone) lt) in omega (arith, n, old);
+    }

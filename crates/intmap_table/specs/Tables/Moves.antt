@@ -3,7 +3,7 @@ use Rattle.std.specs.Prelude.{◌≡◌, ◌≢◌, ◌⊎◌, ◌||◌, ◌==�
 use Rattle.intmap_table.specs.Classes.{IsCapacity, slot_number}
 use Rattle.intmap_table.specs.Walk.{slot_of}
 use Rattle.intmap_table.specs.Tables.Bits.{marked}
-use Rattle.intmap_table.specs.Tables.Slots.{Held, rows, AreMarked}
+use Rattle.intmap_table.specs.Tables.Slots.{Held, rows, AreMarked, IsTable}
 
 -- how many pairs each slot has room for
 abbrev pub rooms : {K X : Type 0} → List (Held K X) → List ℕ
@@ -59,21 +59,23 @@ module _ {K X : Type 0} (number : K → ℕ) where
     pub counted : n' ≡ n + length L
 
   -- the pairs can be put there one after another: a slot that gets some is marked exactly if it holds a pair, and has room for all of them
-  -- slot x may have no block: the current block, whose room is given, is large enough for it
+  -- a slot that gets one pair alone needs no room, and slot x may have no block: the current block, whose room is given, is large enough for it
   pub record CanPut (S : List (Held K X)) (marks : List Bool) (L : List (K × X)) (block : ℕ) : Type 0 where
     pub capacity : IsCapacity (length S)
     pub words : length S ≤ length marks
     pub told : (j : ℕ) → j < length S → 0 < need L (length S) j → marked marks j ≡ nat_lt 0 (length (get_or (rows S) j []))
     pub x : ℕ
     pub room : (j : ℕ) → j < length S → 0 < need L (length S) j
-        → (length (get_or (rows S) j []) + need L (length S) j ≤ get_or (rooms S) j 0)
+        → (length (get_or (rows S) j []) + need L (length S) j ≤ 1)
+        ⊎ (length (get_or (rows S) j []) + need L (length S) j ≤ get_or (rooms S) j 0)
         ⊎ ((j ≡ x) × (get_or (rooms S) j 0 ≡ 1) × (length (get_or (rows S) j []) + need L (length S) j ≤ 1 + block))
 
   -- with these rooms, the pairs of old slot k can leave it: each of its parts has room for all that it gets, except part x, which may have no block and takes that of the old slot
+  -- a part that gets one pair alone needs no room
   pub record CanLeave (r : List ℕ) (L : List (K × X)) (C D k : ℕ) : Type 0 where
-    pub fits : length L ≤ get_or r k 0
+    pub fits : (length L ≤ 1) ⊎ (length L ≤ get_or r k 0)
     pub x : ℕ
-    pub room : (j : ℕ) → j < D → j % C ≡ k → (need L D j ≤ room_without r k j) ⊎ ((j ≡ x) × (room_without r k j ≡ 1))
+    pub room : (j : ℕ) → j < D → j % C ≡ k → (need L D j ≤ 1) ⊎ (need L D j ≤ room_without r k j) ⊎ ((j ≡ x) × (room_without r k j ≡ 1))
 
   -- the pairs of the first C slots can move on: the others hold none, and each of these can be left, and has at most so many behind its first
   pub record CanMoveOn (marks : List Bool) (C longest : ℕ) (S : List (Held K X)) : Type 0 where
@@ -87,6 +89,17 @@ module _ {K X : Type 0} (number : K → ℕ) where
     pub capacity : IsCapacity C
     pub len : length S ≡ C
     pub rows : (j : ℕ) → j < C → get_or (rows S) j [] ≡ slot_of number L C j
+
+  -- a table that may grow to D slots
+  pub record CanGrow (S : List (Held K X)) (D : ℕ) : Type 0 where
+    pub table : IsTable number S
+    pub capacity : IsCapacity D
+    pub larger : length S ≤ D
+
+  -- the pairs of L have moved to D slots, and each of them was counted
+  pub record HasGrown (L : List (K × X)) (D : ℕ) (S : List (Held K X)) (n n' : ℕ) : Type 0 where
+    pub moved : IsMoved L D S
+    pub counted : n' ≡ n + length L
 
   -- in none of the rows of the slots of D that these pairs go to is a pair
   abbrev pub AreFree : List (List (K × X)) → List (K × X) → ℕ → Type 0

@@ -93,3 +93,4 @@ pub record IsDirectory {K X : Type 0} (slots : List (Held K X)) (bits : List Boo
 pub record AreSlots {K X : Type 0} (lone shared : List (Held K X)) (bits : List Bool) (mask : ℕ) : Type 0 where
   pub directory : IsDirectory (lone ++ shared) bits mask
   pub form : (lone ≡ []) ⊎ (shared ≡ [])
+  pub few : (i : ℕ) → i < length lone → length (row_of (lone ++ shared) i) ≤ 1

@@ -70,10 +70,10 @@ impl<K: IntKey, X: Drop, A: Allocator> Slot<K, X, A> {
 impl<K: IntKey, X, A: Allocator> Slot<K, X, A> {
     /// Removes the only pair, if there is exactly one.
     #[inline(always)]
-    pub(crate) fn take_lone(&mut self) -> Option<(Stored<K>, X)>
-        ensures lone { IfSome result (λ pair. self.old.pairs ≡ pair ∷ []) }
+    pub(crate) fn take_only(&mut self) -> Option<(Stored<K>, X)>
+        ensures only { IfSome result (λ pair. self.old.pairs ≡ pair ∷ []) }
         ensures emptied { IfSome result (λ pair. self.new.pairs ≡ []) }
-        ensures not_lone { IfNone result (length self.old.pairs ≡ 1 → ⊥) }
+        ensures not_one { IfNone result (length self.old.pairs ≡ 1 → ⊥) }
         ensures room { self.new.room ≡ self.old.room }
         ensures some_room { 0 < self.new.room }
         ensures others { IfNone result (self.new.pairs ≡ self.old.pairs) }
@@ -91,8 +91,8 @@ impl<K: IntKey, X, A: Allocator> Slot<K, X, A> {
         ensures pairs { self.old.pairs ≡ result ∷ self.new.pairs }
         ensures room { self.new.room ≡ self.old.room }
     {
-        if let Some(lone) = self.take_lone() {
-            return lone;
+        if let Some(pair) = self.take_only() {
+            return pair;
         }
         let next = self.rest.remove(0);
         replace_first(&mut self.first, next)

@@ -39,25 +39,6 @@ impl<K: IntKey, X: Drop, A: Allocator> Slot<K, X, A> {
         }
         self.rest.push_reserved(pair);
     }
-
-    /// Makes room for one more pair, and allocates for exactly that. It returns whether it
-    /// allocated.
-    pub(crate) fn reserve_one(&mut self) -> Result<bool, AllocError>
-        ensures { self.new.pairs ≡ self.old.pairs }
-    {
-        if self.first.is_none() || self.rest.len() < self.rest.capacity() {
-            return Ok(false);
-        }
-        self.rest.reserve_exact(1)?;
-        Ok(true)
-    }
-
-    /// Gives back the room that no pair needs.
-    pub(crate) fn shrink(&mut self)
-        ensures { self.new.pairs ≡ self.old.pairs }
-    {
-        self.rest.shrink_to_fit();
-    }
 }
 
 impl<K: IntKey, X: Drop, A: Allocator + Copy> Slot<K, X, A> {
@@ -70,8 +51,8 @@ impl<K: IntKey, X: Drop, A: Allocator + Copy> Slot<K, X, A> {
         ensures pairs { self.old.pairs ≡ result ∷ into_iter_items rest.new }
         ensures emptied { self.new.pairs ≡ [] }
     {
-        if let Some(lone) = self.take_lone() {
-            return lone;
+        if let Some(pair) = self.take_only() {
+            return pair;
         }
         let alloc = *self.rest.allocator();
         *rest = mem::replace(&mut self.rest, Vec::new(alloc)).into_iter();

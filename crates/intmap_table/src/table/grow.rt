@@ -7,9 +7,9 @@ ghost use Rattle.intmap_table.specs.Locations.{IsAt};
 
 use crate::key::IntKey;
 use crate::steps::Steps;
-use crate::table::Table;
 use crate::table::locate::Location;
 use crate::table::stored::Stored;
+use crate::table::{Table, index_of};
 use std::alloc::{AllocError, Allocator};
 
 impl<K: IntKey, X: Drop, A: Allocator + Copy> Table<K, X, A> {
@@ -40,9 +40,15 @@ impl<K: IntKey, X: Drop, A: Allocator + Copy> Table<K, X, A> {
         ensures value_returned { IfErr result (λ returned. returned ≡ value) }
         ensures known { OnOk result (K.is_valid key) }
     {
+        let target = index_of(&key, capacity);
         let pair = (Stored::new(key), value);
-        self.slots.grow_with(capacity, slot, pair, placed)?;
-        Ok(self.locate_last(key))
+        self.slots.grow_with(capacity, slot, target, pair, placed)?;
+        let place = self.slots.last_place(target);
+        Ok(Location {
+            key,
+            slot: target,
+            place,
+        })
     }
 
     /// Moves all pairs, in the order of the walk, to their slots among `capacity` slots. If the

@@ -3,7 +3,7 @@ ghost use Rattle.std.specs.Prelude.{◌≡◌, ◌+◌, IfOk, IfErr, IfNone, OnE
 ghost use Rattle.intmap_table.specs.Classes.{slot_number};
 ghost use Rattle.intmap_table.specs.Bindings.{HasDistinctKeys, value_of, take_key, put_pair};
 ghost use Rattle.intmap_table.specs.HandingOver.{HandsOver};
-ghost use Rattle.intmap_table.specs.Locations.{IsAt, IsLast, IsFound, key_at};
+ghost use Rattle.intmap_table.specs.Locations.{IsAt, IsFound, key_at};
 ghost use Rattle.intmap_table.specs.Reach.{reach};
 ghost use Rattle.intmap_table.specs.Walk.{walk_of, slot_of};
 
@@ -45,17 +45,6 @@ impl<K: IntKey, X, A: Allocator> Table<K, X, A> {
             return Err(slot);
         };
         Ok(Location { key, slot, place })
-    }
-
-    /// Where the pair of a key is that is the last of its slot.
-    pub(super) fn locate_last(&self, key: K) -> Location<K>
-        requires { IsLast K.number_of self.now.walk self.now.capacity key }
-        ensures key { result.key ≡ key }
-        ensures at { IsAt K.number_of self.now.walk self.now.capacity result }
-    {
-        let slot = self.index_of(&key);
-        let place = self.slots.last_place(slot);
-        Location { key, slot, place }
     }
 
     /// The key of the pair at a place of a slot.

@@ -3,16 +3,18 @@
 //!
 //! `pairs` has the calls on a pair of one slot, `closures` those with a closure, `walk` the pairs by
 //! reference, and `forms` the change from lone to shared slots. Of growth, `grow_with` has that with a
-//! new pair, `grow` and `place` that of shared slots, `part` that by which they become lone, and
-//! `grow_lone` that of lone ones.
+//! new pair, and `place` puts a pair into its new slot. Where slots keep their form, `grow` has the
+//! growth of shared slots and `grow_lone` that of lone ones. Where the form changes, `grow_to_lone`
+//! has it, or `grow_to_shared`.
 
 mod closures;
 mod forms;
 mod grow;
 mod grow_lone;
+mod grow_to_lone;
+mod grow_to_shared;
 mod grow_with;
 mod pairs;
-mod part;
 mod place;
 pub mod walk;
 
@@ -216,12 +218,12 @@ impl<K: IntKey, X, A: Allocator> Slots<K, X, A> {
     /// The pairs of a slot: the first one, and the rest.
     #[inline(always)]
     #[allow(clippy::type_complexity)]
-    fn parts(&self, index: usize) -> (Option<&(Stored<K>, X)>, &[(Stored<K>, X)])
+    fn first_and_rest(&self, index: usize) -> (Option<&(Stored<K>, X)>, &[(Stored<K>, X)])
         requires { index < length self.now }
         ensures { row_of self.now index ≡ all_pairs (option_copied result.0) result.1.now }
     {
         if self.lone.is_empty() {
-            return self.shared[index].parts();
+            return self.shared[index].first_and_rest();
         }
         (self.lone[index].pair(), &[])
     }

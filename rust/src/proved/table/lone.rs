@@ -94,18 +94,9 @@ impl<K: IntKey, X> Lone<K, X> {
         }
     }
 
-    /// Puts the pair into a slot without one.
+    /// Puts the pair into a slot without one. A slot with room for a pair has none.
     #[inline(always)]
     pub(in crate::proved::table) fn put(&mut self, pair: (Stored<K>, X)) {
-        match self.pair.replace(pair) {
-            None => {}
-            Some(_) => unreachable!(),
-        }
-    }
-
-    /// Puts a pair into a slot that has room for it, and so holds none.
-    #[inline(always)]
-    pub(in crate::proved::table) fn put_back(&mut self, pair: (Stored<K>, X)) {
         match self.pair.replace(pair) {
             None => {}
             Some(_) => unreachable!(),

@@ -115,7 +115,7 @@ impl<K: IntKey, X, A: Allocator> Slot<K, X, A> {
     }
 
     /// The first pair, if there is one, and the rest, by reference.
-    pub(in crate::proved::table) fn parts(&self) -> (Option<&(Stored<K>, X)>, &[(Stored<K>, X)]) {
+    pub(in crate::proved::table) fn first_and_rest(&self) -> (Option<&(Stored<K>, X)>, &[(Stored<K>, X)]) {
         (self.first.as_ref(), self.rest.as_slice())
     }
 }

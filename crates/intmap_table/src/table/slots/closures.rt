@@ -91,6 +91,7 @@ fn write_slots<K: IntKey, V, A: Allocator, F: FnMut(K, &mut V)>(
     ensures keys { row_keys (lone.new.items ++ shared.new.items)
         ≡ row_keys (lone.old.items ++ shared.old.items) }
     ensures form { (lone.new.items ≡ []) ⊎ (shared.new.items ≡ []) }
+    ensures lone { length lone.new.items ≡ length lone.old.items }
 {
     for index in bits.iter() {
         if index < lone.len() {

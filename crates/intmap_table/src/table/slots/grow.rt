@@ -1,10 +1,9 @@
 //! Growth in one jump, in the slots' own vector. All memory is allocated before the first pair
 //! moves.
 ghost use Rattle.std.specs.Prelude.{◌≡◌, ◌+◌, ◌-◌, ◌*◌, ◌/◌, ◌^◌, ◌<◌, ◌≤◌, ℕ, cond, nat_eq, [], ◌++◌, length, get_or, replicate, false, OnOk, OnErr, IfOk, vec_capacity};
-ghost use Rattle.intmap_table.specs.Classes.{IsCapacity, slot_number};
+ghost use Rattle.intmap_table.specs.Classes.{slot_number};
 ghost use Rattle.intmap_table.specs.Tables.Slots.{rows, joined, IsTable, IsDirectory};
-ghost use Rattle.intmap_table.specs.Walk.{walk_of};
-ghost use Rattle.intmap_table.specs.Tables.Moves.{rooms, IsGrown, IsLonger, IsRoomMade, HasParts, CanMoveOn, bare_slot, in_part};
+ghost use Rattle.intmap_table.specs.Tables.Moves.{rooms, CanGrow, CanMoveOn, HasGrown, HasParts, IsGrown, IsLonger, IsRoomMade, bare_slot, in_part};
 
 use crate::bits::Bits;
 use crate::key::IntKey;
@@ -12,78 +11,78 @@ use crate::slot::Slot;
 use crate::steps::Steps;
 use crate::table::index_of;
 use crate::table::slots::grow_lone::grow_lone;
-use crate::table::slots::part::{are_apart, part};
-use crate::table::slots::place::move_all;
+use crate::table::slots::grow_to_lone::{fit_lone, grow_to_lone};
+use crate::table::slots::place::move_shared_slots;
 use crate::table::slots::{Directory, Slots};
 use crate::table::stored::Stored;
 use std::alloc::{AllocError, Allocator};
 use std::mem;
 
-/// Adds one to the count of the part that the key goes to. A part has `old` slots.
+/// Adds one to the count of the part that the key goes to. A part has `len` slots.
 #[inline(always)]
-fn count_key<K: IntKey>(counts: &mut [usize], key: &K, old: usize)
-    requires grown { IsGrown old (length counts.old * old) }
+fn count_key<K: IntKey>(counts: &mut [usize], key: &K, len: usize)
+    requires grown { IsGrown len (length counts.old * len) }
     requires fits { (t : ℕ) → t < length counts.old → get_or counts.old t 0 + 1 < 2 ^ 64 }
     ensures len { length counts.new ≡ length counts.old }
     ensures counts { (t : ℕ) → t < length counts.old → get_or counts.new t 0 ≡ get_or counts.old t 0
-        + cond (nat_eq (slot_number K.number_of key.now (length counts.old * old) / old) t) 1 0 }
+        + cond (nat_eq (slot_number K.number_of key.now (length counts.old * len) / len) t) 1 0 }
 {
-    let part = index_of(key, counts.len() * old) / old;
+    let part = index_of(key, counts.len() * len) / len;
     counts[part] += 1;
 }
 
-/// Adds to the count of each part, which has `old` slots, the number of these pairs that go there.
-fn count_each<K: IntKey, X>(counts: &mut [usize], pairs: &[(Stored<K>, X)], old: usize)
-    requires grown { IsGrown old (length counts.old * old) }
+/// Adds to the count of each part, which has `len` slots, the number of these pairs that go there.
+fn count_each<K: IntKey, X>(counts: &mut [usize], pairs: &[(Stored<K>, X)], len: usize)
+    requires grown { IsGrown len (length counts.old * len) }
     requires fits { (t : ℕ) → t < length counts.old
         → get_or counts.old t 0 + length pairs.now < 2 ^ 64 }
     ensures len { length counts.new ≡ length counts.old }
     ensures counts { (t : ℕ) → t < length counts.old → get_or counts.new t 0
-        ≡ get_or counts.old t 0 + in_part K.number_of pairs.now old (length counts.old * old) t }
+        ≡ get_or counts.old t 0 + in_part K.number_of pairs.now len (length counts.old * len) t }
 {
     for pair in pairs {
-        count_key(counts, pair.0.key(), old);
+        count_key(counts, pair.0.key(), len);
     }
 }
 
-/// Counts the pairs of an old slot by the parts that they go to. A part has `old` slots.
-fn count_parts<K: IntKey, X, A: Allocator>(counts: &mut [usize], slot: &Slot<K, X, A>, old: usize)
-    requires grown { IsGrown old (length counts.old * old) }
+/// Counts the pairs of an old slot by the parts that they go to. A part has `len` slots.
+fn count_parts<K: IntKey, X, A: Allocator>(counts: &mut [usize], slot: &Slot<K, X, A>, len: usize)
+    requires grown { IsGrown len (length counts.old * len) }
     requires fits { length slot.now.pairs < 2 ^ 64 }
     ensures len { length counts.new ≡ length counts.old }
     ensures counts { (t : ℕ) → t < length counts.old → get_or counts.new t 0
-        ≡ in_part K.number_of slot.now.pairs old (length counts.old * old) t }
+        ≡ in_part K.number_of slot.now.pairs len (length counts.old * len) t }
 {
     counts.fill(0);
-    let (first, rest) = slot.parts();
+    let (first, rest) = slot.first_and_rest();
     if let Some(pair) = first {
-        count_key(counts, pair.0.key(), old);
+        count_key(counts, pair.0.key(), len);
     }
-    count_each(counts, rest, old);
+    count_each(counts, rest, len);
 }
 
-/// Makes room in each part of an old slot for the pairs that are counted for it. A part has `old`
+/// Makes room in each part of an old slot for the pairs that are counted for it. A part has `len`
 /// slots. The first part that needs a block gets the block of the old slot instead.
 fn reserve_room<K: IntKey, X: Drop, A: Allocator>(
     slots: &mut [Slot<K, X, A>],
     index: usize,
-    old: usize,
+    len: usize,
     counts: &[usize],
 ) -> Result<(), AllocError>
-    requires within { index < old }
-    requires all { length slots.old ≡ length counts.now * old }
+    requires within { index < len }
+    requires all { length slots.old ≡ length counts.now * len }
     requires bare { (t : ℕ) → 0 < t → t < length counts.now
-        → get_or (rooms slots.old) (t * old + index) 0 ≡ 1 }
-    ensures made { IsRoomMade slots.old old index slots.new }
+        → get_or (rooms slots.old) (t * len + index) 0 ≡ 1 }
+    ensures made { IsRoomMade slots.old len index slots.new }
     ensures room { OnOk result ((x : ℕ)
-        × HasParts slots.new old index counts.now x) }
+        × HasParts slots.new len index counts.now x) }
 {
     let mut spared = false;
     for part in 0..counts.len() {
         let count = counts[part];
         if count > 1 {
             if spared {
-                slots[part * old + index].reserve_behind(count - 1)?;
+                slots[part * len + index].reserve_behind(count - 1)?;
             }
             spared = true;
         }
@@ -199,6 +198,33 @@ fn make_room<K: IntKey, X: Drop, A: Allocator + Copy>(
     Ok(buffer)
 }
 
+/// Moves all pairs, in the order of the walk, to their slots among `capacity` slots, which stay
+/// shared. If an allocation fails, no pair moves.
+fn grow_shared<K: IntKey, X: Drop, A: Allocator + Copy>(
+    shared: &mut Vec<Slot<K, X, A>, A>,
+    directory: &mut Directory<A>,
+    capacity: usize,
+    placed: &mut Steps,
+) -> Result<(), AllocError>
+    requires ready { CanGrow K.number_of shared.old.items capacity }
+    requires directory { IsDirectory shared.old.items directory.old.bits directory.old.mask }
+    requires fits { length (joined (rows shared.old.items)) < 2 ^ 64 }
+    ensures grown { OnOk result (HasGrown K.number_of (joined (rows shared.old.items)) capacity
+        shared.new.items placed.old placed.new) }
+    ensures directory { IsDirectory shared.new.items directory.new.bits directory.new.mask }
+    ensures err { OnErr result (rows shared.new.items ≡ rows shared.old.items) }
+    ensures none_placed { OnErr result (placed.new ≡ placed.old) }
+{
+    let mut bits = reserve_slots(shared, capacity)?;
+    let mut buffer = make_room(shared, directory, capacity)?;
+    move_shared_slots(&mut bits, shared, directory, &mut buffer, placed);
+    *directory = Directory {
+        mask: capacity - 1,
+        bits,
+    };
+    Ok(())
+}
+
 impl<K: IntKey, X: Drop, A: Allocator + Copy> Slots<K, X, A> {
     /// Moves all pairs, in the order of the walk, to their slots among `capacity` slots. If an
     /// allocation fails, no pair moves. Shared slots become lone ones if they may, and if each pair
@@ -206,27 +232,21 @@ impl<K: IntKey, X: Drop, A: Allocator + Copy> Slots<K, X, A> {
     pub(crate) fn grow(
         &mut self,
         capacity: usize,
-        may_part: bool,
+        may_be_lone: bool,
         placed: &mut Steps,
     ) -> Result<(), AllocError>
-        requires table { IsTable K.number_of self.old }
-        requires capacity { IsCapacity capacity }
-        requires larger { length self.old ≤ capacity }
+        requires ready { CanGrow K.number_of self.old capacity }
         requires fits { length (joined (rows self.old)) < 2 ^ 64 }
-        ensures table { OnOk result (IsTable K.number_of self.new) }
-        ensures walk { OnOk result (joined (rows self.new)
-            ≡ walk_of K.number_of (joined (rows self.old)) capacity) }
-        ensures len { OnOk result (length self.new ≡ capacity) }
-        ensures placed { OnOk result
-            (placed.new ≡ placed.old + length (joined (rows self.old))) }
+        ensures grown { OnOk result (HasGrown K.number_of (joined (rows self.old)) capacity
+            self.new placed.old placed.new) }
         ensures err { OnErr result (rows self.new ≡ rows self.old) }
         ensures none_placed { OnErr result (placed.new ≡ placed.old) }
     {
         if !self.lone.is_empty() {
             return grow_lone(&mut self.lone, &mut self.directory, capacity, placed);
         }
-        if are_apart(&self.shared, capacity, may_part) {
-            return part(
+        if may_be_lone && fit_lone(&self.shared, &self.directory.bits, capacity) {
+            return grow_to_lone(
                 &mut self.shared,
                 &mut self.lone,
                 &mut self.directory,
@@ -234,19 +254,6 @@ impl<K: IntKey, X: Drop, A: Allocator + Copy> Slots<K, X, A> {
                 placed,
             );
         }
-        let mut bits = reserve_slots(&mut self.shared, capacity)?;
-        let mut buffer = make_room(&mut self.shared, &self.directory, capacity)?;
-        move_all(
-            &mut bits,
-            &mut self.shared,
-            &self.directory,
-            &mut buffer,
-            placed,
-        );
-        self.directory = Directory {
-            mask: capacity - 1,
-            bits,
-        };
-        Ok(())
+        grow_shared(&mut self.shared, &mut self.directory, capacity, placed)
     }
 }

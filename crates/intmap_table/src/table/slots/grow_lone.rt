@@ -1,40 +1,37 @@
 //! Growth of lone slots, which stay lone: a slot gets pairs of one old slot alone.
-ghost use Rattle.std.specs.Prelude.{◌≡◌, ◌+◌, ◌-◌, ◌*◌, ◌/◌, ◌<◌, ◌≤◌, ℕ, [], ◌++◌, length, get_or, replicate, false, OnOk, OnErr, vec_capacity};
-ghost use Rattle.intmap_table.specs.Classes.{IsCapacity};
-ghost use Rattle.intmap_table.specs.Tables.Slots.{rows, joined, AreMarked, IsTable, IsDirectory};
-ghost use Rattle.intmap_table.specs.Tables.Moves.{IsLonger, IsMoved, bare_slot};
+ghost use Rattle.std.specs.Prelude.{◌≡◌, ◌+◌, ◌-◌, ◌*◌, ◌/◌, ◌<◌, ◌≤◌, ℕ, [], ◌++◌, length, replicate, false, OnOk, OnErr, vec_capacity};
+ghost use Rattle.intmap_table.specs.Tables.Slots.{rows, row_of, joined, AreMarked, IsDirectory};
+ghost use Rattle.intmap_table.specs.Tables.Moves.{CanGrow, CanMoveOn, HasGrown, IsMoved, bare_slot};
 
 use crate::bits::Bits;
 use crate::key::IntKey;
 use crate::lone::Lone;
 use crate::steps::Steps;
-use crate::table::index_of;
 use crate::table::slots::Directory;
 use crate::table::slots::grow::reserve_slots;
+use crate::table::slots::place::place;
 use std::alloc::{AllocError, Allocator};
 use std::mem;
 
 /// Moves the pairs of all old slots to their slots, each of which gets one at most.
-fn move_lone<K: IntKey, X, A: Allocator>(
+fn move_lone_slots<K: IntKey, X: Drop, A: Allocator + Copy>(
     bits: &mut Bits<A>,
     lone: &mut [Lone<K, X>],
     old: &Directory<A>,
+    alloc: A,
     placed: &mut Steps,
 )
     requires unmarked { bits.old ≡ replicate (64 * ((length lone.old + 63) / 64)) false }
-    requires longer { IsLonger K.number_of old.now.bits (old.now.mask + 1) lone.old }
-    requires bare { (j : ℕ) → old.now.mask + 1 ≤ j → j < length lone.old
-        → get_or (rows lone.old) j [] ≡ [] }
+    requires ready { CanMoveOn K.number_of old.now.bits (old.now.mask + 1) 0 lone.old }
     ensures moved { IsMoved K.number_of (joined (rows lone.old)) (length lone.old) lone.new }
     ensures marks { AreMarked (rows lone.new) bits.new }
     ensures placed { placed.new ≡ placed.old + length (joined (rows lone.old)) }
 {
     for index in old.bits.iter() {
         let pair = lone[index].take();
-        let target = index_of(pair.0.key(), lone.len());
-        bits.set(target);
-        lone[target].put(pair);
-        placed.tick();
+        let mut none = [];
+        let mut block = Vec::new(alloc);
+        place(bits, lone, &mut none, pair, false, &mut block, placed);
     }
 }
 
@@ -66,21 +63,20 @@ pub(super) fn grow_lone<K: IntKey, X: Drop, A: Allocator + Copy>(
     capacity: usize,
     placed: &mut Steps,
 ) -> Result<(), AllocError>
-    requires table { IsTable K.number_of lone.old.items }
+    requires ready { CanGrow K.number_of lone.old.items capacity }
     requires directory { IsDirectory lone.old.items directory.old.bits directory.old.mask }
-    requires capacity { IsCapacity capacity }
-    requires larger { length lone.old.items ≤ capacity }
-    ensures moved { OnOk result
-        (IsMoved K.number_of (joined (rows lone.old.items)) capacity lone.new.items) }
+    requires few { (i : ℕ) → length (row_of lone.old.items i) ≤ 1 }
+    ensures grown { OnOk result (HasGrown K.number_of (joined (rows lone.old.items)) capacity
+        lone.new.items placed.old placed.new) }
     ensures directory { IsDirectory lone.new.items directory.new.bits directory.new.mask }
-    ensures placed { OnOk result
-        (placed.new ≡ placed.old + length (joined (rows lone.old.items))) }
+    ensures few { (i : ℕ) → length (row_of lone.new.items i) ≤ 1 }
     ensures err { OnErr result (lone.new.items ≡ lone.old.items) }
     ensures none_placed { OnErr result (placed.new ≡ placed.old) }
 {
+    let alloc = *lone.allocator();
     let mut bits = reserve_slots(lone, capacity)?;
     add_lone(lone, capacity);
-    move_lone(&mut bits, lone, directory, placed);
+    move_lone_slots(&mut bits, lone, directory, alloc, placed);
     *directory = Directory {
         mask: capacity - 1,
         bits,

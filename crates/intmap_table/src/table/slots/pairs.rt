@@ -7,7 +7,7 @@ ghost use Rattle.intmap_table.specs.Tables.Slots.{rows, row_of, IsRowSet};
 use crate::key::IntKey;
 use crate::table::slots::{Slots, unmark_unless};
 use crate::table::stored::Stored;
-use std::alloc::{AllocError, Allocator};
+use std::alloc::Allocator;
 use std::vec::IntoIter;
 
 impl<K: IntKey, X: Drop, A: Allocator + Copy> Slots<K, X, A> {
@@ -58,9 +58,9 @@ impl<K: IntKey, X, A: Allocator> Slots<K, X, A> {
             return pair;
         }
         let slot = &mut self.shared[index];
-        if let Some(lone) = slot.take_lone() {
+        if let Some(pair) = slot.take_only() {
             self.directory.bits.clear_in(word, index);
-            return lone;
+            return pair;
         }
         slot.take_at(place)
     }
@@ -91,7 +91,7 @@ impl<K: IntKey, X, A: Allocator> Slots<K, X, A> {
     {
         let was_filled = self.directory.bits.set(index);
         if index < self.lone.len() {
-            self.lone[index].put_back(pair);
+            self.lone[index].put(pair);
             return;
         }
         let slot = &mut self.shared[index];
@@ -137,44 +137,6 @@ impl<K: IntKey, X, A: Allocator> Slots<K, X, A> {
         let first = slot.take_front();
         unmark_unless(&mut self.directory.bits, slot.is_filled(), index);
         first
-    }
-}
-
-impl<K: IntKey, X: Drop, A: Allocator + Copy> Slots<K, X, A> {
-    /// Puts a pair into a slot that holds none. It allocates nothing.
-    pub(super) fn put_first(&mut self, index: usize, pair: (Stored<K>, X))
-        requires within { index < length self.old }
-        requires empty { row_of self.old index ≡ [] }
-        ensures { IsRowSet self.old index (pair ∷ []) self.new }
-    {
-        self.directory.bits.set(index);
-        if index < self.lone.len() {
-            self.lone[index].put(pair);
-        } else {
-            self.shared[index].put_first(pair);
-        }
-    }
-
-    /// Makes room for one more pair in a slot, and allocates for exactly that. It returns whether
-    /// it allocated.
-    pub(crate) fn reserve_one(&mut self, index: usize) -> Result<bool, AllocError>
-        requires { index < length self.old }
-        ensures { rows self.new ≡ rows self.old }
-    {
-        if index < self.lone.len() {
-            return Ok(false);
-        }
-        self.shared[index].reserve_one()
-    }
-
-    /// Gives back the room of a slot that no pair needs.
-    pub(crate) fn shrink(&mut self, index: usize)
-        requires { index < length self.old }
-        ensures { rows self.new ≡ rows self.old }
-    {
-        if index >= self.lone.len() {
-            self.shared[index].shrink();
-        }
     }
 }
 

@@ -1,10 +1,11 @@
 //! How pairs get to their slots in a table that has grown.
-ghost use Rattle.std.specs.Prelude.{◌≡◌, ◌+◌, ◌*◌, ◌/◌, ◌<◌, ◌≤◌, List, [], ◌∷◌, length, get_or, reverse, replicate, true, false, vec_capacity};
+ghost use Rattle.std.specs.Prelude.{◌≡◌, ◌⊎◌, ◌+◌, ◌*◌, ◌/◌, ◌<◌, ◌≤◌, List, [], ◌∷◌, ◌++◌, length, get_or, reverse, replicate, true, false, vec_capacity};
 ghost use Rattle.intmap_table.specs.Tables.Slots.{rows, joined, AreMarked};
 ghost use Rattle.intmap_table.specs.Tables.Moves.{IsMoved, CanPut, ArePut, AreFree, CanMove, AreMovedFrom, CanMoveOn};
 
 use crate::bits::Bits;
 use crate::key::IntKey;
+use crate::lone::Lone;
 use crate::slot::Slot;
 use crate::steps::Steps;
 use crate::table::index_of;
@@ -12,35 +13,47 @@ use crate::table::slots::Directory;
 use crate::table::stored::Stored;
 use std::alloc::Allocator;
 
-/// Puts a pair at the end of its slot and counts it. The slot's bit is set. If the slot holds a
-/// pair and has no block, it takes this one. If `is_alone`, the slot is known to hold no pair.
+/// Puts a pair at the end of its slot and counts it. The slot's bit is set. The slots are lone or
+/// shared, and there are none of the other form. If a shared slot holds a pair and has no block, it
+/// takes this one. If `is_alone`, the slot is known to hold no pair.
 #[inline(always)]
-fn place<K: IntKey, X: Drop, A: Allocator>(
+pub(super) fn place<K: IntKey, X: Drop, A: Allocator>(
     bits: &mut Bits<A>,
-    slots: &mut [Slot<K, X, A>],
+    lone: &mut [Lone<K, X>],
+    shared: &mut [Slot<K, X, A>],
     pair: (Stored<K>, X),
     is_alone: bool,
     block: &mut Vec<(Stored<K>, X), A>,
     placed: &mut Steps,
 )
-    requires can { (rest : List (K × X))
-        × CanPut K.number_of slots.old bits.old (pair ∷ rest) (vec_capacity block.old) }
-    requires alone { is_alone ≡ true
-        → AreFree K.number_of (rows slots.old) (pair ∷ []) (length slots.old) }
+    requires form { (lone.old ≡ []) ⊎ (shared.old ≡ []) }
+    requires can { (rest : List (K × X)) × CanPut K.number_of (lone.old ++ shared.old) bits.old
+        (pair ∷ rest) (vec_capacity block.old) }
+    requires alone { is_alone ≡ true → AreFree K.number_of (rows (lone.old ++ shared.old))
+        (pair ∷ []) (length (lone.old ++ shared.old)) }
     requires block { block.old.items ≡ [] }
-    ensures put { ArePut K.number_of slots.old bits.old placed.old (pair ∷ []) slots.new bits.new
-        placed.new }
-    ensures can { (rest : List (K × X))
-        → CanPut K.number_of slots.old bits.old (pair ∷ rest) (vec_capacity block.old)
-        → CanPut K.number_of slots.new bits.new rest (vec_capacity block.new) }
+    requires lone { (lone.old ≡ []) ⊎ (vec_capacity block.old ≡ 0) }
+    ensures put { ArePut K.number_of (lone.old ++ shared.old) bits.old placed.old (pair ∷ [])
+        (lone.new ++ shared.new) bits.new placed.new }
+    ensures can { (rest : List (K × X)) → CanPut K.number_of (lone.old ++ shared.old) bits.old
+        (pair ∷ rest) (vec_capacity block.old)
+        → CanPut K.number_of (lone.new ++ shared.new) bits.new rest (vec_capacity block.new) }
     ensures block { block.new.items ≡ [] }
+    ensures lone { length lone.new ≡ length lone.old }
+    ensures shared { length shared.new ≡ length shared.old }
+    ensures lone_block { shared.old ≡ [] → vec_capacity block.new ≡ vec_capacity block.old }
 {
-    let index = index_of(pair.0.key(), slots.len());
-    let slot = &mut slots[index];
-    if bits.set(index) && !is_alone {
-        slot.push_with(pair, block);
+    let index = index_of(pair.0.key(), lone.len() + shared.len());
+    let is_filled = bits.set(index);
+    if index < lone.len() {
+        lone[index].put(pair);
     } else {
-        slot.put_first(pair);
+        let slot = &mut shared[index];
+        if is_filled && !is_alone {
+            slot.push_with(pair, block);
+        } else {
+            slot.put_first(pair);
+        }
     }
     placed.tick();
 }
@@ -63,7 +76,8 @@ fn place_each<K: IntKey, X: Drop, A: Allocator>(
     ensures buffer_room { vec_capacity buffer.old ≤ vec_capacity buffer.new }
 {
     while let Some(pair) = buffer.pop() {
-        place(bits, slots, pair, false, block, placed);
+        let mut none = [];
+        place(bits, &mut none, slots, pair, false, block, placed);
     }
 }
 
@@ -86,14 +100,15 @@ fn move_several<K: IntKey, X: Drop, A: Allocator + Copy>(
     ensures buffer_room { vec_capacity buffer.old ≤ vec_capacity buffer.new }
 {
     let (first, mut block) = slots[index].take_out(buffer);
-    place(bits, slots, first, false, &mut block, placed);
+    let mut none = [];
+    place(bits, &mut none, slots, first, false, &mut block, placed);
     place_each(bits, slots, buffer, &mut block, placed);
 }
 
 /// Moves the pairs of an old slot, in order, to the ends of their slots. If the slot holds a single
 /// pair, it may keep its block.
 #[inline(always)]
-fn move_slot<K: IntKey, X: Drop, A: Allocator + Copy>(
+fn move_shared_slot<K: IntKey, X: Drop, A: Allocator + Copy>(
     bits: &mut Bits<A>,
     slots: &mut [Slot<K, X, A>],
     index: usize,
@@ -108,17 +123,18 @@ fn move_slot<K: IntKey, X: Drop, A: Allocator + Copy>(
     ensures buffer { buffer.new.items ≡ [] }
     ensures buffer_room { vec_capacity buffer.old ≤ vec_capacity buffer.new }
 {
-    if let Some(lone) = slots[index].take_lone() {
+    if let Some(pair) = slots[index].take_only() {
         // its new slot holds no pair, so it needs no memory here
         let mut block = Vec::new(*buffer.allocator());
-        place(bits, slots, lone, true, &mut block, placed);
+        let mut none = [];
+        place(bits, &mut none, slots, pair, true, &mut block, placed);
         return;
     }
     move_several(bits, slots, index, buffer, placed);
 }
 
 /// Moves the pairs of all old slots, slot after slot, to the ends of their slots.
-pub(super) fn move_all<K: IntKey, X: Drop, A: Allocator + Copy>(
+pub(super) fn move_shared_slots<K: IntKey, X: Drop, A: Allocator + Copy>(
     bits: &mut Bits<A>,
     slots: &mut [Slot<K, X, A>],
     old: &Directory<A>,
@@ -134,6 +150,6 @@ pub(super) fn move_all<K: IntKey, X: Drop, A: Allocator + Copy>(
     ensures placed { placed.new ≡ placed.old + length (joined (rows slots.old)) }
 {
     for index in old.bits.iter() {
-        move_slot(bits, slots, index, buffer, placed);
+        move_shared_slot(bits, slots, index, buffer, placed);
     }
 }

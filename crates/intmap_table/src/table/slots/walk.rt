@@ -58,7 +58,7 @@ impl<'a, K: IntKey, X, A: Allocator> Pairs<'a, K, X, A> {
             let Some(index) = self.filled.next() else {
                 return None;
             };
-            let (first, rest) = self.slots.parts(index);
+            let (first, rest) = self.slots.first_and_rest(index);
             self.rest = rest;
             if let Some(pair) = first {
                 return Some(pair);

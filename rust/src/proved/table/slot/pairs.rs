@@ -53,7 +53,7 @@ impl<K: IntKey, X, A: Allocator> Slot<K, X, A> {
 impl<K: IntKey, X, A: Allocator> Slot<K, X, A> {
     /// Removes the only pair, if there is exactly one.
     #[inline(always)]
-    pub(in crate::proved::table) fn take_lone(&mut self) -> Option<(Stored<K>, X)> {
+    pub(in crate::proved::table) fn take_only(&mut self) -> Option<(Stored<K>, X)> {
         if !self.rest.is_empty() {
             return None;
         }
@@ -63,8 +63,8 @@ impl<K: IntKey, X, A: Allocator> Slot<K, X, A> {
     /// Removes the first pair. The others move up by one place.
     #[inline(always)]
     pub(in crate::proved::table) fn take_front(&mut self) -> (Stored<K>, X) {
-        if let Some(lone) = self.take_lone() {
-            return lone;
+        if let Some(pair) = self.take_only() {
+            return pair;
         }
         let next = self.rest.remove(0);
         replace_first(&mut self.first, next)

@@ -24,21 +24,6 @@ impl<K: IntKey, X, A: Allocator> Slot<K, X, A> {
         }
         self.rest.push_reserved(pair);
     }
-
-    /// Makes room for one more pair, and allocates for exactly that. It returns whether it
-    /// allocated.
-    pub(in crate::proved::table) fn reserve_one(&mut self) -> Result<bool, AllocError> {
-        if self.first.is_none() || self.rest.len() < self.rest.capacity() {
-            return Ok(false);
-        }
-        self.rest.reserve_exact(1)?;
-        Ok(true)
-    }
-
-    /// Gives back the room that no pair needs.
-    pub(in crate::proved::table) fn shrink(&mut self) {
-        self.rest.shrink_to_fit();
-    }
 }
 
 impl<K: IntKey, X, A: Allocator + Copy> Slot<K, X, A> {
@@ -46,8 +31,8 @@ impl<K: IntKey, X, A: Allocator + Copy> Slot<K, X, A> {
     /// with their block. No pair moves.
     #[inline(always)]
     pub(in crate::proved::table) fn take_all(&mut self, rest: &mut IntoIter<(Stored<K>, X), A>) -> (Stored<K>, X) {
-        if let Some(lone) = self.take_lone() {
-            return lone;
+        if let Some(pair) = self.take_only() {
+            return pair;
         }
         let alloc = *self.rest.allocator();
         *rest = mem::replace(&mut self.rest, Vec::new(alloc)).into_iter();

@@ -3,9 +3,9 @@
 use crate::memory::prelude::*;
 use crate::proved::table::key::IntKey;
 use crate::proved::table::steps::Steps;
-use crate::proved::table::table::Table;
 use crate::proved::table::table::locate::Location;
 use crate::proved::table::table::stored::Stored;
+use crate::proved::table::table::{Table, index_of};
 use crate::memory::alloc::{AllocError, Allocator};
 
 impl<K: IntKey, X, A: Allocator + Copy> Table<K, X, A> {
@@ -20,9 +20,15 @@ impl<K: IntKey, X, A: Allocator + Copy> Table<K, X, A> {
         value: X,
         placed: &mut Steps,
     ) -> Result<Location<K>, X> {
+        let target = index_of(&key, capacity);
         let pair = (Stored::new(key), value);
-        self.slots.grow_with(capacity, slot, pair, placed)?;
-        Ok(self.locate_last(key))
+        self.slots.grow_with(capacity, slot, target, pair, placed)?;
+        let place = self.slots.last_place(target);
+        Ok(Location {
+            key,
+            slot: target,
+            place,
+        })
     }
 
     /// Moves all pairs, in the order of the walk, to their slots among `capacity` slots. If the

@@ -29,13 +29,6 @@ impl<K: IntKey, X, A: Allocator> Table<K, X, A> {
         Ok(Location { key, slot, place })
     }
 
-    /// Where the pair of a key is that is the last of its slot.
-    pub(super) fn locate_last(&self, key: K) -> Location<K> {
-        let slot = self.index_of(&key);
-        let place = self.slots.last_place(slot);
-        Location { key, slot, place }
-    }
-
     /// The key of the pair at a place of a slot.
     pub fn key_at(&self, slot: usize, place: usize) -> &K {
         self.slots.key_at(slot, place).key()

@@ -42,7 +42,7 @@ use Rattle.std.specs.declared.alloc.Allocator as allocator
 use Rattle.std.specs.declared.clone.Clone as clone
 use Rattle.std.specs.declared.cmp.Eq as total
 use Rattle.std.specs.declared.cmp.PartialEq as eq
-use Rattle.intmap.specs.Map.{MapState}
+use Rattle.intmap.specs.Map.{MapState, map_with_values}
 use Rattle.intmap_table.specs.declared.key.IntKey as key
 use Rattle.intmap_table.specs.declared.lent.Lent.{Lent}
 use Rattle.intmap_table.specs.contracts.lent.Lent as L-type
@@ -50,7 +50,6 @@ use Rattle.intmap.specs.contracts.map.IntMap.lend as f
 use Rattle.intmap_table.proofs.Lending.CellLemmas.{lent_value, lent_value-made}
 use Rattle.intmap_table.proofs.Lending.LendByLemmas.{Cut, lend_by}
 use Rattle.intmap_table.proofs.Lending.ValuesLemmas.{values_of-with_values}
-use Rattle.intmap.specs.Map.{map_with_values}
 use Rattle.intmap.proofs.LendMapLemmas.{Mr, Holed, table_place, map_opens}
 use Rattle.intmap_table.proofs.Lending.OpensPairLemmas.{V}
 use Rattle.intmap.proofs.map.IntMap.lend.Statement.{statement}

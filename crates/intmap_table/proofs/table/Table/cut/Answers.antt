@@ -3,7 +3,7 @@ use Rattle.intmap_table.specs.Picking.{position}
 use Rattle.intmap_table.specs.Tables.Slots.{rows, row_of, joined, count_before, IsTable}
 use Rattle.intmap_table.specs.declared.table.walk.Cursor.{Cursor}
 use Rattle.intmap_table.proofs.SlotNumberLemmas.{capacity-greatest}
-use Rattle.intmap_table.proofs.Tables.PositionLemmas.{IsTable-cut, before-cut, drop-cut, position-before, take-cut}
+use Rattle.intmap_table.proofs.Tables.CursorLemmas.{IsTable-cut, before-cut, drop-cut, position-before, take-cut}
 use Rattle.intmap_table.proofs.Tables.TableLemmas.{length-row_set, walk_of-joined}
 use Rattle.intmap_table.proofs.table.Table.cut.Goals as goal
 use Rattle.intmap_table.proofs.table.Table.cut.Goals.{After-seek, After-remove_at-key}

@@ -2,9 +2,9 @@ use Rattle.std.proofs.Common.{◌≡◌, ◌+◌, ◌∷◌, ◌∙◌, get_or, 
 use Rattle.intmap_table.specs.Picking.{position}
 use Rattle.intmap_table.specs.Tables.Slots.{Grid, rows, row_of, joined, count_before}
 use Rattle.intmap_table.specs.declared.table.walk.Cursor.{Cursor}
-use Rattle.intmap_table.proofs.Tables.PartsLemmas.{length-parts}
+use Rattle.intmap_table.proofs.Tables.AroundLemmas.{length-around}
 use Rattle.intmap_table.proofs.SlotNumberLemmas.{capacity-greatest}
-use Rattle.intmap_table.proofs.Tables.PositionLemmas.{before-here, drop-here, position-before}
+use Rattle.intmap_table.proofs.Tables.CursorLemmas.{before-here, drop-here, position-before}
 use Rattle.intmap_table.proofs.table.Table.step.Goals as goal
 use Rattle.intmap_table.proofs.table.Table.step.Goals.{After-seek}
 
@@ -32,7 +32,7 @@ returns-then-not-seek-clause-passed g c =
 
 pub overflow_add-at : goal.overflow_add-at
 overflow_add-at g c =
-    let parts = length-parts c.seek.new.at.slot (rows c.self.inside.slots) in let all = ap (λ (t : Grid _ _). length t.walk) c.self.view_is in
+    let parts = length-around c.seek.new.at.slot (rows c.self.inside.slots) in let all = ap (λ (t : Grid _ _). length t.walk) c.self.view_is in
     omega (arith, parts, all, c.requires.count, c.if-not-seek.ensures.pair)
 
 pub returns-clause-first : goal.returns-clause-first

@@ -4,7 +4,7 @@ use Rattle.std.proofs.lemmas.List.Elements.{All-head}
 use Rattle.intmap_table.specs.Classes.{slot_number}
 use Rattle.intmap_table.specs.Tables.Slots.{rows}
 use Rattle.intmap_table.proofs.Tables.FrontLemmas.{rows-passed, joined-passed, joined-front, IsTable-front, ArePassed-front}
-use Rattle.intmap_table.proofs.Tables.PartsLemmas.{next-within}
+use Rattle.intmap_table.proofs.Tables.AroundLemmas.{next-within}
 use Rattle.intmap_table.proofs.Tables.TableLemmas.{length-row_set, walk_of-joined}
 use Rattle.intmap_table.proofs.table.Table.take_front.Goals as goal
 use Rattle.intmap_table.proofs.table.Table.take_front.Goals.{In_ok-index}

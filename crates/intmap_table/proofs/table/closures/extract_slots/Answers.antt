@@ -8,7 +8,7 @@ use Rattle.intmap_table.proofs.SlotNumberLemmas.{capacity-greatest}
 use Rattle.intmap_table.proofs.TakingLemmas.{TakesEach-front}
 use Rattle.intmap_table.proofs.Tables.CursorLemmas.{IsInRows-next, IsInRows-reached, IsReached-at, drop-none, drop-reached, row-few}
 use Rattle.intmap_table.proofs.Tables.ExtractSlotsLemmas.{IsAsked, ExtractsBehind-slot, IsInRows-left, IsInRows-step, StepsFrom-slot, TakesEach-slot, joined-few, place-on}
-use Rattle.intmap_table.proofs.Tables.PartsLemmas.{next-within}
+use Rattle.intmap_table.proofs.Tables.AroundLemmas.{next-within}
 use Rattle.intmap_table.proofs.Tables.TableLemmas.{IsTable-row_set, length-row_set}
 use Rattle.intmap_table.proofs.table.closures.extract_slots.Goals as goal
 use Rattle.intmap_table.proofs.table.closures.extract_slots.Goals.{After-extract_at-found}

@@ -5,7 +5,7 @@ use Rattle.intmap_table.specs.Tables.Slots.{rows, row_of, joined}
 use Rattle.intmap_table.proofs.SlotNumberLemmas.{capacity-greatest}
 use Rattle.intmap_table.proofs.RetainLemmas.{FoldsTo-Retains, All-Retains, Retains-append, length-Retains}
 use Rattle.intmap_table.proofs.TakingLemmas.{TakesEach-front}
-use Rattle.intmap_table.proofs.Tables.PartsLemmas.{joined-before, next-left, next-within, row-left, row-taken, Leads-all, Leads-row, TakesEach-row}
+use Rattle.intmap_table.proofs.Tables.AroundLemmas.{joined-before, next-left, next-within, row-left, row-taken, Leads-all, Leads-row, TakesEach-row}
 use Rattle.intmap_table.proofs.Tables.TableLemmas.{length-row_set, IsTable-row_set}
 use Rattle.intmap_table.proofs.table.closures.retain_slots.Goals as goal
 use Rattle.intmap_table.proofs.table.closures.retain_slots.Goals.{In-Some}

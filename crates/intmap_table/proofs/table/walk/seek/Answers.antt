@@ -1,12 +1,12 @@
 use Rattle.std.proofs.Common.{◌+◌, ◌∙◌, drop, sym, ap, subst, arith}
 use Rattle.std.proofs.lemmas.Bool.Decides.{nat_tests}
 use Rattle.intmap_table.specs.Tables.Slots.{rows, joined, IsNextRow}
-use Rattle.intmap_table.proofs.Tables.PartsLemmas.{length-parts, next-within}
-use Rattle.intmap_table.proofs.Tables.PositionLemmas.{before-next, before-past, drop-end}
+use Rattle.intmap_table.proofs.Tables.AroundLemmas.{length-around, next-within}
+use Rattle.intmap_table.proofs.Tables.CursorLemmas.{before-next, before-past, drop-end}
 use Rattle.intmap_table.proofs.table.walk.seek.Goals as goal
 
 pub has_pair-requires : goal.has_pair-requires
-has_pair-requires g c = let parts = length-parts c.args.at.now.slot (rows c.args.slots.now) in omega (arith, parts, c.requires.count)
+has_pair-requires g c = let parts = length-around c.args.at.now.slot (rows c.args.slots.now) in omega (arith, parts, c.requires.count)
 
 pub returns-in_default-clause-none : goal.returns-in_default-clause-none
 returns-in_default-clause-none g c =

@@ -8,43 +8,43 @@ use crate::proved::table::slot::Slot;
 use crate::proved::table::steps::Steps;
 use crate::proved::table::table::index_of;
 use crate::proved::table::table::slots::grow_lone::grow_lone;
-use crate::proved::table::table::slots::part::{are_apart, part};
-use crate::proved::table::table::slots::place::move_all;
+use crate::proved::table::table::slots::grow_to_lone::{fit_lone, grow_to_lone};
+use crate::proved::table::table::slots::place::move_shared_slots;
 use crate::proved::table::table::slots::{Directory, Slots};
 use crate::proved::table::table::stored::Stored;
 use crate::memory::alloc::{AllocError, Allocator};
 use core::mem;
 
-/// Adds one to the count of the part that the key goes to. A part has `old` slots.
+/// Adds one to the count of the part that the key goes to. A part has `len` slots.
 #[inline(always)]
-fn count_key<K: IntKey>(counts: &mut [usize], key: &K, old: usize) {
-    let part = index_of(key, counts.len() * old) / old;
+fn count_key<K: IntKey>(counts: &mut [usize], key: &K, len: usize) {
+    let part = index_of(key, counts.len() * len) / len;
     counts[part] += 1;
 }
 
-/// Adds to the count of each part, which has `old` slots, the number of these pairs that go there.
-fn count_each<K: IntKey, X>(counts: &mut [usize], pairs: &[(Stored<K>, X)], old: usize) {
+/// Adds to the count of each part, which has `len` slots, the number of these pairs that go there.
+fn count_each<K: IntKey, X>(counts: &mut [usize], pairs: &[(Stored<K>, X)], len: usize) {
     for pair in pairs {
-        count_key(counts, pair.0.key(), old);
+        count_key(counts, pair.0.key(), len);
     }
 }
 
-/// Counts the pairs of an old slot by the parts that they go to. A part has `old` slots.
-fn count_parts<K: IntKey, X, A: Allocator>(counts: &mut [usize], slot: &Slot<K, X, A>, old: usize) {
+/// Counts the pairs of an old slot by the parts that they go to. A part has `len` slots.
+fn count_parts<K: IntKey, X, A: Allocator>(counts: &mut [usize], slot: &Slot<K, X, A>, len: usize) {
     counts.fill(0);
-    let (first, rest) = slot.parts();
+    let (first, rest) = slot.first_and_rest();
     if let Some(pair) = first {
-        count_key(counts, pair.0.key(), old);
+        count_key(counts, pair.0.key(), len);
     }
-    count_each(counts, rest, old);
+    count_each(counts, rest, len);
 }
 
-/// Makes room in each part of an old slot for the pairs that are counted for it. A part has `old`
+/// Makes room in each part of an old slot for the pairs that are counted for it. A part has `len`
 /// slots. The first part that needs a block gets the block of the old slot instead.
 fn reserve_room<K: IntKey, X, A: Allocator>(
     slots: &mut [Slot<K, X, A>],
     index: usize,
-    old: usize,
+    len: usize,
     counts: &[usize],
 ) -> Result<(), AllocError> {
     let mut spared = false;
@@ -52,7 +52,7 @@ fn reserve_room<K: IntKey, X, A: Allocator>(
         let count = counts[part];
         if count > 1 {
             if spared {
-                slots[part * old + index].reserve_behind(count - 1)?;
+                slots[part * len + index].reserve_behind(count - 1)?;
             }
             spared = true;
         }
@@ -135,6 +135,24 @@ fn make_room<K: IntKey, X, A: Allocator + Copy>(
     Ok(buffer)
 }
 
+/// Moves all pairs, in the order of the walk, to their slots among `capacity` slots, which stay
+/// shared. If an allocation fails, no pair moves.
+fn grow_shared<K: IntKey, X, A: Allocator + Copy>(
+    shared: &mut Vec<Slot<K, X, A>, A>,
+    directory: &mut Directory<A>,
+    capacity: usize,
+    placed: &mut Steps,
+) -> Result<(), AllocError> {
+    let mut bits = reserve_slots(shared, capacity)?;
+    let mut buffer = make_room(shared, directory, capacity)?;
+    move_shared_slots(&mut bits, shared, directory, &mut buffer, placed);
+    *directory = Directory {
+        mask: capacity - 1,
+        bits,
+    };
+    Ok(())
+}
+
 impl<K: IntKey, X, A: Allocator + Copy> Slots<K, X, A> {
     /// Moves all pairs, in the order of the walk, to their slots among `capacity` slots. If an
     /// allocation fails, no pair moves. Shared slots become lone ones if they may, and if each pair
@@ -142,14 +160,14 @@ impl<K: IntKey, X, A: Allocator + Copy> Slots<K, X, A> {
     pub(in crate::proved::table) fn grow(
         &mut self,
         capacity: usize,
-        may_part: bool,
+        may_be_lone: bool,
         placed: &mut Steps,
     ) -> Result<(), AllocError> {
         if !self.lone.is_empty() {
             return grow_lone(&mut self.lone, &mut self.directory, capacity, placed);
         }
-        if are_apart(&self.shared, capacity, may_part) {
-            return part(
+        if may_be_lone && fit_lone(&self.shared, &self.directory.bits, capacity) {
+            return grow_to_lone(
                 &mut self.shared,
                 &mut self.lone,
                 &mut self.directory,
@@ -157,19 +175,6 @@ impl<K: IntKey, X, A: Allocator + Copy> Slots<K, X, A> {
                 placed,
             );
         }
-        let mut bits = reserve_slots(&mut self.shared, capacity)?;
-        let mut buffer = make_room(&mut self.shared, &self.directory, capacity)?;
-        move_all(
-            &mut bits,
-            &mut self.shared,
-            &self.directory,
-            &mut buffer,
-            placed,
-        );
-        self.directory = Directory {
-            mask: capacity - 1,
-            bits,
-        };
-        Ok(())
+        grow_shared(&mut self.shared, &mut self.directory, capacity, placed)
     }
 }

@@ -5,25 +5,25 @@ use crate::proved::table::bits::Bits;
 use crate::proved::table::key::IntKey;
 use crate::proved::table::lone::Lone;
 use crate::proved::table::steps::Steps;
-use crate::proved::table::table::index_of;
 use crate::proved::table::table::slots::Directory;
 use crate::proved::table::table::slots::grow::reserve_slots;
+use crate::proved::table::table::slots::place::place;
 use crate::memory::alloc::{AllocError, Allocator};
 use core::mem;
 
 /// Moves the pairs of all old slots to their slots, each of which gets one at most.
-fn move_lone<K: IntKey, X, A: Allocator>(
+fn move_lone_slots<K: IntKey, X, A: Allocator + Copy>(
     bits: &mut Bits<A>,
     lone: &mut [Lone<K, X>],
     old: &Directory<A>,
+    alloc: A,
     placed: &mut Steps,
 ) {
     for index in old.bits.iter() {
         let pair = lone[index].take();
-        let target = index_of(pair.0.key(), lone.len());
-        bits.set(target);
-        lone[target].put(pair);
-        placed.tick();
+        let mut none = [];
+        let mut block = Vec::new(alloc);
+        place(bits, lone, &mut none, pair, false, &mut block, placed);
     }
 }
 
@@ -50,9 +50,10 @@ pub(super) fn grow_lone<K: IntKey, X, A: Allocator + Copy>(
     capacity: usize,
     placed: &mut Steps,
 ) -> Result<(), AllocError> {
+    let alloc = *lone.allocator();
     let mut bits = reserve_slots(lone, capacity)?;
     add_lone(lone, capacity);
-    move_lone(&mut bits, lone, directory, placed);
+    move_lone_slots(&mut bits, lone, directory, alloc, placed);
     *directory = Directory {
         mask: capacity - 1,
         bits,

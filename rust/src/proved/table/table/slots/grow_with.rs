@@ -2,13 +2,11 @@
 
 use crate::memory::prelude::*;
 use crate::proved::table::key::IntKey;
-use crate::proved::table::lone::Lone;
-use crate::proved::table::slot::Slot;
 use crate::proved::table::steps::Steps;
 use crate::proved::table::table::index_of;
-use crate::proved::table::table::slots::forms::share_each;
-use crate::proved::table::table::slots::grow_lone::grow_lone;
-use crate::proved::table::table::slots::{Directory, Slots};
+use crate::proved::table::table::slots::Slots;
+use crate::proved::table::table::slots::grow_to_shared::grow_to_shared;
+use crate::proved::table::table::slots::place::place;
 use crate::proved::table::table::stored::Stored;
 use crate::memory::alloc::Allocator;
 
@@ -27,61 +25,36 @@ fn any_meets<K: IntKey, X>(pairs: &[(Stored<K>, X)], target: usize, capacity: us
     )
 }
 
-/// Moves the pairs of lone slots to their slots among `capacity` slots, makes these shared, and
-/// puts one pair more behind those of its slot, which holds some. All memory is allocated before a
-/// pair moves. If an allocation fails, the value is returned, and no pair moves.
-fn grow_shared<K: IntKey, X, A: Allocator + Copy>(
-    lone: &mut Vec<Lone<K, X>, A>,
-    shared: &mut Vec<Slot<K, X, A>, A>,
-    directory: &mut Directory<A>,
-    capacity: usize,
-    target: usize,
-    pair: (Stored<K>, X),
-    placed: &mut Steps,
-) -> Result<(), X> {
-    let alloc = *lone.allocator();
-    let Ok(mut block) = Vec::with_capacity(alloc, 1) else {
-        return Err(pair.1);
-    };
-    let Ok(mut made) = Vec::with_capacity(alloc, capacity) else {
-        return Err(pair.1);
-    };
-    let Ok(()) = grow_lone(lone, directory, capacity, placed) else {
-        return Err(pair.1);
-    };
-    if !lone[target].is_filled() {
-        unreachable!();
-    }
-    share_each(lone, &mut made);
-    made[target].push_with(pair, &mut block);
-    *shared = made;
-    placed.tick();
-    Ok(())
-}
-
 impl<K: IntKey, X, A: Allocator> Slots<K, X, A> {
     /// Whether a pair of a slot goes to slot `target` of `capacity` slots.
     fn meets(&self, index: usize, target: usize, capacity: usize) -> bool {
-        let (first, rest) = self.parts(index);
+        let (first, rest) = self.first_and_rest(index);
         one_meets(first, target, capacity) || any_meets(rest, target, capacity)
     }
 }
 
 impl<K: IntKey, X, A: Allocator + Copy> Slots<K, X, A> {
-    /// Moves all pairs to their slots among `capacity` slots, and then puts the new pair into its
+    /// Moves all pairs to their slots among `capacity` slots, and then places the new pair in its
     /// slot, which holds no other. If an allocation fails, the value is returned, and no pair moves.
-    fn grow_apart(
+    fn grow_and_place(
         &mut self,
         capacity: usize,
-        target: usize,
         pair: (Stored<K>, X),
         placed: &mut Steps,
     ) -> Result<(), X> {
         let Ok(()) = self.grow(capacity, true, placed) else {
             return Err(pair.1);
         };
-        self.put_first(target, pair);
-        placed.tick();
+        let mut block = Vec::new(self.allocator());
+        place(
+            &mut self.directory.bits,
+            &mut self.lone,
+            &mut self.shared,
+            pair,
+            true,
+            &mut block,
+            placed,
+        );
         Ok(())
     }
 
@@ -95,43 +68,36 @@ impl<K: IntKey, X, A: Allocator + Copy> Slots<K, X, A> {
         placed: &mut Steps,
     ) -> Result<(), X> {
         let (key, value) = pair;
-        let Ok(is_made) = self.reserve_one(slot) else {
-            return Err(value);
-        };
         let place = self.push(slot, key, value)?;
         let Ok(()) = self.grow(capacity, false, placed) else {
             let (_, value) = self.take_at(slot, place);
-            if is_made {
-                self.shrink(slot);
-            }
             return Err(value);
         };
         Ok(())
     }
 
     /// Puts a new pair behind the pairs of its slot, and moves all pairs, in the order of the walk,
-    /// to their slots among `capacity` slots. If an allocation fails, the value is returned, and
-    /// no pair moves.
+    /// to their slots among `capacity` slots. Slot `target` of these is to be the new pair's. If an
+    /// allocation fails, the value is returned, and no pair moves.
     pub(in crate::proved::table) fn grow_with(
         &mut self,
         capacity: usize,
         slot: usize,
+        target: usize,
         pair: (Stored<K>, X),
         placed: &mut Steps,
     ) -> Result<(), X> {
-        let target = index_of(pair.0.key(), capacity);
         if !self.meets(slot, target, capacity) {
-            return self.grow_apart(capacity, target, pair, placed);
+            return self.grow_and_place(capacity, pair, placed);
         }
         if self.lone.is_empty() {
             return self.push_and_grow(capacity, slot, pair, placed);
         }
-        grow_shared(
+        grow_to_shared(
             &mut self.lone,
             &mut self.shared,
             &mut self.directory,
             capacity,
-            target,
             pair,
             placed,
         )

@@ -16,7 +16,7 @@ fn mark<A: Allocator>(bits: &mut Bits<A>, place: usize, is_filled: bool) {
 impl<K: IntKey, X, A: Allocator> Slots<K, X, A> {
     /// Makes the slots whole again after a panic of a closure, of a drop or of a key's `number`, and
     /// returns how many pairs they have. It calls no `number`. The slots have the form that they had
-    /// before the call.
+    /// before the call, or are shared if a growth was to make them so.
     pub(in crate::proved::table) fn mend(&mut self) -> usize {
         self.undo_parting();
         self.undo_lone_growth();
@@ -34,8 +34,8 @@ impl<K: IntKey, X, A: Allocator> Slots<K, X, A> {
         count
     }
 
-    /// Moves the pairs of lone slots back, if a panic has ended a growth that parts the pairs of
-    /// shared ones. A pair's slot was its present one modulo the number of slots before.
+    /// Moves the pairs of lone slots to shared ones, if a panic has ended a growth that changes the
+    /// form of slots. A pair's slot was its present one modulo the number of slots before.
     fn undo_parting(&mut self) {
         if self.shared.is_empty() {
             return;

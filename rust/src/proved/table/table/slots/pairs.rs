@@ -4,7 +4,7 @@ use crate::memory::prelude::*;
 use crate::proved::table::key::IntKey;
 use crate::proved::table::table::slots::{Slots, unmark_unless};
 use crate::proved::table::table::stored::Stored;
-use crate::memory::alloc::{AllocError, Allocator};
+use crate::memory::alloc::Allocator;
 use crate::memory::vec::IntoIter;
 
 impl<K: IntKey, X, A: Allocator + Copy> Slots<K, X, A> {
@@ -41,9 +41,9 @@ impl<K: IntKey, X, A: Allocator> Slots<K, X, A> {
             return pair;
         }
         let slot = &mut self.shared[index];
-        if let Some(lone) = slot.take_lone() {
+        if let Some(pair) = slot.take_only() {
             self.directory.bits.clear_in(word, index);
-            return lone;
+            return pair;
         }
         slot.take_at(place)
     }
@@ -52,7 +52,7 @@ impl<K: IntKey, X, A: Allocator> Slots<K, X, A> {
     pub(in crate::proved::table) fn put_back(&mut self, index: usize, pair: (Stored<K>, X)) {
         let was_filled = self.directory.bits.set(index);
         if index < self.lone.len() {
-            self.lone[index].put_back(pair);
+            self.lone[index].put(pair);
             return;
         }
         let slot = &mut self.shared[index];
@@ -89,34 +89,6 @@ impl<K: IntKey, X, A: Allocator> Slots<K, X, A> {
         let first = slot.take_front();
         unmark_unless(&mut self.directory.bits, slot.is_filled(), index);
         first
-    }
-}
-
-impl<K: IntKey, X, A: Allocator + Copy> Slots<K, X, A> {
-    /// Puts a pair into a slot that holds none. It allocates nothing.
-    pub(super) fn put_first(&mut self, index: usize, pair: (Stored<K>, X)) {
-        self.directory.bits.set(index);
-        if index < self.lone.len() {
-            self.lone[index].put(pair);
-        } else {
-            self.shared[index].put_first(pair);
-        }
-    }
-
-    /// Makes room for one more pair in a slot, and allocates for exactly that. It returns whether
-    /// it allocated.
-    pub(in crate::proved::table) fn reserve_one(&mut self, index: usize) -> Result<bool, AllocError> {
-        if index < self.lone.len() {
-            return Ok(false);
-        }
-        self.shared[index].reserve_one()
-    }
-
-    /// Gives back the room of a slot that no pair needs.
-    pub(in crate::proved::table) fn shrink(&mut self, index: usize) {
-        if index >= self.lone.len() {
-            self.shared[index].shrink();
-        }
     }
 }
 

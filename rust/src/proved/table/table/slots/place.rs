@@ -3,6 +3,7 @@
 use crate::memory::prelude::*;
 use crate::proved::table::bits::Bits;
 use crate::proved::table::key::IntKey;
+use crate::proved::table::lone::Lone;
 use crate::proved::table::slot::Slot;
 use crate::proved::table::steps::Steps;
 use crate::proved::table::table::index_of;
@@ -10,23 +11,30 @@ use crate::proved::table::table::slots::Directory;
 use crate::proved::table::table::stored::Stored;
 use crate::memory::alloc::Allocator;
 
-/// Puts a pair at the end of its slot and counts it. The slot's bit is set. If the slot holds a
-/// pair and has no block, it takes this one. If `is_alone`, the slot is known to hold no pair.
+/// Puts a pair at the end of its slot and counts it. The slot's bit is set. The slots are lone or
+/// shared, and there are none of the other form. If a shared slot holds a pair and has no block, it
+/// takes this one. If `is_alone`, the slot is known to hold no pair.
 #[inline(always)]
-fn place<K: IntKey, X, A: Allocator>(
+pub(super) fn place<K: IntKey, X, A: Allocator>(
     bits: &mut Bits<A>,
-    slots: &mut [Slot<K, X, A>],
+    lone: &mut [Lone<K, X>],
+    shared: &mut [Slot<K, X, A>],
     pair: (Stored<K>, X),
     is_alone: bool,
     block: &mut Vec<(Stored<K>, X), A>,
     placed: &mut Steps,
 ) {
-    let index = index_of(pair.0.key(), slots.len());
-    let slot = &mut slots[index];
-    if bits.set(index) && !is_alone {
-        slot.push_with(pair, block);
+    let index = index_of(pair.0.key(), lone.len() + shared.len());
+    let is_filled = bits.set(index);
+    if index < lone.len() {
+        lone[index].put(pair);
     } else {
-        slot.put_first(pair);
+        let slot = &mut shared[index];
+        if is_filled && !is_alone {
+            slot.push_with(pair, block);
+        } else {
+            slot.put_first(pair);
+        }
     }
     placed.tick();
 }
@@ -41,7 +49,8 @@ fn place_each<K: IntKey, X, A: Allocator>(
     placed: &mut Steps,
 ) {
     while let Some(pair) = buffer.pop() {
-        place(bits, slots, pair, false, block, placed);
+        let mut none = [];
+        place(bits, &mut none, slots, pair, false, block, placed);
     }
 }
 
@@ -56,31 +65,33 @@ fn move_several<K: IntKey, X, A: Allocator + Copy>(
     placed: &mut Steps,
 ) {
     let (first, mut block) = slots[index].take_out(buffer);
-    place(bits, slots, first, false, &mut block, placed);
+    let mut none = [];
+    place(bits, &mut none, slots, first, false, &mut block, placed);
     place_each(bits, slots, buffer, &mut block, placed);
 }
 
 /// Moves the pairs of an old slot, in order, to the ends of their slots. If the slot holds a single
 /// pair, it may keep its block.
 #[inline(always)]
-fn move_slot<K: IntKey, X, A: Allocator + Copy>(
+fn move_shared_slot<K: IntKey, X, A: Allocator + Copy>(
     bits: &mut Bits<A>,
     slots: &mut [Slot<K, X, A>],
     index: usize,
     buffer: &mut Vec<(Stored<K>, X), A>,
     placed: &mut Steps,
 ) {
-    if let Some(lone) = slots[index].take_lone() {
+    if let Some(pair) = slots[index].take_only() {
         // its new slot holds no pair, so it needs no memory here
         let mut block = Vec::new(*buffer.allocator());
-        place(bits, slots, lone, true, &mut block, placed);
+        let mut none = [];
+        place(bits, &mut none, slots, pair, true, &mut block, placed);
         return;
     }
     move_several(bits, slots, index, buffer, placed);
 }
 
 /// Moves the pairs of all old slots, slot after slot, to the ends of their slots.
-pub(super) fn move_all<K: IntKey, X, A: Allocator + Copy>(
+pub(super) fn move_shared_slots<K: IntKey, X, A: Allocator + Copy>(
     bits: &mut Bits<A>,
     slots: &mut [Slot<K, X, A>],
     old: &Directory<A>,
@@ -88,6 +99,6 @@ pub(super) fn move_all<K: IntKey, X, A: Allocator + Copy>(
     placed: &mut Steps,
 ) {
     for index in old.bits.iter() {
-        move_slot(bits, slots, index, buffer, placed);
+        move_shared_slot(bits, slots, index, buffer, placed);
     }
 }

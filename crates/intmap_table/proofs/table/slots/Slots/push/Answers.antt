@@ -1,10 +1,10 @@
-use Rattle.std.proofs.Common.{◌≡◌, ◌<◌, ◌≤◌, ◌∙◌, List, [], ◌∷◌, ◌++◌, true, length, sym, ap, arith}
+use Rattle.std.proofs.Common.{inl, ◌≡◌, ◌<◌, ◌≤◌, ◌∙◌, List, [], ◌∷◌, ◌++◌, true, length, sym, ap, arith}
 use Rattle.std.specs.Prelude.{nat_lt, Result, Ok, Err, OnOk, OnErr}
 use Rattle.std.proofs.lemmas.Bool.{ltb-true}
 use Rattle.std.proofs.lemmas.Result.{IfOk-weaker, on_ok_weaker, on_err_weaker}
 use Rattle.intmap_table.specs.Tables.Slots.{row_of}
 use Rattle.intmap_table.proofs.Tables.FilledLemmas.{filled-pushed}
-use Rattle.intmap_table.proofs.Tables.FormLemmas.{lone-row, shared-row, shared_set-rows, AreSlots-lone_set, AreSlots-shared_set, IsRowSet-lone, IsRowSet-shared}
+use Rattle.intmap_table.proofs.Tables.FormLemmas.{lone-row, shared-row, shared_set-rows, AreSlots-lone_filled, AreSlots-shared_set, IsRowSet-lone, IsRowSet-shared}
 use Rattle.intmap_table.proofs.Tables.MarkedLemmas.{row-none}
 use Rattle.intmap_table.proofs.table.slots.Slots.push.Goals as goal
 use Rattle.intmap_table.proofs.table.slots.Slots.push.Goals.{After-is_filled, After-index_mut, After-set-2}
@@ -40,8 +40,8 @@ module _ (g : _) (c : After-set-2 g) where
 pub push_second-requires-clause-one : goal.push_second-requires-clause-one
 push_second-requires-clause-one g c =
     let some = ltb-true 0 (length c.index.result.now.pairs) (sym c.is_filled.ensures.filled ∙ c.if-is_filled.true) in
-    let row = ap length (lone g (goal.at.push_second-requires-clause-one g c).After-is_filled) in
-    rw (← c.self.view_is) (omega (arith, some, c.is_filled.ensures.few, row))
+    let at = (goal.at.push_second-requires-clause-one g c).After-is_filled in let row = ap length (lone g at) in
+    let few = c.self.invariant.few c.args.index (below g at) in rw (← c.self.view_is) (omega (arith, some, few, row))
 
 pub returns-then-is_filled-clause-memory : goal.returns-then-is_filled-clause-memory
 returns-then-is_filled-clause-memory g c =
@@ -57,13 +57,13 @@ none g c =
 
 pub put-requires : goal.put-requires
 put-requires g c =
-    lone-row _ _ c.self.invariant.form c.args.index c.index_mut.result.now (omega (arith, c.if-index-len.true, c.len.ensures)) c.index_mut.ensures.value
-    ∙ none g (goal.at.put-requires g c).After-index_mut
+    inl (lone-row _ _ c.self.invariant.form c.args.index c.index_mut.result.now (omega (arith, c.if-index-len.true, c.len.ensures)) c.index_mut.ensures.value
+    ∙ none g (goal.at.put-requires g c).After-index_mut)
 
 pub invariant_of-self : goal.invariant_of-self
 invariant_of-self g c =
     rw c.set.ensures.marks
-    (AreSlots-lone_set _ _ c.self.invariant c.args.index c.put.new.self (omega (arith, c.if-index-len.true, c.len.ensures)) true (ap (λ ps. nat_lt 0 (length ps)) (sym c.put.ensures.pairs)))
+    (AreSlots-lone_filled _ _ c.self.invariant c.args.index c.put.new.self (omega (arith, c.if-index-len.true, c.len.ensures)) _ c.put.ensures.pairs)
 
 pub returns-then-index-len-clause-place : goal.returns-then-index-len-clause-place
 returns-then-index-len-clause-place g c =

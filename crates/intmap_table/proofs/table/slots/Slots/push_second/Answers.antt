@@ -46,6 +46,7 @@ invariant_of-self-2 g c =
     rw (c.in-Ok-share.ensures.none, c.in-Ok-share.ensures.shared) (record {
       directory = IsDirectory-kept _ c.self.invariant.directory c.args.index (within g at) c.push_with.new.self (lt-ltb 0 _ (omega (arith, one)) ∙ sym filled);
       form = inl refl;
+      few = λ i lt. absurd (omega (arith, lt));
     })
 
 pub returns-clause-ok : goal.returns-clause-ok

@@ -1,14 +1,13 @@
-use Rattle.std.proofs.Common.{◌<◌, ◌++◌, false, length, sym, ap, arith}
-use Rattle.std.specs.Prelude.{nat_lt}
+use Rattle.std.proofs.Common.{◌<◌, ◌++◌, length, arith}
 use Rattle.intmap_table.specs.Tables.Slots.{row_of}
 use Rattle.intmap_table.proofs.Tables.FilledLemmas.{slot-within}
-use Rattle.intmap_table.proofs.Tables.FormLemmas.{AreSlots-lone_set, AreSlots-shared_changed}
+use Rattle.intmap_table.proofs.Tables.FormLemmas.{AreSlots-lone_emptied, AreSlots-shared_changed}
 use Rattle.intmap_table.proofs.table.slots.Slots.remove_at.Goals as goal
 
 pub invariant_of-self : goal.invariant_of-self
 invariant_of-self g c =
     rw c.clear.ensures
-    (AreSlots-lone_set _ _ c.self.invariant c.args.index c.take-pair.new.self (omega (arith, c.if-index-len.true, c.len.ensures)) false (ap (λ ps. nat_lt 0 (length ps)) (sym c.take-pair.ensures.emptied)))
+    (AreSlots-lone_emptied _ _ c.self.invariant c.args.index c.take-pair.new.self (omega (arith, c.if-index-len.true, c.len.ensures)) c.take-pair.ensures.emptied)
 
 pub invariant_of-self-2 : goal.invariant_of-self-2
 invariant_of-self-2 g c =

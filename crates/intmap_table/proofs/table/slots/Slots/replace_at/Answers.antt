@@ -9,8 +9,9 @@ use Rattle.intmap_table.proofs.table.slots.Slots.replace_at.Goals as goal
 pub invariant_of-self : goal.invariant_of-self
 invariant_of-self g c =
     let place : c.args.place < length (row_of (c.self.inside.lone.items ++ c.self.inside.shared.items) c.args.index) = rw (← c.self.view_is) at c.requires in
-    AreSlots-lone_kept _ _ c.self.invariant c.args.index c.replace.new.self (omega (arith, c.if-index-len.true, c.len.ensures))
-    (lt-ltb 0 _ (omega (arith, place)) ∙ sym (ap (λ ps. nat_lt 0 (length ps)) c.replace.ensures.replaced))
+    let below : c.args.index < length c.self.inside.lone.items = omega (arith, c.if-index-len.true, c.len.ensures) in
+    let few = c.self.invariant.few c.args.index below in let one = ap length c.replace.ensures.replaced in
+    AreSlots-lone_kept _ _ c.self.invariant c.args.index c.replace.new.self below (omega (arith, place, few, one))
 
 pub invariant_of-self-2 : goal.invariant_of-self-2
 invariant_of-self-2 g c =

@@ -2,7 +2,7 @@ use Rattle.std.proofs.Common.{◌≡◌, ◌<◌, ◌≤◌, ◌∙◌, ◌++◌
 use Rattle.std.specs.Prelude.{nat_lt}
 use Rattle.intmap_table.specs.Tables.Slots.{row_of}
 use Rattle.intmap_table.proofs.Tables.FilledLemmas.{slot-within}
-use Rattle.intmap_table.proofs.Tables.FormLemmas.{lone-row, shared-row, AreSlots-lone_set, AreSlots-shared_set, IsRowSet-lone, IsRowSet-shared}
+use Rattle.intmap_table.proofs.Tables.FormLemmas.{lone-row, shared-row, AreSlots-lone_emptied, AreSlots-shared_set, IsRowSet-lone, IsRowSet-shared}
 use Rattle.intmap_table.proofs.table.slots.Slots.take_all.Goals as goal
 use Rattle.intmap_table.proofs.table.slots.Slots.take_all.Goals.{After-index_mut, After-index_mut-2}
 
@@ -27,7 +27,7 @@ take-requires g c = rw (lone g (goal.at.take-requires g c).After-index_mut, c.se
 pub invariant_of-self : goal.invariant_of-self
 invariant_of-self g c =
     rw c.clear.ensures
-    (AreSlots-lone_set _ _ c.self.invariant c.args.index c.take.new.self (omega (arith, c.if-index-len.true, c.len.ensures)) false (ap (λ ps. nat_lt 0 (length ps)) (sym c.take.ensures.emptied)))
+    (AreSlots-lone_emptied _ _ c.self.invariant c.args.index c.take.new.self (omega (arith, c.if-index-len.true, c.len.ensures)) c.take.ensures.emptied)
 
 pub returns-then-index-len-clause-row : goal.returns-then-index-len-clause-row
 returns-then-index-len-clause-row g c =

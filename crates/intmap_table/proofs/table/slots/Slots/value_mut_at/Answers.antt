@@ -17,8 +17,8 @@ module _ {K X : Type 0} (S : List (Held K X)) (i j : ℕ) (h : Held K X) (place 
   row = row-at S i h within here
 
   -- with a value written it holds as many
-  kept : (k : ℕ) (w : X) → nat_lt 0 (length (row_of S i)) ≡ nat_lt 0 (length (write_at h.pairs k w))
-  kept k w = ap (nat_lt 0) (ap length (sym row) ∙ sym (length-write_at h.pairs k w))
+  kept : (k : ℕ) (w : X) → length (row_of S i) ≡ length (write_at h.pairs k w)
+  kept k w = ap length (sym row) ∙ sym (length-write_at h.pairs k w)
 
 pub invariant_of-self-lent : goal.invariant_of-self-lent
 invariant_of-self-lent g c w =
@@ -54,7 +54,7 @@ invariant_of-self-lent-2 g c w =
     let place : c.args.place < length (row_of (L ++ S) i) = rw (← c.self.view_is) at c.requires in
     let all = slot-within (L ++ S) i (omega (arith, place)) in
     let here = shared-at L S c.self.invariant.form i h past all c.index_mut-2.ensures.value in
-    AreSlots-shared_kept L S c.self.invariant i _ past all (kept (L ++ S) i c.args.place h place here c.args.place w)
+    AreSlots-shared_kept L S c.self.invariant i _ past all (ap (nat_lt 0) (kept (L ++ S) i c.args.place h place here c.args.place w))
 
 pub returns : goal.returns
 returns g c =

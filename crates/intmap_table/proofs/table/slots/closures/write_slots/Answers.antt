@@ -5,7 +5,7 @@ use Rattle.intmap_table.specs.Writes.{Writes, WritesAt, TakesPairMut}
 use Rattle.intmap_table.proofs.LeadsLemmas.{Leads}
 use Rattle.intmap_table.proofs.Tables.FilledLemmas.{AreLeft, row-next, row-next_none}
 use Rattle.intmap_table.proofs.Tables.FormLemmas.{none-lone, lone-row, shared-row, lone-set, shared-set, IsSameForm-lone, IsSameForm-shared}
-use Rattle.intmap_table.proofs.Tables.PartsLemmas.{next-left, next-within, Leads-all, Leads-row, TakesEach-row}
+use Rattle.intmap_table.proofs.Tables.AroundLemmas.{next-left, next-within, Leads-all, Leads-row, TakesEach-row}
 use Rattle.intmap_table.proofs.Tables.SameKeysLemmas.{row_keys-set, AreMarked-same_keys}
 use Rattle.intmap_table.proofs.TakingLemmas.{TakesEach-front}
 use Rattle.intmap_table.proofs.WritesLemmas.{keys_of-Writes, FoldsTo-Writes, Writes-append}

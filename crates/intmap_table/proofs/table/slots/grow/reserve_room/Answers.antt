@@ -6,13 +6,13 @@ use Rattle.intmap_table.proofs.table.slots.grow.reserve_room.Goals.{Then-spared,
 pub loop-part-init : goal.loop-part-init
 loop-part-init g c = record {
   made = IsRoomMade-none _ _ _;
-  shared = (length c.args.counts.now, IsShared-start c.args.slots.now c.args.old c.args.index c.requires.within c.args.counts.now c.requires.bare);
+  shared = (length c.args.counts.now, IsShared-start c.args.slots.now c.args.len c.args.index c.requires.within c.args.counts.now c.requires.bare);
 }
 
 -- the part at hand is a slot
-here : (g : _) (c : Then-spared g) → c.loop-part.part * c.args.old + c.args.index < length c.loop-part.slots
+here : (g : _) (c : Then-spared g) → c.loop-part.part * c.args.len + c.args.index < length c.loop-part.slots
 here g c =
-    let w = part-within (length c.args.counts.now) c.args.old c.loop-part.part c.args.index c.loop-part-test.true c.requires.within in
+    let w = part-within (length c.args.counts.now) c.args.len c.loop-part.part c.args.index c.loop-part-test.true c.requires.within in
     omega (arith, w, c.requires.all, c.loop-part.auto.slots)
 
 pub overflow_mul-part : goal.overflow_mul-part
@@ -23,7 +23,7 @@ overflow_add-part g c = let w = here g (goal.at.overflow_add-part g c).Then-spar
 
 pub offset_bounds-slots-part : goal.offset_bounds-slots-part
 offset_bounds-slots-part g c =
-    let w : c.loop-part.part * c.args.old + c.args.index < length c.args.slots.now = (let below = here g (goal.at.offset_bounds-slots-part g c).Then-spared in omega (arith, below, c.loop-part.auto.slots)) in
+    let w : c.loop-part.part * c.args.len + c.args.index < length c.args.slots.now = (let below = here g (goal.at.offset_bounds-slots-part g c).Then-spared in omega (arith, below, c.loop-part.auto.slots)) in
     record { fits = offset-fits _ _ _ w c.well_formed.0.1 }
 
 pub bounds-slots-part : goal.bounds-slots-part
@@ -36,7 +36,7 @@ returns-in_err-reserve_behind-clause-made g c =
 
 pub loop-part-preserved : goal.loop-part-preserved
 loop-part-preserved g c =
-    let loop = c.loop-part.invariant in let shared = loop.shared.1 in let S = c.loop-part.slots in let C = c.args.old in let i = c.args.index in
+    let loop = c.loop-part.invariant in let shared = loop.shared.1 in let S = c.loop-part.slots in let C = c.args.len in let i = c.args.index in
     let part = c.loop-part.part in let counts = c.args.counts.now in let x = loop.shared.0 in
     let here = c.loop-part-test.true in let spared = c.loop-part.spared in
     elim c.if-count-gt1.branch [

@@ -1,4 +1,5 @@
 use Rattle.std.proofs.Common.{◌≡◌, ◌-◌, ◌∙◌, [], ◌∷◌, length, get_or, reverse, vec_capacity, set, ap, arith}
+use Rattle.std.proofs.lemmas.List.{nil_from_length}
 use Rattle.intmap_table.specs.Tables.Slots.{rows}
 use Rattle.intmap_table.specs.Tables.Moves.{rooms, CanPut}
 use Rattle.intmap_table.proofs.Tables.CountLemmas.{offset-fits}
@@ -35,15 +36,17 @@ pub place-requires-clause-can : goal.place-requires-clause-can
 place-requires-clause-can g c = (reverse c.take_out-first.new.buffer.items, can g (goal.at.place-requires-clause-can g c).After-take_out-first)
 
 pub place_each-requires-clause-can : goal.place_each-requires-clause-can
-place_each-requires-clause-can g c = c.place.ensures.can _ (can g (goal.at.place_each-requires-clause-can g c).After-take_out-first)
+place_each-requires-clause-can g c =
+    rw (nil_from_length c.place.new.lone c.place.ensures.lone) at
+    (c.place.ensures.can _ (can g (goal.at.place_each-requires-clause-can g c).After-take_out-first))
 
 pub returns-clause-moved : goal.returns-clause-moved
 returns-clause-moved g c =
-    let end = c.place_each.new in
+    let end = c.place_each.new in let none = nil_from_length c.place.new.lone c.place.ensures.lone in
     record {
       left = c.take_out-first.new.self;
       none = ap (λ (h : _). h.pairs) c.take_out-first.ensures.emptied;
       put =
           rw (row g (goal.at.returns-clause-moved g c).After-take_out-first)
-          (ArePut-more g.K.IntKey.number_of end.slots end.bits end.placed c.place.ensures.put c.place_each.ensures.put);
+          (ArePut-more g.K.IntKey.number_of end.slots end.bits end.placed (rw none at c.place.ensures.put) c.place_each.ensures.put);
     }

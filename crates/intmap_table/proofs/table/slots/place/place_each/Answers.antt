@@ -34,11 +34,12 @@ pub loop-pair-preserved : goal.loop-pair-preserved
 loop-pair-preserved g c =
     let at = (goal.at.loop-pair-preserved g c).In-Some in let before = c.loop-pair.invariant in
     let p = c.in-Some.pair in let left = c.pop.new.self.items in let end = c.place.new in
+    let none = nil_from_length end.lone c.place.ensures.lone in
     record {
       done = before.done ++ p ∷ [];
       all = append_assoc before.done (p ∷ []) (reverse left) ∙ ap (λ L. before.done ++ L) (sym (next g at)) ∙ before.all;
-      put = ArePut-more g.K.IntKey.number_of end.slots end.bits end.placed before.put c.place.ensures.put;
-      can = c.place.ensures.can (reverse left) (can g at);
+      put = ArePut-more g.K.IntKey.number_of end.shared end.bits end.placed before.put (rw none at c.place.ensures.put);
+      can = rw none at (c.place.ensures.can (reverse left) (can g at));
       block = c.place.ensures.block;
       buffer_room = (let same = c.pop.ensures.capacity in let le = before.buffer_room in omega (arith, same, le));
     }

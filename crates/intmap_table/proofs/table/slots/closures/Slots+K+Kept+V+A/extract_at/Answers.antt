@@ -39,7 +39,7 @@ invariant_of-self g c =
     let at = (goal.at.invariant_of-self g c).After-extract_next-found in let slot = c.extract_next-found.new.self in
     let few = length-ExtractsBehind (PicksAt g.F.FnMut) _ _ _ _ _ _ _ (lone g at) in
     rw (c.unmark_unless.ensures, c.is_filled.ensures.filled)
-    (AreSlots-lone_changed _ _ c.self.invariant c.args.index slot (below g at) (λ some. omega (arith, some, few)))
+    (AreSlots-lone_changed _ _ c.self.invariant c.args.index slot (below g at) (omega (arith, few)))
 
 pub extract_next-found-requires-2-clause-callable : goal.extract_next-found-requires-2-clause-callable
 extract_next-found-requires-2-clause-callable g c =

@@ -2,8 +2,7 @@ use Rattle.std.proofs.Common.{◌<◌, ◌≤◌, ◌++◌, length, refl, ap, ar
 use Rattle.intmap_table.specs.Retaining.{KeepsAt, Retains}
 use Rattle.intmap_table.specs.Tables.Slots.{row_of}
 use Rattle.intmap_table.proofs.RetainLemmas.{length-Retains}
-use Rattle.intmap_table.proofs.Tables.FormLemmas.{lone-row, shared-row}
-use Rattle.intmap_table.proofs.Tables.FormLemmas.{AreSlots-lone_changed, AreSlots-shared_changed, IsRowSet-lone, IsRowSet-shared}
+use Rattle.intmap_table.proofs.Tables.FormLemmas.{lone-row, shared-row, AreSlots-lone_changed, AreSlots-shared_changed, IsRowSet-lone, IsRowSet-shared}
 use Rattle.intmap_table.proofs.table.slots.closures.Slots+K+Kept+V+A.retain_at.Goals as goal
 use Rattle.intmap_table.proofs.table.slots.closures.Slots+K+Kept+V+A.retain_at.Goals.{After-retain, After-retain-2}
 
@@ -36,7 +35,7 @@ pub invariant_of-self : goal.invariant_of-self
 invariant_of-self g c =
     let at = (goal.at.invariant_of-self g c).After-retain in let few = length-Retains (KeepsAt g.F.FnMut) _ _ _ _ (lone g at) in
     rw (c.unmark_unless.ensures, c.is_filled.ensures.filled)
-    (AreSlots-lone_changed _ _ c.self.invariant c.args.index c.retain.new.self (below g at) (λ some. omega (arith, some, few)))
+    (AreSlots-lone_changed _ _ c.self.invariant c.args.index c.retain.new.self (below g at) few)
 
 pub returns-then-index-len : goal.returns-then-index-len
 returns-then-index-len g c =

@@ -15,8 +15,8 @@ module _ (g : _) (c : In-Some-next g) where
   behind : All (λ index. index < length c.loop-pair.self-inside.slots.now) c.next.new.self
   behind = All-tail (λ index. index < length c.loop-pair.self-inside.slots.now) c.in-Some-next.index c.next.new.self (rw c.in-Some-next.ensures.steps at c.loop-pair.invariant.within)
 
-pub parts-requires : goal.parts-requires
-parts-requires g c = within g (goal.at.parts-requires g c).In-Some-next
+pub first_and_rest-requires : goal.first_and_rest-requires
+first_and_rest-requires g c = within g (goal.at.first_and_rest-requires g c).In-Some-next
 
 pub invariant_of-self-in-Some-first : goal.invariant_of-self-in-Some-first
 invariant_of-self-in-Some-first g c = behind g (goal.at.invariant_of-self-in-Some-first g c).In-Some-next
@@ -25,7 +25,7 @@ pub loop-pair-preserved : goal.loop-pair-preserved
 loop-pair-preserved g c = record {
   pairs =
       let rest = c.loop-pair.self-inside.rest.now in let gone : rest ≡ [] = nil_from_length rest c.in_default.ensures.cases in
-      let row = rw c.in_default-first.is at c.parts.ensures in
+      let row = rw c.in_default-first.is at c.first_and_rest.ensures in
       rw (← row) (rw (gone, c.in-Some-next.ensures.steps) at c.loop-pair.invariant.pairs);
   within = behind g (goal.at.loop-pair-preserved g c).In-Some-next;
 }
