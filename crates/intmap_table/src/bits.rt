@@ -1,7 +1,7 @@
 //! One bit for each index.
 ghost use Rattle.std.specs.Prelude.{◌≡◌, ℕ, List, Bool, ◌+◌, ◌*◌, ◌/◌, ◌^◌, ◌<◌, ◌≤◌, true, false, length, replicate, slice_set, IfOk, IfSome, IfNone, ⊤};
 ghost use Rattle.std.specs.Iterator.{YieldsFirstBy, item_count};
-ghost use Rattle.intmap_table.specs.Tables.Bits.{marked, marked_indices, IsNextMark, IsWordOf};
+ghost use Rattle.intmap_table.specs.Tables.Bits.{marked, marked_indices, IsHeldWord, IsNextMark, IsWordOf};
 
 use std::alloc::{AllocError, Allocator};
 use std::marker::Model;
@@ -25,6 +25,14 @@ impl<A: Allocator> Model for Bits<A> {
     ghost view = { λ bits. marks_of bits.words.items };
 
     ghost invariant = { λ bits. 64 * length bits.words.items ≤ 2 ^ 63 };
+}
+
+/// The marks of one word that a walk hasn't passed yet, and the place of this word. The walk reads the
+/// next word only once this one has no mark left.
+#[derive(Drop)]
+pub(crate) struct HeldWord {
+    pub(crate) at: usize,
+    pub(crate) word: u64,
 }
 
 /// A word without the bit of an index.
@@ -114,25 +122,41 @@ impl<A: Allocator> Bits<A> {
         }
     }
 
-    /// The first marked index from an index on.
+    /// The marks from an index on that stand in the word of this index.
     #[inline(always)]
-    pub(crate) fn next_from(&self, from: usize) -> Option<usize>
-        ensures some { IfSome result (IsNextMark self.now from) }
-        ensures none { IfNone result ((j : ℕ) → from ≤ j → marked self.now j ≡ false) }
+    pub(crate) fn hold(&self, from: usize) -> HeldWord
+        ensures { IsHeldWord (marked self.now) from result.at result.word }
     {
-        let mut at = from / BITS;
+        let at = from / BITS;
         if at >= self.words.len() {
-            return None;
+            return HeldWord { at, word: 0 };
         }
-        let mut word = self.words[at] & (u64::MAX << (from % BITS));
-        while word == 0 {
-            at += 1;
-            if at == self.words.len() {
+        let word = self.words[at] & (u64::MAX << (from % BITS));
+        HeldWord { at, word }
+    }
+
+    /// The first marked index from `_from` on, for which a word is held. Afterwards the marks behind
+    /// that index are held. Only the contract reads `_from`: the held word has no mark before it.
+    #[inline(always)]
+    pub(crate) fn next_in(&self, held: &mut HeldWord, _from: usize) -> Option<usize>
+        requires { IsHeldWord (marked self.now) _from held.old.at held.old.word }
+        ensures some { IfSome result (IsNextMark self.now _from) }
+        ensures held { IfSome result (λ i.
+            IsHeldWord (marked self.now) (i + 1) held.new.at held.new.word) }
+        ensures none { IfNone result ((j : ℕ) → _from ≤ j → marked self.now j ≡ false) }
+        ensures stays { IfNone result (IsHeldWord (marked self.now) _from held.new.at held.new.word) }
+    {
+        while held.word == 0 {
+            let at = held.at + 1;
+            if at >= self.words.len() {
                 return None;
             }
-            word = self.words[at];
+            held.word = self.words[at];
+            held.at = at;
         }
-        Some(at * BITS + word.trailing_zeros() as usize)
+        let index = held.at * BITS + held.word.trailing_zeros() as usize;
+        held.word &= held.word - 1;
+        Some(index)
     }
 }
 

@@ -39,13 +39,16 @@ impl<K: IntKey, X, A: Allocator> Model for Slot<K, X, A> {
 }
 
 /// The place of the key's pair. The pairs are compared from the front. Each comparison is one step.
+// by an index, since `enumerate` takes more instructions a comparison
+#[allow(clippy::needless_range_loop)]
 #[inline(always)]
 fn find_in<K: IntKey, X>(pairs: &[(Stored<K>, X)], key: &K, steps: &mut Steps) -> Option<usize>
     ensures place { result ≡ position (λ p. same_key K.number_of key.now p.0) pairs.now }
     ensures counted { steps.new ≡ steps.old
         + length (through_first (λ p. same_key K.number_of key.now p.0) pairs.now) }
 {
-    for (i, pair) in pairs.iter().enumerate() {
+    for i in 0..pairs.len() {
+        let pair = &pairs[i];
         if pair.0.matches(key, steps) {
             return Some(i);
         }

@@ -1,14 +1,15 @@
 -- The pairs of a table around a slot: those before it, its own, and those behind it.
 use Rattle.std.proofs.Common.{◌≡◌, ℕ, zero, suc, ◌+◌, ◌<◌, ◌≤◌, List, [], ◌∷◌, ◌++◌, length, get_or, set, take, drop, refl, sym, ap, ◌∙◌, arith, append-nil, append_assoc, length-append}
+use Rattle.std.specs.Prelude.{nat_lt}
 use Rattle.std.specs.List.{FoldsTo}
 use Rattle.std.proofs.lemmas.List.{append_cancel_left, drop-set-lt, get_or-drop, map-set, take-append-drop, take-set-le}
 use Rattle.std.proofs.lemmas.Grind.{flat_map-append}
-use Rattle.intmap_table.specs.Tables.Slots.{Held, rows, row_of, joined, IsNextRow, IsRowSet}
+use Rattle.intmap_table.specs.Tables.Slots.{Held, rows, row_of, joined, IsNextRow, IsRowSet, IsSlotWord}
 use Rattle.intmap_table.specs.Taking.{Passes, TakesEach}
 use Rattle.intmap_table.proofs.LeadsLemmas.{Leads, Leads-next, Leads-end}
 use Rattle.intmap_table.proofs.TakingLemmas.{TakesEach-behind}
 use Rattle.intmap_table.proofs.Tables.FilledLemmas.{joined-emptied}
-use Rattle.intmap_table.proofs.Tables.TableLemmas.{joined-take, length-rows, row-set}
+use Rattle.intmap_table.proofs.Tables.TableLemmas.{joined-take, length-rows, row-set, row-set_other}
 
 module _ {P : Type 0} where
   -- the rows before an index, and those from there on
@@ -73,6 +74,18 @@ module _ {K X : Type 0} (S : List (Held K X)) (i : ℕ) (row : List (K × X)) (T
 
   pub left-same : joined (drop (i + 1) (rows T)) ≡ joined (drop (i + 1) (rows S))
   left-same = ap (λ R. joined (drop (i + 1) R)) rows-set ∙ ap joined (drop-set-lt (i + 1) (rows S) i row (omega arith))
+
+  -- and so is what is held of those behind it
+  pub IsSlotWord-row_set : (at word : ℕ) → IsSlotWord S (i + 1) at word → IsSlotWord T (i + 1) at word
+  IsSlotWord-row_set at word held =
+      let same : (j : ℕ) → i + 1 ≤ j → row_of T j ≡ row_of S j = λ j le. ap (λ U. row_of U j) is.others ∙ row-set_other S i is.slot j (λ e. omega (arith, le, e)) in
+      record {
+        fits = held.fits;
+        reached = held.reached;
+        before = λ j le lt. ap (λ r. nat_lt 0 (length r)) (same j le) ∙ held.before j le lt;
+        bit = λ j own le. ap (λ r. nat_lt 0 (length r)) (same j le) ∙ held.bit j own le;
+        none = held.none;
+      }
 
 -- its index is one of the slots'
 pub next-within : {K X : Type 0} (S : List (Held K X)) (from i : ℕ) → IsNextRow (rows S) from i → i < length S

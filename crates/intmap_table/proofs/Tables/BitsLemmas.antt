@@ -41,21 +41,21 @@ bit_at-pred (suc t) word one below =
     (bit_at-suc (word - 1) t ∙ ap (λ n. bit_at n t) half ∙ h.0, bit_at-above (word - 1) word (suc t) (λ j le. ap (λ n. bit_at n j) half ∙ h.1 j (omega (arith, le))))
 
 -- t is the lowest bit of the word that is set
-record IsLowest (word t : ℕ) : Type 0 where
-  one : bit_at word t ≡ 1
-  below : (i : ℕ) → i < t → bit_at word i ≡ 0
+pub record IsLowest (word t : ℕ) : Type 0 where
+  pub one : bit_at word t ≡ 1
+  pub below : (i : ℕ) → i < t → bit_at word i ≡ 0
 
 -- a word without its lowest bit that is set
-abbrev without_lowest : ℕ → ℕ
+abbrev pub without_lowest : ℕ → ℕ
 without_lowest word = bit_and word (word - 1)
 
-has_bit-without_lowest : (word t : ℕ) → IsLowest word t → has_bit (without_lowest word) t ≡ false
+pub has_bit-without_lowest : (word t : ℕ) → IsLowest word t → has_bit (without_lowest word) t ≡ false
 has_bit-without_lowest word t lowest =
     let a = bit_at_and word (word - 1) t in
     let p = (bit_at-pred t word lowest.one lowest.below).0 in
     ne_eqb (bit_at (without_lowest word) t) 1 (λ e. omega (arith, a, p, e))
 
-has_bit-without_lowest_other : (word t : ℕ) → IsLowest word t → (i : ℕ) → i ≢ t → has_bit (without_lowest word) i ≡ has_bit word i
+pub has_bit-without_lowest_other : (word t : ℕ) → IsLowest word t → (i : ℕ) → i ≢ t → has_bit (without_lowest word) i ≡ has_bit word i
 has_bit-without_lowest_other word t lowest i apart =
     let a = bit_at_and word (word - 1) i in
     let same : bit_at (without_lowest word) i ≡ bit_at word i = elim (cases_lt i t) [

@@ -1,11 +1,11 @@
 -- The marks of a table say which of its slots hold a pair.
 use Rattle.std.proofs.Common.{◌≡◌, inl, inr, ℕ, zero, suc, ◌+◌, ◌-◌, ◌*◌, ◌/◌, ◌<◌, ◌≤◌, Bool, true, false, cond, List, [], ◌∷◌, ◌++◌, length, get_or, set, replicate, refl, sym, ap, ◌∙◌, subst, arith, length-set, get_or-set_same, get_or-set_other}
-use Rattle.std.specs.Prelude.{◌==◌, filter, All, count_by, nat_lt}
+use Rattle.std.specs.Prelude.{◌==◌, filter, All, IfNone, Option, None, Some, count_by, nat_lt}
 use Rattle.std.specs.List.{list_any, range_with_len}
 use Rattle.std.proofs.lemmas.Bool.{cases_Bool, lt-ltb, ltb-true}
 use Rattle.std.proofs.lemmas.Bool.Decides.{nat_tests}
 use Rattle.std.proofs.lemmas.List.{length-replicate, length_push, map-set, get_or_past, set-get_or}
-use Rattle.intmap_table.specs.Tables.Bits.{marked, marked_indices, IsNextMark}
+use Rattle.intmap_table.specs.Tables.Bits.{marked, marked_indices, IsHeldWord, IsNextMark}
 use Rattle.intmap_table.specs.Tables.Slots.{Held, rows, row_of, joined, pairs_at, AreMarked, IsDirectory, IsNextRow}
 use Rattle.intmap_table.proofs.Tables.TableLemmas.{length-rows}
 use Rattle.intmap_table.proofs.Tables.MarkedLemmas.{get_or-of_default, row-none, All-marked_indices, flat_map-marked_indices, length-marked_indices}
@@ -136,6 +136,19 @@ module _ {P : Type 0} (R : List (List P)) (marks : List Bool) (are : AreMarked R
         filled = filled;
         between = λ j le lt. row-none (get_or R j []) (sym (are.own j) ∙ next.between j le lt);
       }
+
+  -- what is held of the marks is held of the rows
+  pub IsHeldWord-rows : (at word : ℕ) → IsHeldWord (marked marks) from at word → IsHeldWord (λ j. nat_lt 0 (length (get_or R j []))) from at word
+  IsHeldWord-rows at word held = subst (λ t. IsHeldWord t from at word) (λ k i. are.own i k) held
+
+  -- and if no mark is left, no row holds a pair
+  pub rows-unmarked : (i : Option ℕ) → IfNone i ((j : ℕ) → from ≤ j → marked marks j ≡ false) → IfNone i ((j : ℕ) → from ≤ j → get_or R j [] ≡ [])
+  rows-unmarked None none = λ j le. row-none (get_or R j []) (sym (are.own j) ∙ none j le)
+  rows-unmarked (Some i) none = none
+
+  pub IsHeldWord-rows_none : (i : Option ℕ) (at word : ℕ) → IfNone i (IsHeldWord (marked marks) from at word) → IfNone i (IsHeldWord (λ j. nat_lt 0 (length (get_or R j []))) from at word)
+  IsHeldWord-rows_none None at word stays = IsHeldWord-rows at word stays
+  IsHeldWord-rows_none (Some i) at word stays = stays
 
   -- so that of the first index that is left is
   pub row-next : (i : ℕ) (rest : List ℕ) → AreLeft marks from (i ∷ rest) → IsNextRow R from i × AreLeft marks (i + 1) rest

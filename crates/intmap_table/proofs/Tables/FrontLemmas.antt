@@ -1,13 +1,14 @@
 -- What the slots of a table hold once pairs were removed from the front of its walk.
 use Rattle.std.proofs.Common.{◌≡◌, ℕ, ◌+◌, ◌<◌, ◌≤◌, List, [], ◌++◌, length, get_or, take, drop, sym, ap, ◌∙◌, subst, arith, append_assoc}
-use Rattle.std.specs.Prelude.{All}
+use Rattle.std.specs.Prelude.{All, nat_lt}
 use Rattle.std.proofs.Math.Seq.{drop-append_seam}
 use Rattle.std.proofs.lemmas.List.Elements.{All-drop}
 use Rattle.intmap_table.specs.Classes.{slot_number}
-use Rattle.intmap_table.specs.Walk.{ArePassed}
-use Rattle.intmap_table.specs.Tables.Slots.{Held, rows, row_of, joined, IsNextRow, IsTable, IsRowSet}
+use Rattle.intmap_table.specs.Walk.{ArePassed, IsWalkWord}
+use Rattle.intmap_table.specs.Tables.Bits.{IsHeldWord}
+use Rattle.intmap_table.specs.Tables.Slots.{Held, rows, row_of, joined, IsNextRow, IsTable, IsRowSet, IsSlotWord}
 use Rattle.intmap_table.proofs.Tables.FilledLemmas.{joined-emptied}
-use Rattle.intmap_table.proofs.Tables.AroundLemmas.{joined-cut, joined-take_past, row-taken, row-left, next-within}
+use Rattle.intmap_table.proofs.Tables.AroundLemmas.{joined-cut, joined-take_past, row-taken, row-left, row-same, next-within, IsSlotWord-row_set}
 use Rattle.intmap_table.proofs.Tables.TableLemmas.{slot_of-joined, row-set_other, IsTable-row_set}
 
 module _ {K X : Type 0} (number : K → ℕ) (S : List (Held K X)) (table : IsTable number S) (n : ℕ) where
@@ -18,6 +19,13 @@ module _ {K X : Type 0} (number : K → ℕ) (S : List (Held K X)) (table : IsTa
   -- slots whose rows are empty were passed
   pub ArePassed-rows : ((j : ℕ) → j < n → get_or (rows S) j [] ≡ []) → ArePassed number (joined (rows S)) (length S) n
   ArePassed-rows empty j lt = slot_of-joined number S table j ∙ empty j lt
+
+  -- what a word says of the rows it says of the walk
+  pub IsWalkWord-rows : (at word : ℕ) → IsSlotWord S n at word → IsWalkWord number (joined (rows S)) (length S) n at word
+  IsWalkWord-rows at word = subst (λ t. IsHeldWord t n at word) (λ k i. nat_lt 0 (length (sym (slot_of-joined number S table i) k)))
+
+  pub IsSlotWord-walk : (at word : ℕ) → IsWalkWord number (joined (rows S)) (length S) n at word → IsSlotWord S n at word
+  IsSlotWord-walk at word = subst (λ t. IsHeldWord t n at word) (λ k i. nat_lt 0 (length (slot_of-joined number S table i k)))
 
 -- if no row holds a pair from the first one on that wasn't passed, there is none
 pub joined-passed : {P : Type 0} (R : List (List P)) (from : ℕ) → ((j : ℕ) → j < from → get_or R j [] ≡ []) → ((j : ℕ) → from ≤ j → get_or R j [] ≡ []) → joined R ≡ []
@@ -53,3 +61,12 @@ module _ {K X : Type 0} (number : K → ℕ) (S : List (Held K X)) (old : IsTabl
   -- all slots before it were passed
   pub ArePassed-front : ArePassed number (joined (rows T)) (length T) index
   ArePassed-front = ArePassed-rows number T IsTable-front index rows-before
+
+  -- so was it if it lost all, and the word that is held says the same of those behind it
+  pub ArePassed-behind : row ≡ [] → ArePassed number (joined (rows T)) (length T) (index + 1)
+  ArePassed-behind none = ArePassed-rows number T IsTable-front (index + 1) (λ j lt.
+      let before = rows-before j in let here = row-same S index row T (next-within S from index next) is in grind (arith, lt, before, here, none))
+
+  pub IsWalkWord-behind : (at word : ℕ) → IsSlotWord S (index + 1) at word → IsWalkWord number (joined (rows T)) (length T) (index + 1) at word
+  IsWalkWord-behind at word held =
+      IsWalkWord-rows number T IsTable-front (index + 1) at word (IsSlotWord-row_set S index row T (next-within S from index next) is at word held)

@@ -1,12 +1,12 @@
 -- The first marked index from one on, found word by word.
-use Rattle.std.proofs.Common.{◌≡◌, inl, inr, ℕ, suc, ◌+◌, ◌-◌, ◌*◌, ◌/◌, ◌%◌, ◌^◌, ◌<◌, ◌≤◌, true, false, List, length, get_or, sym, ap, ◌∙◌, arith, bit_and, w64}
+use Rattle.std.proofs.Common.{◌≡◌, inl, inr, ℕ, suc, ◌+◌, ◌-◌, ◌*◌, ◌/◌, ◌%◌, ◌^◌, ◌<◌, ◌≤◌, Bool, true, false, List, length, get_or, sym, ap, ◌∙◌, arith, bit_and, w64}
 use Rattle.std.specs.Prelude.{nat_eq}
 use Rattle.std.specs.Int.{bit_at, trailing_zeros}
-use Rattle.std.proofs.lemmas.Bool.{cases_lt, eq-eqb, ne_eqb}
+use Rattle.std.proofs.lemmas.Bool.{cases_eq, cases_lt, eq-eqb, ne_eqb}
 use Rattle.std.proofs.lemmas.List.{get_or_past}
 use Rattle.std.proofs.lemmas.Nat.Bits.{ones_shl, bit_at-zero, bit_at_and, bit_at_mask_below, bit_at_mask_inside, bit_at-lt, bit_at-trailing_zeros}
-use Rattle.intmap_table.specs.Tables.Bits.{marked, IsNextMark, has_bit, marks_of}
-use Rattle.intmap_table.proofs.Tables.BitsLemmas.{length-marks_of, marked-marks_of}
+use Rattle.intmap_table.specs.Tables.Bits.{marked, IsHeldWord, IsNextMark, has_bit, marks_of}
+use Rattle.intmap_table.proofs.Tables.BitsLemmas.{IsLowest, without_lowest, has_bit-without_lowest, has_bit-without_lowest_other, length-marks_of, marked-marks_of}
 
 -- the word without its bits below r
 abbrev pub bits_from : ℕ → ℕ → ℕ
@@ -27,19 +27,17 @@ module _ (word r i : ℕ) (small : r < 64) where
       let same : bit_at (bit_and word (2 ^ 64 - 2 ^ r)) i ≡ bit_at word i = omega (arith, a, m, l) in
       rw mask (ap (λ (b : ℕ). nat_eq b 1) same)
 
--- no index from `from` on is marked before word `at`, and this word has the marks from there on that are its own
-pub record IsWordFrom (words : List ℕ) (from at word : ℕ) : Type 0 where
-  pub reached : from < 64 * suc at
-  pub before : (j : ℕ) → from ≤ j → j < 64 * at → marked (marks_of words) j ≡ false
-  pub bit : (j : ℕ) → j / 64 ≡ at → from ≤ j → marked (marks_of words) j ≡ has_bit word (j % 64)
-  pub none : (j : ℕ) → j / 64 ≡ at → j < from → has_bit word (j % 64) ≡ false
+-- a word that is zero has no bit
+has_bit-zero : (i : ℕ) → has_bit 0 i ≡ false
+has_bit-zero i = let z = bit_at-zero i in ne_eqb (bit_at 0 i) 1 (λ e. omega (arith, z, e))
 
 module _ (words : List ℕ) (from : ℕ) where
   own : (at : ℕ) → at < length words → (j : ℕ) → j / 64 ≡ at → marked (marks_of words) j ≡ has_bit (get_or words at 0) (j % 64)
   own at within j is = marked-marks_of words j (omega (arith, within, is)) ∙ ap (λ q. has_bit (get_or words q 0) (j % 64)) is
 
-  pub IsWordFrom-start : from / 64 < length words → IsWordFrom words from (from / 64) (bits_from (get_or words (from / 64) 0) (from % 64))
-  IsWordFrom-start within = record {
+  pub IsHeldWord-start : from < 2 ^ 64 → from / 64 < length words → IsHeldWord (marked (marks_of words)) from (from / 64) (bits_from (get_or words (from / 64) 0) (from % 64))
+  IsHeldWord-start fits within = record {
+    fits = omega (arith, fits);
     reached = omega arith;
     before = λ j le lt. absurd (omega (arith, le, lt));
     bit = λ j is le.
@@ -48,18 +46,27 @@ module _ (words : List ℕ) (from : ℕ) where
     none = λ j is lt. has_bit-below (get_or words (from / 64) 0) (from % 64) (j % 64) (omega arith) (omega (arith, is, lt));
   }
 
-  module _ (at : ℕ) (here : IsWordFrom words from at 0) where
+  -- behind the last word nothing is marked
+  pub IsHeldWord-past : from < 2 ^ 64 → length words ≤ from / 64 → IsHeldWord (marked (marks_of words)) from (from / 64) 0
+  IsHeldWord-past fits past = record {
+    fits = omega (arith, fits);
+    reached = omega arith;
+    before = λ j le lt. absurd (omega (arith, le, lt));
+    bit = λ j is le. get_or_past (marks_of words) j false (omega (arith, past, is, length-marks_of words)) ∙ sym (has_bit-zero (j % 64));
+    none = λ j is lt. has_bit-zero (j % 64);
+  }
+
+  module _ (at : ℕ) (here : IsHeldWord (marked (marks_of words)) from at 0) where
     -- a word that is zero marks none of its indices
     pub none-before : (j : ℕ) → from ≤ j → j < 64 * suc at → marked (marks_of words) j ≡ false
     none-before j le lt = elim (cases_lt j (64 * at)) as (λ _. marked (marks_of words) j ≡ false) [
       | inl before ↦ here.before j le before
-      | inr behind ↦
-          (let z = bit_at-zero (j % 64) in
-          here.bit j (omega (arith, behind, lt)) le ∙ ne_eqb (bit_at 0 (j % 64)) 1 (λ e. omega (arith, z, e)))
+      | inr behind ↦ here.bit j (omega (arith, behind, lt)) le ∙ has_bit-zero (j % 64)
     ]
 
-    pub IsWordFrom-next : at + 1 < length words → IsWordFrom words from (at + 1) (get_or words (at + 1) 0)
-    IsWordFrom-next within = record {
+    pub IsHeldWord-next : at + 1 < 2 ^ 58 → at + 1 < length words → IsHeldWord (marked (marks_of words)) from (at + 1) (get_or words (at + 1) 0)
+    IsHeldWord-next fits within = record {
+      fits = fits;
       reached = (let r = here.reached in omega (arith, r));
       before = λ j le lt. none-before j le (omega (arith, lt));
       bit = λ j is le. own (at + 1) within j is;
@@ -71,23 +78,51 @@ module _ (words : List ℕ) (from : ℕ) where
     none-left last j le =
         let before = none-before j le in let past = get_or_past (marks_of words) j false in let n = length-marks_of words in grind (arith, last, before, past, n)
 
-  -- the lowest bit of a word that is not zero is that of the next mark
-  pub IsNextMark-word : (at word : ℕ) → IsWordFrom words from at word → 0 < word → word < 2 ^ 64 → IsNextMark (marks_of words) from (at * 64 + trailing_zeros w64 word)
-  IsNextMark-word at word here some fits =
-      let t = bit_at-trailing_zeros w64 word some fits in
-      let low = trailing_zeros w64 word in
+-- the lowest bit of the word that is held is that of the next mark
+module _ (marks : List Bool) (from at word low : ℕ) (here : IsHeldWord (marked marks) from at word) (small : low < 64) (lowest : IsLowest word low) where
+  IsNextMark-lowest : IsNextMark marks from (at * 64 + low)
+  IsNextMark-lowest =
       let i : ℕ = at * 64 + low in
-      let is : i / 64 ≡ at = omega (arith, t.0) in
-      let rest : i % 64 ≡ low = omega (arith, t.0) in
-      let one : has_bit word (i % 64) ≡ true = ap (has_bit word) rest ∙ eq-eqb (bit_at word low) 1 t.1 in
+      let is : i / 64 ≡ at = omega (arith, small) in
+      let rest : i % 64 ≡ low = omega (arith, small) in
+      let one : has_bit word (i % 64) ≡ true = ap (has_bit word) rest ∙ eq-eqb (bit_at word low) 1 lowest.one in
       let behind : from ≤ i = (let none = here.none i is in grind (arith, none, one)) in
       record {
         behind = behind;
         is = here.bit i is behind ∙ one;
-        between = λ j le lt. elim (cases_lt j (64 * at)) as (λ _. marked (marks_of words) j ≡ false) [
+        between = λ j le lt. elim (cases_lt j (64 * at)) as (λ _. marked marks j ≡ false) [
           | inl before ↦ here.before j le before
           | inr inside ↦
-              (let z = t.2 (j % 64) (omega (arith, inside, lt, t.0)) in
-              here.bit j (omega (arith, inside, lt, t.0)) le ∙ ne_eqb (bit_at word (j % 64)) 1 (λ e. omega (arith, z, e)))
+              (let z = lowest.below (j % 64) (omega (arith, inside, lt, small)) in
+              here.bit j (omega (arith, inside, lt, small)) le ∙ ne_eqb (bit_at word (j % 64)) 1 (λ e. omega (arith, z, e)))
         ];
       }
+
+  -- and the others are held from behind it on
+  IsHeldWord-lowest : IsHeldWord (marked marks) (at * 64 + low + 1) at (without_lowest word)
+  IsHeldWord-lowest =
+      let behind = IsNextMark-lowest.behind in
+      record {
+        fits = here.fits;
+        reached = omega (arith, small);
+        before = λ j le lt. absurd (omega (arith, le, lt));
+        bit = λ j is le.
+            here.bit j is (omega (arith, behind, le))
+            ∙ sym (has_bit-without_lowest_other word low lowest (j % 64) (λ e. omega (arith, is, le, e)));
+        none = λ j is lt. elim (cases_eq (j % 64) low) as (λ _. has_bit (without_lowest word) (j % 64) ≡ false) [
+          | inl e ↦ ap (has_bit (without_lowest word)) e ∙ has_bit-without_lowest word low lowest
+          | inr apart ↦
+              (let z = lowest.below (j % 64) (omega (arith, is, lt, apart, small)) in
+              has_bit-without_lowest_other word low lowest (j % 64) apart ∙ ne_eqb (bit_at word (j % 64)) 1 (λ e. omega (arith, z, e)))
+        ];
+      }
+
+module _ (marks : List Bool) (from at word : ℕ) (here : IsHeldWord (marked marks) from at word) (some : 0 < word) (fits : word < 2 ^ 64) where
+  lowest : IsLowest word (trailing_zeros w64 word)
+  lowest = let t = bit_at-trailing_zeros w64 word some fits in record { one = t.1; below = t.2 }
+
+  pub IsNextMark-word : IsNextMark marks from (at * 64 + trailing_zeros w64 word)
+  IsNextMark-word = IsNextMark-lowest marks from at word _ here (bit_at-trailing_zeros w64 word some fits).0 lowest
+
+  pub IsHeldWord-rest : IsHeldWord (marked marks) (at * 64 + trailing_zeros w64 word + 1) at (bit_and word (word - 1))
+  IsHeldWord-rest = IsHeldWord-lowest marks from at word _ here (bit_at-trailing_zeros w64 word some fits).0 lowest

@@ -1,5 +1,5 @@
 -- Indices that are marked or not, as bits of words. No public clause cites this module.
-use Rattle.std.specs.Prelude.{ℕ, Bool, true, false, ◌*◌, ◌/◌, ◌%◌, ◌+◌, ◌<◌, ◌≤◌, ◌==◌, ◌≡◌, List, cond, length, map, filter, slice_index, slice_index_or}
+use Rattle.std.specs.Prelude.{ℕ, suc, Bool, true, false, ◌*◌, ◌/◌, ◌%◌, ◌^◌, ◌+◌, ◌<◌, ◌≤◌, ◌==◌, ◌≡◌, List, cond, length, map, filter, slice_index, slice_index_or}
 use Rattle.std.specs.Int.{bit_at}
 use Rattle.std.specs.List.{range_with_len}
 
@@ -20,6 +20,14 @@ pub record IsNextMark (marks : List Bool) (from i : ℕ) : Type 0 where
 -- whether bit i of the word is set
 abbrev pub has_bit : ℕ → ℕ → Bool
 has_bit word i = bit_at word i == 1
+
+-- word `at` of the marks, without those before index `from`. From there up to this word nothing is marked
+pub record IsHeldWord (marks : ℕ → Bool) (from at word : ℕ) : Type 0 where
+  pub fits : at < 2 ^ 58
+  pub reached : from ≤ 64 * suc at
+  pub before : (j : ℕ) → from ≤ j → j < 64 * at → marks j ≡ false
+  pub bit : (j : ℕ) → j / 64 ≡ at → from ≤ j → marks j ≡ has_bit word (j % 64)
+  pub none : (j : ℕ) → j / 64 ≡ at → j < from → has_bit word (j % 64) ≡ false
 
 -- a word that has, from its lowest bit up, the marks of the 64 indices around index i
 abbrev pub IsWordOf : List Bool → ℕ → ℕ → Type 0

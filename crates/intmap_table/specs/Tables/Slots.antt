@@ -3,7 +3,7 @@ use Rattle.std.specs.Prelude.{◌≡◌, ◌⊎◌, ℕ, zero, suc, ◌+◌, ◌
 use Rattle.std.specs.Option.{option_to_list}
 use Rattle.std.specs.List.{All, flat_map}
 use Rattle.std.specs.Map.{keys_of}
-use Rattle.intmap_table.specs.Tables.Bits.{marked}
+use Rattle.intmap_table.specs.Tables.Bits.{marked, IsHeldWord}
 use Rattle.intmap_table.specs.Classes.{IsCapacity, slot_number}
 
 -- what a slot holds, and how many pairs it has room for
@@ -73,6 +73,10 @@ pub record IsNextRow {P : Type 0} (R : List (List P)) (from i : ℕ) : Type 0 wh
   pub within : i < length R
   pub filled : 0 < length (slice_index_or R i [])
   pub between : (j : ℕ) → from ≤ j → j < i → slice_index_or R j [] ≡ []
+
+-- word `at` says which of its slots hold a pair, and is without those before slot `from`. From there up to it none does
+abbrev pub IsSlotWord : {K X : Type 0} → List (Held K X) → ℕ → ℕ → ℕ → Type 0
+IsSlotWord slots from at word = IsHeldWord (λ i. nat_lt 0 (length (row_of slots i))) from at word
 
 -- marks in whole words of 64: the index of a row is marked exactly if the row has a pair, and no index behind the last row is marked
 pub record AreMarked {P : Type 0} (S : List (List P)) (marks : List Bool) : Type 0 where

@@ -2,8 +2,9 @@
 ghost use Rattle.std.specs.Prelude.{◌≡◌, [], ◌∷◌, ◌++◌, MatchOption};
 ghost use Rattle.std.specs.Iterator.{YieldsFirst, item_count};
 ghost use Rattle.std.specs.Vec.Iter.{into_iter_items};
-ghost use Rattle.intmap_table.specs.Walk.{walk_of, ArePassed};
+ghost use Rattle.intmap_table.specs.Walk.{walk_of, ArePassed, IsWalkWord};
 
+use crate::bits::HeldWord;
 use crate::key::IntKey;
 use crate::table::Table;
 use crate::table::stored::Stored;
@@ -19,7 +20,9 @@ pub struct IntoPairs<K: IntKey, X, A: Allocator + Copy> {
     rest: IntoIter<(Stored<K>, X), A>,
     table: Table<K, X, A>,
     from: usize,
+    held: HeldWord,
     ghost passed: { ArePassed K.number_of table.walk table.capacity from },
+    ghost left: { IsWalkWord K.number_of table.walk table.capacity from held.at held.word },
 }
 
 impl<K: IntKey, X, A: Allocator + Copy> Model for IntoPairs<K, X, A> {
@@ -33,22 +36,27 @@ impl<K: IntKey, X, A: Allocator + Copy> Model for IntoPairs<K, X, A> {
 
 impl<K: IntKey, X: Drop, A: Allocator + Copy> Table<K, X, A> {
     /// Removes all pairs of the first slot that holds one. The first of them is returned, and `rest`
-    /// gets the others. No slot before `from` holds a pair. `from` moves on to the slot that held
-    /// the removed pairs.
+    /// gets the others. No slot before `from` holds a pair, and `held` has a word of the slots behind.
+    /// `from` moves behind the slot that held the removed pairs.
     fn take_slot(
         &mut self,
         from: &mut usize,
+        held: &mut HeldWord,
         rest: &mut IntoIter<(Stored<K>, X), A>,
     ) -> Option<(K, X)>
         requires passed { ArePassed K.number_of self.old.walk self.old.capacity from.old }
+        requires held { IsWalkWord K.number_of self.old.walk self.old.capacity from.old
+            held.old.at held.old.word }
         requires empty { into_iter_items rest.old ≡ [] }
         ensures first { MatchOption result ((self.old.walk ≡ [])
             × (into_iter_items rest.new ++ self.new.walk ≡ []))
             (λ pair. self.old.walk ≡ pair ∷ (into_iter_items rest.new ++ self.new.walk)) }
         ensures passed { ArePassed K.number_of self.new.walk self.new.capacity from.new }
+        ensures held { IsWalkWord K.number_of self.new.walk self.new.capacity from.new
+            held.new.at held.new.word }
     {
-        let index = self.slots.next_filled(*from)?;
-        *from = index;
+        let index = self.slots.next_in(held, *from)?;
+        *from = index + 1;
         let (key, value) = self.slots.take_all(index, rest);
         Some((*key.key(), value))
     }
@@ -59,6 +67,7 @@ impl<K: IntKey, X: Drop, A: Allocator + Copy> Table<K, X, A> {
     {
         IntoPairs {
             rest: Vec::new(self.slots.allocator()).into_iter(),
+            held: self.slots.hold(0),
             table: self,
             from: 0,
         }
@@ -76,6 +85,7 @@ impl<K: IntKey, X: Drop, A: Allocator + Copy> Iterator for IntoPairs<K, X, A> {
         if let Some((key, value)) = self.rest.next() {
             return Some((*key.key(), value));
         }
-        self.table.take_slot(&mut self.from, &mut self.rest)
+        self.table
+            .take_slot(&mut self.from, &mut self.held, &mut self.rest)
     }
 }

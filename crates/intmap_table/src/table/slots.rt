@@ -23,9 +23,9 @@ ghost use Rattle.std.specs.List.{AllZip};
 ghost use Rattle.intmap_table.specs.Classes.{IsCapacity, same_key};
 ghost use Rattle.intmap_table.specs.Cloning.{IsPairClone};
 ghost use Rattle.intmap_table.specs.Reach.{through_first};
-ghost use Rattle.intmap_table.specs.Tables.Slots.{rows, row_of, joined, AreMarked, IsNextRow, IsRowSet, all_pairs};
+ghost use Rattle.intmap_table.specs.Tables.Slots.{rows, row_of, joined, AreMarked, IsNextRow, IsRowSet, IsSlotWord, all_pairs};
 
-use crate::bits::Bits;
+use crate::bits::{Bits, HeldWord};
 use crate::key::IntKey;
 use crate::lone::Lone;
 use crate::slot::Slot;
@@ -228,13 +228,35 @@ impl<K: IntKey, X, A: Allocator> Slots<K, X, A> {
         (self.lone[index].pair(), &[])
     }
 
+    /// Which slots from an index on hold a pair, as far as the word of this index tells.
+    #[inline(always)]
+    pub(crate) fn hold(&self, from: usize) -> HeldWord
+        ensures { IsSlotWord self.now from result.at result.word }
+    {
+        self.directory.bits.hold(from)
+    }
+
+    /// The first slot from an index on that holds a pair, for which a word is held. Slots before the
+    /// index may change between two calls.
+    #[inline(always)]
+    pub(crate) fn next_in(&self, held: &mut HeldWord, from: usize) -> Option<usize>
+        requires { IsSlotWord self.now from held.old.at held.old.word }
+        ensures some { IfSome result (IsNextRow (rows self.now) from) }
+        ensures held { IfSome result (λ i. IsSlotWord self.now (i + 1) held.new.at held.new.word) }
+        ensures none { IfNone result ((j : ℕ) → from ≤ j → row_of self.now j ≡ []) }
+        ensures stays { IfNone result (IsSlotWord self.now from held.new.at held.new.word) }
+    {
+        self.directory.bits.next_in(held, from)
+    }
+
     /// The first slot from an index on that holds a pair.
     #[inline(always)]
     pub(crate) fn next_filled(&self, from: usize) -> Option<usize>
         ensures some { IfSome result (IsNextRow (rows self.now) from) }
         ensures none { IfNone result ((j : ℕ) → from ≤ j → row_of self.now j ≡ []) }
     {
-        self.directory.bits.next_from(from)
+        let mut held = self.hold(from);
+        self.next_in(&mut held, from)
     }
 
     /// The pairs, slot after slot.

@@ -18,6 +18,7 @@ use std::alloc::Allocator;
 impl<K: IntKey, V: Drop, A: Allocator> Slots<K, Kept<V>, A> {
     /// Keeps the pairs of a slot for which the closure returns true, in their order, and returns
     /// their number. The closure is called once at each pair of the slot.
+    #[inline(always)]
     pub(crate) fn retain_at<F: FnMut(K, &V) -> bool>(&mut self, index: usize, f: &mut F) -> usize
         requires within { index < length self.old }
         requires callable { TakesEach (KeepsAt F.FnMut) (TakesPair F.FnMut) f.old

@@ -5,7 +5,7 @@ use Rattle.intmap_table.specs.Tables.Slots.{rows, row_of, joined}
 use Rattle.intmap_table.proofs.SlotNumberLemmas.{capacity-greatest}
 use Rattle.intmap_table.proofs.RetainLemmas.{FoldsTo-Retains, All-Retains, Retains-append, length-Retains}
 use Rattle.intmap_table.proofs.TakingLemmas.{TakesEach-front}
-use Rattle.intmap_table.proofs.Tables.AroundLemmas.{joined-before, next-left, next-within, row-left, row-taken, Leads-all, Leads-row, TakesEach-row}
+use Rattle.intmap_table.proofs.Tables.AroundLemmas.{joined-before, next-left, next-within, IsSlotWord-row_set, row-left, row-taken, Leads-all, Leads-row, TakesEach-row}
 use Rattle.intmap_table.proofs.Tables.TableLemmas.{length-row_set, IsTable-row_set}
 use Rattle.intmap_table.proofs.table.closures.retain_slots.Goals as goal
 use Rattle.intmap_table.proofs.table.closures.retain_slots.Goals.{In-Some}
@@ -17,6 +17,7 @@ loop-index-init g c = record {
   len = refl;
   few = omega (arith, c.requires.count);
   count = refl;
+  held = c.hold-held.ensures;
   leads = λ N last run. run;
 }
 
@@ -67,6 +68,7 @@ loop-index-preserved g c =
       len = length-row_set S index done.0 T done.1 ∙ loop.len;
       few = omega (arith, left, fewer, done.3, loop.few);
       count = omega (arith, taken, done.3, loop.count);
+      held = IsSlotWord-row_set S index done.0 T within done.1 _ _ c.in-Some.ensures.held;
       leads = Leads-row S from index done.0 T next done.1 _ _ _ _ (Retains R) (Retains-append R) loop.leads done.2;
     }
 
