@@ -1,11 +1,11 @@
 //! Insertions of many pairs, insertions that never fail, and pairs that wait after a failure.
 ghost use Rattle.std.specs.Prelude.{[], ◌++◌, ◌+◌, ◌<◌, ◌^◌, ◌∷◌, ◌≡◌, ◌≤◌, All, IfOk, List, None, OnErr, OnOk, Some, ℕ, length, reverse, true, vec_capacity};
 ghost use Rattle.std.specs.Option.{option_or};
-ghost use Rattle.intmap.specs.Bindings.{Updates, value_of};
+ghost use Rattle.intmap.specs.Bindings.{HasDistinctKeys, Updates, value_of};
 ghost use Rattle.intmap.specs.Growth.{IsNext, MeetsLoad};
 ghost use Rattle.intmap.specs.Insertions.{IsInsertion};
 ghost use Rattle.intmap.specs.Reach.{class_size};
-ghost use Rattle.intmap.specs.Room.{HasRoomFor};
+ghost use Rattle.intmap.specs.Room.{AreInRow, HasRoomFor};
 ghost use Rattle.callers.specs.Bindings.{Moves, pairs_of};
 
 use intmap::{Cause, IntKey, IntMap, RefusedPair, laws};
@@ -59,6 +59,26 @@ pub fn insert_all<K: IntKey, V: Drop, A: Allocator + Copy>(
         Ok(()) => (),
         Err(_refused) => unreachable!(),
     }
+}
+
+/// Inserts new pairs whose keys and the map's own stand in a row no longer than the capacity, as ids
+/// that follow one another do. If all of them meet the load, it never fails, and the capacity stays.
+pub fn insert_row<K: IntKey, V: Drop, A: Allocator + Copy>(
+    map: &mut IntMap<K, V, A>,
+    pairs: Vec<(K, V), A>,
+)
+    requires distinct { HasDistinctKeys K.number_of (map.old.walk ++ pairs.items) }
+    requires row { AreInRow K.number_of map.old.capacity (map.old.walk ++ pairs.items) }
+    requires count { length (map.old.walk ++ pairs.items) < 2 ^ 64 }
+    requires room { MeetsLoad map.old.capacity (length (map.old.walk ++ pairs.items))
+        map.old.factor }
+    ensures capacity { map.new.capacity ≡ map.old.capacity }
+    ensures values { (q : K) → value_of K.number_of map.new.walk q ≡ option_or
+        (value_of K.number_of (reverse pairs.items) q) (value_of K.number_of map.old.walk q) }
+{
+    laws::keys_in_a_row_have_room::<K, V>();
+    let _capacity = map.capacity();
+    insert_all(map, pairs);
 }
 
 /// Inserts a new key below the capacity, where all keys are below it, and one pair more meets the

@@ -21,7 +21,7 @@ use Rattle.intmap.specs.Map.{MapState, IsLone}
 use Rattle.intmap.specs.PlainLists.{RefusalIsDue, list_of}
 use Rattle.intmap.specs.Room.{HasRoomFor}
 use Rattle.intmap.specs.declared.refusal.Cause.{Cause}
-use Rattle.intmap.proofs.CostLemmas.{class_size-below}
+use Rattle.intmap.proofs.CostLemmas.{class_size-in_row}
 use Rattle.intmap.proofs.LoadFactorLemmas.{IsNext-unique, IsNext-loaded}
 use Rattle.intmap.proofs.RefusalLemmas.{lone-never_refused}
 
@@ -130,14 +130,14 @@ module _ {K V : Type 0} (number : K → ℕ) (is_valid : K → Type 0) where
       lone-never_refused number (list_of n) p.0 here (IsLone-room number n.walk n.capacity n.factor p qs here left.room) cause may
 
 module _ {K V : Type 0} (number : K → ℕ) where
-  -- distinct keys below the capacity each have a slot of their own
-  pub All-alone : (L : List (K × V)) (C : ℕ) (ps : List (K × V)) → HasDistinctKeys number (L ++ ps) → All (λ p. number p.0 < C) (L ++ ps) → All (λ p. class_size number (L ++ ps) C p.0 ≡ 1) ps
-  All-alone L C ps once below = each [] ps refl
+  -- distinct keys whose numbers stand in a row as long as the capacity each have a slot of their own
+  pub All-alone : (L : List (K × V)) (C a : ℕ) (ps : List (K × V)) → HasDistinctKeys number (L ++ ps) → All (λ p. (a ≤ number p.0) × (number p.0 < a + C)) (L ++ ps) → All (λ p. class_size number (L ++ ps) C p.0 ≡ 1) ps
+  All-alone L C a ps once near = each [] ps refl
     where
       each : (front qs : List (K × V)) → ps ≡ front ++ qs → All (λ p. class_size number (L ++ ps) C p.0 ≡ 1) qs
       each front [] is = All-nil (λ p. class_size number (L ++ ps) C p.0 ≡ 1)
       each front (q ∷ qs) is =
-          let most : class_size number (L ++ ps) C q.0 ≤ 1 = class_size-below number (L ++ ps) C q.0 once below in
+          let most : class_size number (L ++ ps) C q.0 ≤ 1 = class_size-in_row number (L ++ ps) C a q.0 once near in
           let whole = class_size-append number L ps C q.0 in
           let part : class_size number ps C q.0 ≡ class_size number front C q.0 + class_size number (q ∷ qs) C q.0 = ap (λ M. class_size number M C q.0) is ∙ class_size-append number front (q ∷ qs) C q.0 in
           let own = class_size-own number C q qs in

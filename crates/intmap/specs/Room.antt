@@ -1,9 +1,14 @@
 -- Which pairs a table has room for.
-use Rattle.std.specs.Prelude.{◌≡◌, ℕ, ◌^◌, ◌<◌, ◌≤◌, List, ◌++◌, length, All}
+use Rattle.std.specs.Prelude.{◌≡◌, ℕ, ◌+◌, ◌^◌, ◌<◌, ◌≤◌, List, ◌++◌, length, All}
 use Rattle.intmap_table.specs.Reach.{class_size}
 use Rattle.intmap.specs.Growth.{MeetsLoad, last_due}
 
 module _ {K V : Type 0} (number : K → ℕ) where
+  -- the numbers of the keys of L stand among C numbers in a row
+  pub record AreInRow (C : ℕ) (L : List (K × V)) : Type 0 where
+    pub first : ℕ
+    pub all : All (λ p. (first ≤ number p.0) × (number p.0 < first + C)) L
+
   -- a table of C slots with the pairs L has room for the pairs ps at the load factor F: each key of ps shares its slot with no other
   -- key of L or ps, the length with all of them is below 2^64, and the last length up to it at which growth is tested meets the load
   pub record HasRoomFor (L : List (K × V)) (C F : ℕ) (ps : List (K × V)) : Type 0 where

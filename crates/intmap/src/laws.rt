@@ -17,7 +17,7 @@ ghost use Rattle.intmap.specs.Map.{MapState, IsCapacityAfter, IsLone, IsMap, aft
 ghost use Rattle.intmap.specs.Equality.{maps_equal};
 ghost use Rattle.intmap.specs.PlainLists.{PlainList, RefusalIsDue, list_of};
 ghost use Rattle.intmap.specs.Extending.{IsExtended};
-ghost use Rattle.intmap.specs.Room.{HasRoomFor};
+ghost use Rattle.intmap.specs.Room.{AreInRow, HasRoomFor};
 ghost use Rattle.intmap.specs.Json.{Shows, BindSameTrees};
 ghost use Rattle.intmap.specs.declared.entry.Entry.{Entry};
 ghost use Rattle.intmap.specs.declared.refusal.Cause.{Cause};
@@ -239,6 +239,16 @@ pub fn pairs_with_room_are_inserted<K: IntKey, V>()
 pub fn pairs_with_room_are_lone<K: IntKey, V>()
     ensures { (L : List (K × V)) (C F : ℕ) (p : K × V) (ps : List (K × V)) → IsCapacity C
         → HasRoomFor K.number_of L C F (p ∷ ps) → IsLone K.number_of L C F p.0 }
+{}
+
+/// A map has room for new pairs if their keys and its own have numbers in a row no longer than the
+/// capacity, such as ids that follow one another, and if all pairs together meet the load.
+pub fn keys_in_a_row_have_room<K: IntKey, V>()
+    ensures { (m : MapState K V) (ps : List (K × V)) → IsMap K.number_of K.is_valid m
+        → HasDistinctKeys K.number_of (m.walk ++ ps)
+        → AreInRow K.number_of m.capacity (m.walk ++ ps)
+        → length (m.walk ++ ps) < 2 ^ 64 → MeetsLoad m.capacity (length (m.walk ++ ps)) m.factor
+        → HasRoomFor K.number_of m.walk m.capacity m.factor ps }
 {}
 
 /// Distinct keys with numbers below the capacity each have a slot of their own.
