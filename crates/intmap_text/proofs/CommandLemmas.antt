@@ -1,11 +1,10 @@
 -- Words that say no command.
-use Rattle.std.proofs.Common.{rules, ◌≡◌, ◌≢◌, codes, ℕ, List, [], ◌∷◌, Option, Some, None, IfNone}
+use Rattle.std.proofs.Common.{◌≡◌, ◌≢◌, codes, ℕ, List, [], ◌∷◌, Option, Some, None, IfNone}
 use Rattle.std.specs.List.{AllZip}
 use Rattle.std.specs.Fmt.{decimal}
 use Rattle.std.proofs.lemmas.Fmt.{decimal_injective}
 use Rattle.intmap_run.specs.declared.command.Command.{Command}
-use Rattle.intmap_run.specs.declared.command.Command.TheVariants as command
-use Rattle.intmap_text.specs.Words.{name_of, numbers_of, IsSpelled}
+use Rattle.intmap_text.specs.Words.{numbers_of, IsSpelled}
 use Rattle.intmap_text.specs.Commands.{IsNumeral, Says}
 
 -- words write one list of numbers alone

@@ -1,5 +1,5 @@
 -- Words that write pairs, two words a pair.
-use Rattle.std.proofs.Common.{◌≡◌, ℕ, List, [], ◌∷◌, ◌++◌, refl, ap, sym, ◌∙◌, subst, append_assoc}
+use Rattle.std.proofs.Common.{◌≡◌, ℕ, List, [], ◌∷◌, ◌++◌, ap, sym, ◌∙◌, subst, append_assoc}
 use Rattle.std.specs.List.{AllZip}
 use Rattle.intmap_text.specs.Words.{keys_and_values}
 use Rattle.intmap_text.specs.Commands.{IsNumeral}

@@ -1,8 +1,12 @@
 -- The lines and the words of a text, of which the first is taken off.
-use Rattle.std.proofs.Common.{◌≡◌, ℕ, suc, ◌-◌, ◌<◌, ◌≤◌, Bool, true, false, List, [], ◌∷◌, length, take, drop, filter, refl, ap, ◌∙◌, subst, arith, one-add, eqb}
+use Rattle.std.proofs.Common.{◌≡◌, ℕ, suc, ◌-◌, ◌<◌, ◌≤◌, Bool, true, false, List, [], ◌∷◌, length, take, drop, filter, Option, Some, None, refl, ap, sym, ◌∙◌, subst, arith, le_refl, one-add, eqb}
 use Rattle.std.specs.List.{slice_split, prefix_len, position_or_len}
+use Rattle.std.specs.Option.{unwrap_or}
+use Rattle.std.proofs.lemmas.Bool.{false_from_ne_true}
 use Rattle.std.proofs.lemmas.Bool.Decides.{nat_tests}
+use Rattle.std.proofs.lemmas.List.Sums.{position_or_len_is}
 use Rattle.std.proofs.lemmas.Grind.{common_steps}
+use Rattle.memchr.specs.Find.{IsFirstByte, is_byte}
 use Rattle.intmap_text.specs.Lines.{is_filled, lines_in, words_in}
 
 module _ (p : ℕ → Bool) where
@@ -34,6 +38,16 @@ module _ (p : ℕ → Bool) where
 -- whether a byte ends a line
 abbrev is_end : ℕ → Bool
 is_end b = eqb b 10
+
+-- a search for a byte 10 finds where the first line ends, or the text does
+pub place_of_end : (text : List ℕ) (found : Option ℕ) → IsFirstByte (is_byte 10) text found
+    → unwrap_or found (length text) ≡ position_or_len is_end text
+place_of_end text None none =
+    sym (position_or_len_is is_end text (length text) 0 (le_refl (length text))
+    (λ i l. false_from_ne_true _ (none i (omega arith) l)) (λ l. absurd (omega (arith, l))))
+place_of_end text (Some n) first =
+    sym (position_or_len_is is_end text n 0 (omega (arith, first.0.high))
+    (λ i l. false_from_ne_true _ (first.0.before i (omega arith) l)) (λ l. first.1))
 
 -- behind a line that no byte 10 ends there is no line
 later_none : (rest : List ℕ) → length rest < 1 → later is_end rest ≡ []

@@ -6,16 +6,17 @@ use intmap::{Cause, RefusedPair};
 use intmap_run::Answer;
 use std::alloc::{AllocError, Allocator};
 
-/// One line for each answer, each ended by a byte 10. It fails if there is no memory for them.
+/// One line for each answer, each ended by a byte 10. It fails if there is no memory for them. Each
+/// answer is dropped once it is printed.
 pub fn print_answers<A: Allocator>(
     alloc: A,
-    answers: &[Answer<u64, u64, u64, A>],
+    answers: Vec<Answer<u64, u64, u64, A>, A>,
 ) -> Result<String<A>, AllocError>
-    ensures { IfOk result (λ text. string_bytes text ≡ lines_of answers.now) }
+    ensures { IfOk result (λ text. string_bytes text ≡ lines_of answers.items) }
 {
     let mut out = String::new(alloc);
     for answer in answers {
-        print_answer(&mut out, answer)?;
+        print_answer(&mut out, &answer)?;
         out.push_str("\n")?;
     }
     Ok(out)

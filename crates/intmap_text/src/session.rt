@@ -82,7 +82,8 @@ fn read_text<A: Allocator, R: Read>(alloc: A, input: &mut R) -> Result<Vec<u8, A
 }
 
 /// The lines of the answers to a text. It runs no command before it knows that every line is a
-/// command or blank. The text's memory is free again before the first answer is made.
+/// command or blank. The text's memory is free again before the first answer is made, and the map's
+/// before the first is printed.
 fn answer<A: Allocator + Copy>(alloc: A, text: Vec<u8, A>) -> Result<String<A>, Fault>
     ensures ok { IfOk result (λ lines. IsAnswered A text.items (string_bytes lines)) }
     ensures err { IfErr result (IsRefused A text.items) }
@@ -93,7 +94,8 @@ fn answer<A: Allocator + Copy>(alloc: A, text: Vec<u8, A>) -> Result<String<A>, 
     let Ok(answers) = run(alloc, &mut map, commands, &OddJudge) else {
         return Err(Fault::Memory);
     };
-    Ok(print_answers(alloc, answers.as_slice())?)
+    drop(map);
+    Ok(print_answers(alloc, answers)?)
 }
 
 /// The commands that a text spells. Blank lines spell none, but count as lines.

@@ -4,6 +4,7 @@ ghost use Rattle.std.specs.Iterator.{YieldsFirstRef, item_count};
 ghost use Rattle.std.specs.List.{prefix_len, position_or_len};
 ghost use Rattle.intmap_text.specs.Lines.{lines_in, words_in, words_of};
 
+use memchr::memchr;
 use std::marker::Model;
 
 /// The lines that are left of a text. A byte 10 ends each line except the last.
@@ -60,7 +61,7 @@ fn first_line(text: &[u8]) -> (&[u8], Option<&[u8]>)
 fn line_len(text: &[u8]) -> usize
     ensures { result ≡ position_or_len (λ b. b == 10) text.now }
 {
-    text.iter().take_while(|byte| **byte != b'\n').count()
+    memchr(b'\n', text).unwrap_or(text.len())
 }
 
 /// The words that are left of a line.
