@@ -57,6 +57,9 @@ FACTOR = "-7046029254386353067"
 ADDRESS_AND_NUMBER = rf"getelementptr (?:(?:inbounds|nuw|nusw) )*i8, ptr ({VALUE}), i64 (-?\d+)$"
 # what the optimiser appends to a name
 APPENDED = "i\\d*|sroa|sroa_idx|copyload|fca|extract|insert|pre-phi|pre|not|le|lcssa|unr|ph|preheader|fr|pn"
+INSERTED = rf"insertvalue ({TYPE}) ({VALUE}), ({TYPE}) ({VALUE}), (\d+)$"
+# the instructions of a block that only returns
+ENDS = re.compile(rf"(?:%{NAME} = (?:phi|insertvalue) |ret )")
 TAKEN = set("switch default case if else for do while return break continue goto new delete this common at map".split())
 FIELD_TYPES = {"i64": "word", "i32": "half", "i8": "byte", "i1": "truth", "ptr": "address"}
 FIELDS = ("first", "second", "third", "fourth")
@@ -216,6 +219,11 @@ class FunctionInC:
     def __init__(self, printer, function):
         self.printer, self.function, self.graph = printer, function, function.graph
         self.is_call_of_c = "::" not in function.name
+        # blocks that only return: each way to one ends with a return of its own. With that clang would save one register
+        # more in calls of C that return a struct
+        is_apart = self.is_call_of_c and function.result[0] == "{"
+        self.ends = {it for it, lines in function.blocks.items() if not is_apart and all(ENDS.match(line) for line in lines)}
+        self.graph.joins -= self.ends
         self.name, self.taken, self.names, self.types = printer.name(function.name), set(), {}, {}
         labels = set()
         self.labels = {it: unique(word_of(it), labels) for it in self.graph.order}
@@ -421,6 +429,8 @@ class FunctionInC:
         if moves:
             return f"{moves}({', '.join(given[:3])});"
         if self.printer.places.is_for_a_map(self.function, value):
+            if given[0] != str(self.printer.origins.layouts.size(MAP)):
+                raise SystemExit(f"portable: a map has {given[0]} bytes, and in the sources another number")
             given[0] = self.printer.size(MAP)
         helper, count = HELPERS.get(name, (None, len(given)))
         text = f"{helper or (name if name in HEAP else self.printer.name(name))}({', '.join(given[:count])});"
@@ -458,7 +468,7 @@ class FunctionInC:
         return out
 
     def insert_field(self, value, code, out):
-        kind, whole, _, part, at = groups_of(rf"insertvalue ({TYPE}) ({VALUE}), ({TYPE}) ({VALUE}), (\d+)$", code)
+        kind, whole, _, part, at = groups_of(INSERTED, code)
         self.types[value] = kind
         if bare(whole) in self.made:
             parts = list(self.made[bare(whole)][1])
@@ -549,6 +559,8 @@ class FunctionInC:
 
     def edge(self, block, other, following, loop):
         """The lines from a block to one that it leads to."""
+        if other in self.ends:
+            return [self.end(other, {value: cases[block] for value, _, cases in self.function.joined[other]})], False
         waiting = dict(self.waiting)
         out = self.joined(block, other)
         waiting = {it: waiting[it] for it in waiting if it in self.waiting}
@@ -592,8 +604,7 @@ class FunctionInC:
         out, last = self.statements(block), self.function.blocks[block][-1]
         word, first, goes_on = last.split()[0], joins[0] if joins else following, False
         if word == "ret":
-            kind, value = groups_of(rf"ret ({TYPE})(?: ({VALUE}))?$", last)
-            out.append("return;" if kind == "void" else f"return {self.operand(value, kind, False)};")
+            out.append(self.end(block, {}))
         elif word == "unreachable":
             out += ["abort();"] if out[-1:] != ["abort();"] else []
         elif word == "switch":
@@ -609,6 +620,20 @@ class FunctionInC:
             lines, goes_on = self.rest(joins, following, loop)
             out += lines
         return out, goes_on
+
+    def end(self, block, given):
+        """The return of a block, where values that it joins are given."""
+        kind, value = groups_of(rf"ret ({TYPE})(?: ({VALUE}))?$", self.function.blocks[block][-1])
+        if kind == "void":
+            return "return;"
+        code, parts = self.function.made_by.get(bare(value), ""), {}
+        while given and code.startswith("insertvalue "):
+            _, whole, _, part, at = groups_of(INSERTED, code)
+            parts.setdefault(int(at), given.get(bare(part), part))
+            code = self.function.made_by.get(bare(whole), "")
+        if parts:
+            self.made[bare(value)] = (kind, [parts.get(at, "poison") for at in range(len(fields_of(kind)))])
+        return f"return {self.operand(given.get(bare(value), value), kind, False)};"
 
     def switch(self, block, last, following):
         kind, value, otherwise, cases = groups_of(rf"switch ({TYPE}) ({VALUE}), label (%{NAME}) \[ (.*) \]$", last)
@@ -692,6 +717,7 @@ class FunctionInC:
 
     def text(self):
         lines, _ = self.tree(self.graph.order[0], None, (None, None))
+        lines = lines[:-1] if lines[-1] == "return;" else lines
         body = "\n".join(lines)
         unused = [self.variable(it) for _, it in self.function.parameters if not re.search(rf"\b{self.variable(it)}\b", body)]
         whole = [*self.printer.origins.about(self.function.name), f"{self.head()} {{", *self.declarations()]
