@@ -489,40 +489,41 @@ static ALWAYS_INLINE uint32_t do_intmap_set_load_factor(char *handle, uint64_t t
 static ALIGNED void mem_drop(uint8_t a0, char *map) {
     char *words, *lone, *shared, *slot;
     uint64_t lone_room, shared_len, shared_room, words_room, index, next_index;
-    if ((a0 & 1) != 0) {
-        words = load_address(map + INT_MAP_WORDS);
-        lone = load_address(map + INT_MAP_LONE);
-        lone_room = load64(map + INT_MAP_LONE_ROOM);
-        shared = load_address(map + INT_MAP_SHARED);
-        shared_len = load64(map + INT_MAP_SHARED_LEN);
-        shared_room = load64(map + INT_MAP_SHARED_ROOM);
-        words_room = load64(map + INT_MAP_WORDS_ROOM);
-        rattle_dealloc(map);
-        if (words_room != 0) {
-            rattle_dealloc(words);
-        }
-        if (lone_room != 0) {
-            rattle_dealloc(lone);
-        }
-        if (shared_len != 0) {
-            index = 0;
-            for (;;) {
-                slot = shared + (index * SLOT_SIZE);
-                if (load64(slot + SLOT_REST_ROOM) != 0) {
-                    rattle_dealloc(load_address(slot + SLOT_REST));
-                }
-                next_index = index + 1;
-                if (next_index == shared_len) {
-                    break;
-                }
-                index = next_index;
+    if ((a0 & 1) == 0) {
+        return;
+    }
+    words = load_address(map + INT_MAP_WORDS);
+    lone = load_address(map + INT_MAP_LONE);
+    lone_room = load64(map + INT_MAP_LONE_ROOM);
+    shared = load_address(map + INT_MAP_SHARED);
+    shared_len = load64(map + INT_MAP_SHARED_LEN);
+    shared_room = load64(map + INT_MAP_SHARED_ROOM);
+    words_room = load64(map + INT_MAP_WORDS_ROOM);
+    rattle_dealloc(map);
+    if (words_room != 0) {
+        rattle_dealloc(words);
+    }
+    if (lone_room != 0) {
+        rattle_dealloc(lone);
+    }
+    if (shared_len != 0) {
+        index = 0;
+        for (;;) {
+            slot = shared + (index * SLOT_SIZE);
+            if (load64(slot + SLOT_REST_ROOM) != 0) {
+                rattle_dealloc(load_address(slot + SLOT_REST));
             }
-        }
-        if (shared_room != 0) {
-            rattle_dealloc(shared);
+            next_index = index + 1;
+            if (next_index == shared_len) {
+                break;
+            }
+            index = next_index;
         }
     }
-    return;
+    if (shared_room == 0) {
+        return;
+    }
+    rattle_dealloc(shared);
 }
 
 // Puts a new map into the handle and returns `OK`.
@@ -531,7 +532,6 @@ static ALIGNED uint32_t make_keep(char *handle, char *a1) {
     char *r2_2, *r2_3, *r2_6, *r2_9, *map, *r9;
     uint64_t r2_4, r2_5, r2_7, r2_8, r2_10, r2_11, map_address, r0_06, r12;
     struct word_word block;
-    uint32_t common_ret_op;
     uint64_t r2_room[3];
     char *r2 = (char *)r2_room;
     r2_2 = load_address(a1 + 8);
@@ -544,58 +544,54 @@ static ALIGNED uint32_t make_keep(char *handle, char *a1) {
     r2_9 = load_address(a1 + 64);
     r2_10 = load64(a1 + 72);
     r2_11 = load64(a1 + 80);
-    if (load8(a1) == 0) {
-        memcpy(r2, a1 + 88, 24);
-        block = rattle_alloc(INT_MAP_SIZE, 8);
-        if ((block.first & 1) != 0) {
-            map = (char *)(uintptr_t)block.second;
-            store_address(map + INT_MAP_MASK, r2_2);
-            store_address(map + INT_MAP_WORDS, r2_3);
-            store64(map + INT_MAP_WORDS_LEN, r2_4);
-            store64(map + INT_MAP_WORDS_ROOM, r2_5);
-            store_address(map + INT_MAP_LONE, r2_6);
-            store64(map + INT_MAP_LONE_LEN, r2_7);
-            store64(map + INT_MAP_LONE_ROOM, r2_8);
-            store_address(map + INT_MAP_SHARED, r2_9);
-            store64(map + INT_MAP_SHARED_LEN, r2_10);
-            store64(map + INT_MAP_SHARED_ROOM, r2_11);
-            memcpy(map + INT_MAP_LEN, r2, 24);
-            map_address = load64(handle);
-            store64(handle, block.second);
-            mem_drop((uint8_t)(map_address != 0), (char *)(uintptr_t)map_address);
-            common_ret_op = 0;
-        } else {
-            if (r2_5 != 0) {
-                rattle_dealloc(r2_3);
-            }
-            if (r2_8 != 0) {
-                rattle_dealloc(r2_6);
-            }
-            if (r2_10 != 0) {
-                r0_06 = 0;
-                for (;;) {
-                    r9 = r2_9 + (r0_06 * 48);
-                    if (load64(r9 + 40) != 0) {
-                        rattle_dealloc(load_address(r9 + 24));
-                    }
-                    r12 = r0_06 + 1;
-                    if (r12 == r2_10) {
-                        break;
-                    }
-                    r0_06 = r12;
-                }
-            }
-            if (r2_11 == 0) {
-                common_ret_op = 4294967295u;
-            } else {
-                rattle_dealloc(r2_9);
-                common_ret_op = 4294967295u;
-            }
-        }
-    } else {
-        common_ret_op = (load8(a1 + 1) == 0) ? 4294967295u : 4294967294u;
+    if (load8(a1) != 0) {
+        return (load8(a1 + 1) == 0) ? 4294967295u : 4294967294u;
     }
-    return common_ret_op;
+    memcpy(r2, a1 + 88, 24);
+    block = rattle_alloc(INT_MAP_SIZE, 8);
+    if ((block.first & 1) != 0) {
+        map = (char *)(uintptr_t)block.second;
+        store_address(map + INT_MAP_MASK, r2_2);
+        store_address(map + INT_MAP_WORDS, r2_3);
+        store64(map + INT_MAP_WORDS_LEN, r2_4);
+        store64(map + INT_MAP_WORDS_ROOM, r2_5);
+        store_address(map + INT_MAP_LONE, r2_6);
+        store64(map + INT_MAP_LONE_LEN, r2_7);
+        store64(map + INT_MAP_LONE_ROOM, r2_8);
+        store_address(map + INT_MAP_SHARED, r2_9);
+        store64(map + INT_MAP_SHARED_LEN, r2_10);
+        store64(map + INT_MAP_SHARED_ROOM, r2_11);
+        memcpy(map + INT_MAP_LEN, r2, 24);
+        map_address = load64(handle);
+        store64(handle, block.second);
+        mem_drop((uint8_t)(map_address != 0), (char *)(uintptr_t)map_address);
+        return 0;
+    }
+    if (r2_5 != 0) {
+        rattle_dealloc(r2_3);
+    }
+    if (r2_8 != 0) {
+        rattle_dealloc(r2_6);
+    }
+    if (r2_10 != 0) {
+        r0_06 = 0;
+        for (;;) {
+            r9 = r2_9 + (r0_06 * 48);
+            if (load64(r9 + 40) != 0) {
+                rattle_dealloc(load_address(r9 + 24));
+            }
+            r12 = r0_06 + 1;
+            if (r12 == r2_10) {
+                break;
+            }
+            r0_06 = r12;
+        }
+    }
+    if (r2_11 == 0) {
+        return 4294967295u;
+    }
+    rattle_dealloc(r2_9);
+    return 4294967295u;
 }
 
 // An empty map of `slots` slots.
@@ -697,7 +693,6 @@ static ALIGNED void intmap_with_slots(char *result, uint64_t slots) {
     store64(result + 88, 0);
     store64(result + 96, r4_4);
     store64(result + 104, r4_5);
-    return;
 }
 
 // Allocates room for `capacity` slots, the largest block by far, and then the bits of all of them.
@@ -732,7 +727,7 @@ static ALIGNED void grow_reserve_slots(char *result, char *slots, uint64_t capac
     arm_2:;
         store8(result, 1);
         memset(result + 8, 0, 24);
-        goto common_ret;
+        return;
     }
 arm_1:;
     r4_0 = (capacity >> 6) + ((uint64_t)((capacity & 63) != 0));
@@ -760,7 +755,7 @@ arm_1:;
             }
             store8(result, 1);
             memset(result + 8, 0, 24);
-            goto common_ret;
+            return;
         }
         r8 = (char *)(uintptr_t)block_3.second;
         if (r4_0 == 1) {
@@ -777,16 +772,14 @@ arm_1:;
     store_address(result + 8, r9);
     store64(result + 16, r9_2);
     store64(result + 24, r4_0);
-common_ret:;
-    return;
 }
 
 // Makes a new map, for which there may be no memory.
 // intmap_c::handle::make_first, in crates/intmap_c/src/handle.rt
 static ALIGNED NOINLINE struct byte_address handle_make_first(void) {
-    char *r3_2, *r3_3, *r3_6, *r3_9, *x2, *r4_2, *r9;
+    char *r3_2, *r3_3, *r3_6, *r3_9, *x2, *r9;
     uint64_t r3_4, r3_5, r3_7, r3_8, r3_10, r3_11, r0_06, r12;
-    uint8_t x0, r4;
+    uint8_t x0;
     struct word_word block;
     uint64_t r0_room[14];
     char *r0 = (char *)r0_room;
@@ -806,58 +799,50 @@ static ALIGNED NOINLINE struct byte_address handle_make_first(void) {
     r3_11 = load64(r0 + 80);
     x0 = load8(r0);
     memcpy(r3, r0 + 88, 24);
-    if (x0 == 0) {
-        block = rattle_alloc(104, 8);
-        if ((block.first & 1) != 0) {
-            x2 = (char *)(uintptr_t)block.second;
-            store_address(x2, r3_2);
-            store_address(x2 + 8, r3_3);
-            store64(x2 + 16, r3_4);
-            store64(x2 + 24, r3_5);
-            store_address(x2 + 32, r3_6);
-            store64(x2 + 40, r3_7);
-            store64(x2 + 48, r3_8);
-            store_address(x2 + 56, r3_9);
-            store64(x2 + 64, r3_10);
-            store64(x2 + 72, r3_11);
-            memcpy(x2 + 80, r3, 24);
-            r4 = 1;
-            r4_2 = x2;
-        } else {
-            if (r3_5 != 0) {
-                rattle_dealloc(r3_3);
-            }
-            if (r3_8 != 0) {
-                rattle_dealloc(r3_6);
-            }
-            if (r3_10 != 0) {
-                r0_06 = 0;
-                for (;;) {
-                    r9 = r3_9 + (r0_06 * 48);
-                    if (load64(r9 + 40) != 0) {
-                        rattle_dealloc(load_address(r9 + 24));
-                    }
-                    r12 = r0_06 + 1;
-                    if (r12 == r3_10) {
-                        break;
-                    }
-                    r0_06 = r12;
-                }
-            }
-            if (r3_11 == 0) {
-                r4 = 0;
-                r4_2 = NULL;
-            } else {
-                rattle_dealloc(r3_9);
-                r4 = 0;
-                r4_2 = NULL;
-            }
-        }
-    } else {
-        r4 = 0;
-        r4_2 = NULL;
+    if (x0 != 0) {
+        return made_byte_address(0, NULL);
     }
-    return made_byte_address(r4, r4_2);
+    block = rattle_alloc(104, 8);
+    if ((block.first & 1) != 0) {
+        x2 = (char *)(uintptr_t)block.second;
+        store_address(x2, r3_2);
+        store_address(x2 + 8, r3_3);
+        store64(x2 + 16, r3_4);
+        store64(x2 + 24, r3_5);
+        store_address(x2 + 32, r3_6);
+        store64(x2 + 40, r3_7);
+        store64(x2 + 48, r3_8);
+        store_address(x2 + 56, r3_9);
+        store64(x2 + 64, r3_10);
+        store64(x2 + 72, r3_11);
+        memcpy(x2 + 80, r3, 24);
+        return made_byte_address(1, x2);
+    }
+    if (r3_5 != 0) {
+        rattle_dealloc(r3_3);
+    }
+    if (r3_8 != 0) {
+        rattle_dealloc(r3_6);
+    }
+    if (r3_10 != 0) {
+        r0_06 = 0;
+        for (;;) {
+            r9 = r3_9 + (r0_06 * 48);
+            if (load64(r9 + 40) != 0) {
+                rattle_dealloc(load_address(r9 + 24));
+            }
+            r12 = r0_06 + 1;
+            if (r12 == r3_10) {
+                break;
+            }
+            r0_06 = r12;
+        }
+    }
+    if (r3_11 == 0) {
+        return made_byte_address(0, NULL);
+    }
+    rattle_dealloc(r3_9);
+    return made_byte_address(0, NULL);
 }
 
 // Adds the pair of an absent key, if the new length exceeds the load factor, and returns where it is.
@@ -895,7 +880,7 @@ static ALIGNED NOINLINE void intmap_add_growing(char *result, char *map, uint64_
                 store8(result + 16, 1);
                 store_bytes(result + 17, 0, 7);
                 store64(result + 24, 0);
-                goto common_ret;
+                return;
             }
             r31 = r3_09 << 1;
             r18 = u128_mul(r13_2, u128_of(r31));
@@ -1342,8 +1327,6 @@ join_7_3:;
     store8(result + 16, r17_3);
     store_bytes(result + 17, r17_2, 7);
     store64(result + 24, rest_len_2);
-common_ret:;
-    return;
 }
 
 // Moves all pairs, in the order of the walk, to their slots among `capacity` slots.
@@ -1363,7 +1346,7 @@ static ALIGNED uint8_t slots_grow(char *map, uint64_t capacity, bool may_part) {
         r3_12, r27, index_7, r40, key_5, value_5, index_8, r33_2, bits_4, r60_2, r8_11, r8_12, r8_14, r27_2, index_9,
         r40_2, rest_len_3, r76, rest_len_4, r2_4, place_4, next_place_2, r89, r6_07, r38, r73, spec_select,
         shared_len_9, shared_room_6, index_10, next_index_5, shared_len_10, r12_3;
-    uint8_t r1, has_pair, r0, has_first, r64, r59;
+    uint8_t r1, has_pair, has_first, r64, r59;
     bool r12, r21, r317, r5_08, r41, r5_1;
     struct word_word block, block_2, block_3, block_4;
     char *dangling = (char *)no_bytes;
@@ -1375,582 +1358,574 @@ static ALIGNED uint8_t slots_grow(char *map, uint64_t capacity, bool may_part) {
     char *r22 = (char *)r22_room;
     memset(r4, 0, 24);
     memset(r22, 0, 32);
-    if (load64(map + INT_MAP_LONE_LEN) == 0) {
-        shared = load_address(map + INT_MAP_SHARED);
-        shared_len = load64(map + INT_MAP_SHARED_LEN);
-        if ((capacity > 15) & may_part) {
-            r2 = capacity - 1;
-            if (shared_len != 0) {
-                index = 0;
-                for (;;) {
-                    slot = shared + (index * SLOT_SIZE);
-                    rest = load_address(slot + SLOT_REST);
-                    rest_len = load64(slot + SLOT_REST_LEN);
-                    if (rest_len != 0) {
-                        if (!((rest_len == 1) & (load8(slot + SLOT_HAS_FIRST) == 1))) {
-                            goto join_7;
-                        }
-                        if ((((load64(rest + PAIR_KEY) * MULTIPLIER) ^ (load64(slot + SLOT_KEY) * MULTIPLIER)) & r2) == 0) {
-                            goto join_7;
-                        }
+    if (load64(map + INT_MAP_LONE_LEN) != 0) {
+        r59 = grow_lone_grow_lone(map + INT_MAP_LONE, map, capacity);
+        return r59;
+    }
+    shared = load_address(map + INT_MAP_SHARED);
+    shared_len = load64(map + INT_MAP_SHARED_LEN);
+    if ((capacity > 15) & may_part) {
+        r2 = capacity - 1;
+        if (shared_len != 0) {
+            index = 0;
+            for (;;) {
+                slot = shared + (index * SLOT_SIZE);
+                rest = load_address(slot + SLOT_REST);
+                rest_len = load64(slot + SLOT_REST_LEN);
+                if (rest_len != 0) {
+                    if (!((rest_len == 1) & (load8(slot + SLOT_HAS_FIRST) == 1))) {
+                        goto join_7;
                     }
-                    next_index = index + 1;
-                    if (next_index == shared_len) {
-                        break;
+                    if ((((load64(rest + PAIR_KEY) * MULTIPLIER) ^ (load64(slot + SLOT_KEY) * MULTIPLIER)) & r2) == 0) {
+                        goto join_7;
                     }
-                    index = next_index;
                 }
+                next_index = index + 1;
+                if (next_index == shared_len) {
+                    break;
+                }
+                index = next_index;
             }
-            memset(r5, 0, 32);
-            grow_reserve_slots_2(r5, map + INT_MAP_LONE, capacity);
-            r1 = load8(r5);
-            if (r1 == 0) {
-                r6 = load_address(r5 + 8);
-                lone_len = load64(map + INT_MAP_LONE_LEN);
-                lone = load_address(map + INT_MAP_LONE);
-                lone_room = load64(map + INT_MAP_LONE_ROOM);
-                store_address(map + INT_MAP_LONE, dangling);
-                memset(map + INT_MAP_LONE_LEN, 0, 16);
-                if (capacity == lone_len) {
-                    store_address(map + INT_MAP_LONE, lone);
-                    store64(map + INT_MAP_LONE_LEN, capacity);
-                    store64(map + INT_MAP_LONE_ROOM, lone_room);
+        }
+        memset(r5, 0, 32);
+        grow_reserve_slots_2(r5, map + INT_MAP_LONE, capacity);
+        r1 = load8(r5);
+        if (r1 == 0) {
+            r6 = load_address(r5 + 8);
+            lone_len = load64(map + INT_MAP_LONE_LEN);
+            lone = load_address(map + INT_MAP_LONE);
+            lone_room = load64(map + INT_MAP_LONE_ROOM);
+            store_address(map + INT_MAP_LONE, dangling);
+            memset(map + INT_MAP_LONE_LEN, 0, 16);
+            if (capacity == lone_len) {
+                store_address(map + INT_MAP_LONE, lone);
+                store64(map + INT_MAP_LONE_LEN, capacity);
+                store64(map + INT_MAP_LONE_ROOM, lone_room);
+                lone_2 = lone;
+            } else {
+                memset(lone + (lone_len * LONE_SIZE), 0, (capacity - lone_len) * 24);
+                lone_3 = load_address(map + INT_MAP_LONE);
+                lone_room_2 = load64(map + INT_MAP_LONE_ROOM);
+                store_address(map + INT_MAP_LONE, lone);
+                store64(map + INT_MAP_LONE_LEN, capacity);
+                store64(map + INT_MAP_LONE_ROOM, lone_room);
+                if (lone_room_2 == 0) {
                     lone_2 = lone;
                 } else {
-                    memset(lone + (lone_len * LONE_SIZE), 0, (capacity - lone_len) * 24);
-                    lone_3 = load_address(map + INT_MAP_LONE);
-                    lone_room_2 = load64(map + INT_MAP_LONE_ROOM);
-                    store_address(map + INT_MAP_LONE, lone);
-                    store64(map + INT_MAP_LONE_LEN, capacity);
-                    store64(map + INT_MAP_LONE_ROOM, lone_room);
-                    if (lone_room_2 == 0) {
-                        lone_2 = lone;
-                    } else {
-                        rattle_dealloc(lone_3);
-                        lone_2 = load_address(map + INT_MAP_LONE);
-                    }
+                    rattle_dealloc(lone_3);
+                    lone_2 = load_address(map + INT_MAP_LONE);
                 }
-                shared_2 = load_address(map + INT_MAP_SHARED);
-                shared_len_2 = load64(map + INT_MAP_SHARED_LEN);
-                if (shared_len_2 != 0) {
-                    r2_2 = load64(map + INT_MAP_LONE_LEN) - 1;
-                    index_2 = 0;
+            }
+            shared_2 = load_address(map + INT_MAP_SHARED);
+            shared_len_2 = load64(map + INT_MAP_SHARED_LEN);
+            if (shared_len_2 != 0) {
+                r2_2 = load64(map + INT_MAP_LONE_LEN) - 1;
+                index_2 = 0;
+                for (;;) {
+                    slot_2 = shared_2 + (index_2 * SLOT_SIZE);
                     for (;;) {
-                        slot_2 = shared_2 + (index_2 * SLOT_SIZE);
-                        for (;;) {
-                            if ((load8(slot_2 + SLOT_HAS_FIRST) & 1) == 0) {
-                                next_index_2 = index_2 + 1;
-                                if (next_index_2 != shared_len_2) {
-                                    index_2 = next_index_2;
-                                    break;
+                        if ((load8(slot_2 + SLOT_HAS_FIRST) & 1) == 0) {
+                            next_index_2 = index_2 + 1;
+                            if (next_index_2 != shared_len_2) {
+                                index_2 = next_index_2;
+                                break;
+                            }
+                            shared_len_3 = load64(map + INT_MAP_SHARED_LEN);
+                            shared_4 = load_address(map + INT_MAP_SHARED);
+                            shared_room_3 = load64(map + INT_MAP_SHARED_ROOM);
+                            store_address(map + INT_MAP_SHARED, dangling);
+                            memset(map + INT_MAP_SHARED_LEN, 0, 16);
+                            if (shared_len_3 == 0) {
+                                shared_room_2 = shared_room_3;
+                                shared_3 = shared_4;
+                                goto after_Vec_clear_3;
+                            }
+                            index_4 = 0;
+                            for (;;) {
+                                slot_4 = shared_4 + (index_4 * SLOT_SIZE);
+                                if (load64(slot_4 + SLOT_REST_ROOM) != 0) {
+                                    rattle_dealloc(load_address(slot_4 + SLOT_REST));
                                 }
-                                shared_len_3 = load64(map + INT_MAP_SHARED_LEN);
-                                shared_4 = load_address(map + INT_MAP_SHARED);
-                                shared_room_3 = load64(map + INT_MAP_SHARED_ROOM);
-                                store_address(map + INT_MAP_SHARED, dangling);
-                                memset(map + INT_MAP_SHARED_LEN, 0, 16);
-                                if (shared_len_3 == 0) {
+                                next_index_3 = index_4 + 1;
+                                if (next_index_3 == shared_len_3) {
                                     shared_room_2 = shared_room_3;
                                     shared_3 = shared_4;
                                     goto after_Vec_clear_3;
                                 }
-                                index_4 = 0;
+                                index_4 = next_index_3;
+                            }
+                        }
+                        rest_len_2 = load64(slot_2 + SLOT_REST_LEN);
+                        if (rest_len_2 == 0) {
+                            key = load64(slot_2 + SLOT_KEY);
+                            value = load64(slot_2 + SLOT_VALUE);
+                            memset(slot_2, 0, 24);
+                            key_2 = key;
+                            value_2 = value;
+                        } else {
+                            rest_2 = load_address(slot_2 + SLOT_REST);
+                            rest_room = load64(slot_2 + SLOT_REST_ROOM);
+                            memset(slot_2 + SLOT_REST_LEN, 0, 16);
+                            key_3 = load64(rest_2 + PAIR_KEY);
+                            value_3 = load64(rest_2 + PAIR_VALUE);
+                            r28 = rest_len_2 - 1;
+                            if (r28 > 128) {
+                                place = 0;
                                 for (;;) {
-                                    slot_4 = shared_4 + (index_4 * SLOT_SIZE);
-                                    if (load64(slot_4 + SLOT_REST_ROOM) != 0) {
-                                        rattle_dealloc(load_address(slot_4 + SLOT_REST));
-                                    }
-                                    next_index_3 = index_4 + 1;
-                                    if (next_index_3 == shared_len_3) {
-                                        shared_room_2 = shared_room_3;
-                                        shared_3 = shared_4;
-                                        goto after_Vec_clear_3;
-                                    }
-                                    index_4 = next_index_3;
-                                }
-                            }
-                            rest_len_2 = load64(slot_2 + SLOT_REST_LEN);
-                            if (rest_len_2 == 0) {
-                                key = load64(slot_2 + SLOT_KEY);
-                                value = load64(slot_2 + SLOT_VALUE);
-                                memset(slot_2, 0, 24);
-                                key_2 = key;
-                                value_2 = value;
-                            } else {
-                                rest_2 = load_address(slot_2 + SLOT_REST);
-                                rest_room = load64(slot_2 + SLOT_REST_ROOM);
-                                memset(slot_2 + SLOT_REST_LEN, 0, 16);
-                                key_3 = load64(rest_2 + PAIR_KEY);
-                                value_3 = load64(rest_2 + PAIR_VALUE);
-                                r28 = rest_len_2 - 1;
-                                if (r28 > 128) {
-                                    place = 0;
+                                    pair = rest_2 + (place << 4);
+                                    place_2 = 0;
                                     for (;;) {
-                                        pair = rest_2 + (place << 4);
-                                        place_2 = 0;
-                                        for (;;) {
-                                            r13 = place_2 << 4;
-                                            memcpy(pair + r13, (pair + 16) + r13, 16);
-                                            next_place = place_2 + 1;
-                                            if (next_place == 128) {
-                                                r36 = place + 128;
-                                                r20 = r28 - r36;
-                                                if (r20 > 128) {
-                                                    place = r36;
-                                                    break;
-                                                }
-                                                place_3 = r36;
-                                                r20_2 = r20;
-                                                goto after_Slots_move_back;
+                                        r13 = place_2 << 4;
+                                        memcpy(pair + r13, (pair + 16) + r13, 16);
+                                        next_place = place_2 + 1;
+                                        if (next_place == 128) {
+                                            r36 = place + 128;
+                                            r20 = r28 - r36;
+                                            if (r20 > 128) {
+                                                place = r36;
+                                                break;
                                             }
-                                            place_2 = next_place;
+                                            place_3 = r36;
+                                            r20_2 = r20;
+                                            goto after_Slots_move_back;
                                         }
+                                        place_2 = next_place;
                                     }
                                 }
-                                place_3 = 0;
-                                r20_2 = r28;
-                            after_Slots_move_back:;
-                                if (r28 != place_3) {
-                                    pair_2 = rest_2 + (place_3 << 4);
-                                    memmove(pair_2, pair_2 + 16, r20_2 << 4);
-                                }
-                                store_address(slot_2 + SLOT_REST, rest_2);
-                                store64(slot_2 + SLOT_REST_LEN, r28);
-                                store64(slot_2 + SLOT_REST_ROOM, rest_room);
-                                if (load8(slot_2 + SLOT_HAS_FIRST) != 1) {
-                                    abort();
-                                }
-                                key_4 = load64(slot_2 + SLOT_KEY);
-                                value_4 = load64(slot_2 + SLOT_VALUE);
-                                store64(slot_2 + SLOT_KEY, key_3);
-                                store64(slot_2 + SLOT_VALUE, value_3);
-                                key_2 = key_4;
-                                value_2 = value_4;
                             }
-                            index_3 = (key_2 * MULTIPLIER) & r2_2;
-                            r11 = r6 + ((index_3 >> 3) & UINT64_C(2305843009213693944));
-                            store64(r11, ((uint64_t)1 << (index_3 & 63)) | load64(r11));
-                            slot_3 = lone_2 + (index_3 * LONE_SIZE);
-                            has_pair = load8(slot_3 + LONE_HAS_PAIR);
-                            store64(slot_3 + LONE_HAS_PAIR, 1);
-                            store64(slot_3 + LONE_KEY, key_2);
-                            store64(slot_3 + LONE_VALUE, value_2);
-                            if (has_pair != 0) {
+                            place_3 = 0;
+                            r20_2 = r28;
+                        after_Slots_move_back:;
+                            if (r28 != place_3) {
+                                pair_2 = rest_2 + (place_3 << 4);
+                                memmove(pair_2, pair_2 + 16, r20_2 << 4);
+                            }
+                            store_address(slot_2 + SLOT_REST, rest_2);
+                            store64(slot_2 + SLOT_REST_LEN, r28);
+                            store64(slot_2 + SLOT_REST_ROOM, rest_room);
+                            if (load8(slot_2 + SLOT_HAS_FIRST) != 1) {
                                 abort();
                             }
+                            key_4 = load64(slot_2 + SLOT_KEY);
+                            value_4 = load64(slot_2 + SLOT_VALUE);
+                            store64(slot_2 + SLOT_KEY, key_3);
+                            store64(slot_2 + SLOT_VALUE, value_3);
+                            key_2 = key_4;
+                            value_2 = value_4;
+                        }
+                        index_3 = (key_2 * MULTIPLIER) & r2_2;
+                        r11 = r6 + ((index_3 >> 3) & UINT64_C(2305843009213693944));
+                        store64(r11, ((uint64_t)1 << (index_3 & 63)) | load64(r11));
+                        slot_3 = lone_2 + (index_3 * LONE_SIZE);
+                        has_pair = load8(slot_3 + LONE_HAS_PAIR);
+                        store64(slot_3 + LONE_HAS_PAIR, 1);
+                        store64(slot_3 + LONE_KEY, key_2);
+                        store64(slot_3 + LONE_VALUE, value_2);
+                        if (has_pair != 0) {
+                            abort();
                         }
                     }
                 }
-                shared_room = load64(map + INT_MAP_SHARED_ROOM);
-                store_address(map + INT_MAP_SHARED, dangling);
-                memset(map + INT_MAP_SHARED_LEN, 0, 16);
-                shared_room_2 = shared_room;
-                shared_3 = shared_2;
-            after_Vec_clear_3:;
-                if (shared_room_2 != 0) {
-                    rattle_dealloc(shared_3);
-                }
-                words = load_address(map + INT_MAP_WORDS);
-                words_room = load64(map + INT_MAP_WORDS_ROOM);
-                store64(map + INT_MAP_MASK, r2);
-                store_address(map + INT_MAP_WORDS, r6);
-                memcpy(map + INT_MAP_WORDS_LEN, r5 + 16, 16);
-                if (words_room != 0) {
-                    rattle_dealloc(words);
-                }
             }
-            r0 = r1;
-            goto return_4;
-        }
-    join_7:;
-        grow_reserve_slots(r22, map + INT_MAP_SHARED, capacity);
-        if (load8(r22) == 0) {
-            r1_2 = load_address(r22 + 8);
-            r1_3 = load64(r22 + 24);
-            shared_len_4 = load64(map + INT_MAP_SHARED_LEN);
-            if (shared_len_4 == 0) {
-                abort();
-            }
-            r32 = capacity / shared_len_4;
-            r12 = shared_len_4 > capacity;
-            if (!r12) {
-                if (r32 < UINT64_C(1152921504606846976)) {
-                    r19 = r32 << 3;
-                    block = rattle_alloc(r19, 8);
-                    if ((block.first & 1) != 0) {
-                        r8_3 = (char *)(uintptr_t)block.second;
-                        if (r32 == 1) {
-                            r3 = 0;
-                        } else {
-                            memset(r8_3, 0, r19 - 8);
-                            r3 = r32 - 1;
-                        }
-                        store64(r8_3 + (r3 << 3), 0);
-                        shared_len_5 = load64(map + INT_MAP_SHARED_LEN);
-                        r8 = r8_3;
-                        r8_2 = r3 + 1;
-                        goto arm_3;
-                    }
-                    shared_len_6 = load64(map + INT_MAP_SHARED_LEN);
-                } else {
-                    shared_len_6 = shared_len_4;
-                }
-                if (load64(map + INT_MAP_SHARED_ROOM) <= shared_len_6) {
-                    goto arm_13;
-                }
-                if (shared_len_6 == 0) {
-                    rattle_dealloc(load_address(map + INT_MAP_SHARED));
-                    store_address(map + INT_MAP_SHARED, dangling);
-                    memset(map + INT_MAP_SHARED_LEN, 0, 16);
-                    goto arm_13;
-                }
-                r12_2 = shared_len_6 * 48;
-                block_2 = rattle_realloc(load_address(map + INT_MAP_SHARED), r12_2, r12_2, 8);
-                if ((block_2.first & 1) == 0) {
-                    goto arm_13;
-                }
-                store_address(map + INT_MAP_SHARED, (char *)(uintptr_t)block_2.second);
-                store64(map + INT_MAP_SHARED_ROOM, shared_len_6);
-                goto arm_13;
-            }
-            shared_len_5 = shared_len_4;
-            r8 = dangling;
-            r8_2 = 0;
-        arm_3:;
-            r22_2 = capacity - shared_len_5;
-            shared_5 = load_address(map + INT_MAP_SHARED);
-            shared_room_4 = load64(map + INT_MAP_SHARED_ROOM);
+            shared_room = load64(map + INT_MAP_SHARED_ROOM);
             store_address(map + INT_MAP_SHARED, dangling);
             memset(map + INT_MAP_SHARED_LEN, 0, 16);
-            if (capacity == shared_len_5) {
+            shared_room_2 = shared_room;
+            shared_3 = shared_2;
+        after_Vec_clear_3:;
+            if (shared_room_2 != 0) {
+                rattle_dealloc(shared_3);
+            }
+            words = load_address(map + INT_MAP_WORDS);
+            words_room = load64(map + INT_MAP_WORDS_ROOM);
+            store64(map + INT_MAP_MASK, r2);
+            store_address(map + INT_MAP_WORDS, r6);
+            memcpy(map + INT_MAP_WORDS_LEN, r5 + 16, 16);
+            if (words_room != 0) {
+                rattle_dealloc(words);
+            }
+        }
+        return r1;
+    }
+join_7:;
+    grow_reserve_slots(r22, map + INT_MAP_SHARED, capacity);
+    if (load8(r22) != 0) {
+        return 1;
+    }
+    r1_2 = load_address(r22 + 8);
+    r1_3 = load64(r22 + 24);
+    shared_len_4 = load64(map + INT_MAP_SHARED_LEN);
+    if (shared_len_4 == 0) {
+        abort();
+    }
+    r32 = capacity / shared_len_4;
+    r12 = shared_len_4 > capacity;
+    if (!r12) {
+        if (r32 < UINT64_C(1152921504606846976)) {
+            r19 = r32 << 3;
+            block = rattle_alloc(r19, 8);
+            if ((block.first & 1) != 0) {
+                r8_3 = (char *)(uintptr_t)block.second;
+                if (r32 == 1) {
+                    r3 = 0;
+                } else {
+                    memset(r8_3, 0, r19 - 8);
+                    r3 = r32 - 1;
+                }
+                store64(r8_3 + (r3 << 3), 0);
+                shared_len_5 = load64(map + INT_MAP_SHARED_LEN);
+                r8 = r8_3;
+                r8_2 = r3 + 1;
+                goto arm_3;
+            }
+            shared_len_6 = load64(map + INT_MAP_SHARED_LEN);
+        } else {
+            shared_len_6 = shared_len_4;
+        }
+        if (load64(map + INT_MAP_SHARED_ROOM) <= shared_len_6) {
+            goto arm_13;
+        }
+        if (shared_len_6 == 0) {
+            rattle_dealloc(load_address(map + INT_MAP_SHARED));
+            store_address(map + INT_MAP_SHARED, dangling);
+            memset(map + INT_MAP_SHARED_LEN, 0, 16);
+            goto arm_13;
+        }
+        r12_2 = shared_len_6 * 48;
+        block_2 = rattle_realloc(load_address(map + INT_MAP_SHARED), r12_2, r12_2, 8);
+        if ((block_2.first & 1) == 0) {
+            goto arm_13;
+        }
+        store_address(map + INT_MAP_SHARED, (char *)(uintptr_t)block_2.second);
+        store64(map + INT_MAP_SHARED_ROOM, shared_len_6);
+        goto arm_13;
+    }
+    shared_len_5 = shared_len_4;
+    r8 = dangling;
+    r8_2 = 0;
+arm_3:;
+    r22_2 = capacity - shared_len_5;
+    shared_5 = load_address(map + INT_MAP_SHARED);
+    shared_room_4 = load64(map + INT_MAP_SHARED_ROOM);
+    store_address(map + INT_MAP_SHARED, dangling);
+    memset(map + INT_MAP_SHARED_LEN, 0, 16);
+    if (capacity == shared_len_5) {
+        store_address(map + INT_MAP_SHARED, shared_5);
+        store64(map + INT_MAP_SHARED_LEN, capacity);
+        store64(map + INT_MAP_SHARED_ROOM, shared_room_4);
+    } else {
+        r10_014 = 0;
+        index_5 = shared_len_5;
+        for (;;) {
+            slot_5 = shared_5 + (index_5 * SLOT_SIZE);
+            memset(slot_5, 0, 24);
+            store_address(slot_5 + SLOT_REST, dangling);
+            memset(slot_5 + SLOT_REST_LEN, 0, 16);
+            r32_2 = r10_014 + 1;
+            if (r32_2 == r22_2) {
+                shared_6 = load_address(map + INT_MAP_SHARED);
+                shared_len_7 = load64(map + INT_MAP_SHARED_LEN);
+                shared_room_5 = load64(map + INT_MAP_SHARED_ROOM);
                 store_address(map + INT_MAP_SHARED, shared_5);
                 store64(map + INT_MAP_SHARED_LEN, capacity);
                 store64(map + INT_MAP_SHARED_ROOM, shared_room_4);
-            } else {
-                r10_014 = 0;
-                index_5 = shared_len_5;
-                for (;;) {
-                    slot_5 = shared_5 + (index_5 * SLOT_SIZE);
-                    memset(slot_5, 0, 24);
-                    store_address(slot_5 + SLOT_REST, dangling);
-                    memset(slot_5 + SLOT_REST_LEN, 0, 16);
-                    r32_2 = r10_014 + 1;
-                    if (r32_2 == r22_2) {
-                        shared_6 = load_address(map + INT_MAP_SHARED);
-                        shared_len_7 = load64(map + INT_MAP_SHARED_LEN);
-                        shared_room_5 = load64(map + INT_MAP_SHARED_ROOM);
-                        store_address(map + INT_MAP_SHARED, shared_5);
-                        store64(map + INT_MAP_SHARED_LEN, capacity);
-                        store64(map + INT_MAP_SHARED_ROOM, shared_room_4);
-                        if (shared_len_7 != 0) {
-                            index_6 = 0;
+                if (shared_len_7 != 0) {
+                    index_6 = 0;
+                    for (;;) {
+                        slot_6 = shared_6 + (index_6 * SLOT_SIZE);
+                        if (load64(slot_6 + SLOT_REST_ROOM) != 0) {
+                            rattle_dealloc(load_address(slot_6 + SLOT_REST));
+                        }
+                        next_index_4 = index_6 + 1;
+                        if (next_index_4 == shared_len_7) {
+                            break;
+                        }
+                        index_6 = next_index_4;
+                    }
+                }
+                if (shared_room_5 == 0) {
+                    break;
+                }
+                rattle_dealloc(shared_6);
+                break;
+            }
+            r10_014 = r32_2;
+            index_5 = index_5 + 1;
+        }
+    }
+    shared_7 = load_address(map + INT_MAP_SHARED);
+    words_len = load64(map + INT_MAP_WORDS_LEN);
+    if (words_len == 0) {
+        bits = 0;
+        r6_2 = (char *)no_bytes;
+        r6_3 = 0;
+    } else {
+        words_2 = load_address(map + INT_MAP_WORDS);
+        bits = load64(words_2);
+        r6_2 = words_2 + 8;
+        r6_3 = words_len - 1;
+    }
+    r21 = r8_2 == 0;
+    r28_2 = r8_2 - 1;
+    r317 = r28_2 == 0;
+    x17 = (r8_2 << 3) - 8;
+    r56 = r8 + (r28_2 << 3);
+    r8_4 = bits;
+    r8_5 = 0;
+    r8_6 = r6_2;
+    r8_7 = r6_3;
+    r6_0 = 0;
+    for (;;) {
+        if (r8_4 == 0) {
+            r8_8 = r8_7;
+            r8_9 = r8_6;
+            r8_10 = r8_5;
+            for (;;) {
+                if (r8_8 == 0) {
+                    if (r6_0 == 0) {
+                        r13_2 = dangling;
+                    } else {
+                        if (r6_0 >= UINT64_C(576460752303423488)) {
+                            goto arm_8_2;
+                        }
+                        block_3 = rattle_alloc(r6_0 << 4, 8);
+                        if ((block_3.first & 1) == 0) {
+                            goto arm_8_2;
+                        }
+                        r13_2 = (char *)(uintptr_t)block_3.second;
+                    }
+                    if (!r12) {
+                        rattle_dealloc(r8);
+                    }
+                    store_address(r4, r13_2);
+                    store64(r4 + 8, 0);
+                    store64(r4 + 16, r6_0);
+                    shared_8 = load_address(map + INT_MAP_SHARED);
+                    shared_len_8 = load64(map + INT_MAP_SHARED_LEN);
+                    words_len_2 = load64(map + INT_MAP_WORDS_LEN);
+                    if (words_len_2 == 0) {
+                        bits_2 = 0;
+                        r6_4 = (char *)no_bytes;
+                        r6_5 = 0;
+                    } else {
+                        words_3 = load_address(map + INT_MAP_WORDS);
+                        bits_2 = load64(words_3);
+                        r6_4 = words_3 + 8;
+                        r6_5 = words_len_2 - 1;
+                    }
+                    r2_3 = shared_len_8 - 1;
+                    r3_2 = bits_2;
+                    r3_3 = 0;
+                    r3_4 = r6_4;
+                    r3_5 = r6_5;
+                    for (;;) {
+                        if (r3_2 == 0) {
+                            r3_6 = r3_5;
+                            r3_7 = r3_4;
+                            r3_8 = r3_3;
                             for (;;) {
-                                slot_6 = shared_6 + (index_6 * SLOT_SIZE);
-                                if (load64(slot_6 + SLOT_REST_ROOM) != 0) {
-                                    rattle_dealloc(load_address(slot_6 + SLOT_REST));
+                                if (r3_6 == 0) {
+                                    words_4 = load_address(map + INT_MAP_WORDS);
+                                    words_room_2 = load64(map + INT_MAP_WORDS_ROOM);
+                                    store64(map + INT_MAP_MASK, capacity - 1);
+                                    memcpy(map + INT_MAP_WORDS, r22 + 8, 24);
+                                    if (words_room_2 != 0) {
+                                        rattle_dealloc(words_4);
+                                    }
+                                    if (load64(r4 + 16) == 0) {
+                                        return 0;
+                                    }
+                                    rattle_dealloc(load_address(r4));
+                                    return 0;
                                 }
-                                next_index_4 = index_6 + 1;
-                                if (next_index_4 == shared_len_7) {
+                                r33 = r3_6 - 1;
+                                bits_3 = load64(r3_7);
+                                r60 = r3_8 + 64;
+                                if (bits_3 != 0) {
+                                    r3_9 = bits_3;
+                                    r3_10 = r60;
+                                    r3_11 = r3_7 + 8;
+                                    r3_12 = r33;
                                     break;
                                 }
-                                index_6 = next_index_4;
+                                r3_6 = r33;
+                                r3_7 = r3_7 + 8;
+                                r3_8 = r60;
+                            }
+                        } else {
+                            r3_9 = r3_2;
+                            r3_10 = r3_3;
+                            r3_11 = r3_4;
+                            r3_12 = r3_5;
+                        }
+                        r27 = low_zeros(r3_9);
+                        index_7 = r3_10 + r27;
+                        r40 = (r3_9 - 1) & r3_9;
+                        slot_7 = shared_8 + (index_7 * SLOT_SIZE);
+                        if (load64(slot_7 + SLOT_REST_LEN) == 0) {
+                            key_5 = load_key(slot_7 + SLOT_KEY);
+                            value_5 = load64(slot_7 + SLOT_VALUE);
+                            has_first = load8(slot_7 + SLOT_HAS_FIRST);
+                            memset(slot_7, 0, 24);
+                            if (has_first == 1) {
+                                index_8 = (key_5 * MULTIPLIER) & r2_3;
+                                slot_8 = shared_8 + (index_8 * SLOT_SIZE);
+                                r11_2 = r1_2 + ((index_8 >> 3) & UINT64_C(2305843009213693944));
+                                store64(r11_2, load64(r11_2) | ((uint64_t)1 << (index_8 & 63)));
+                                store64(slot_8 + SLOT_HAS_FIRST, 1);
+                                store64(slot_8 + SLOT_KEY, key_5);
+                                store64(slot_8 + SLOT_VALUE, value_5);
+                                goto loop_2_backedge;
                             }
                         }
-                        if (shared_room_5 == 0) {
-                            break;
-                        }
-                        rattle_dealloc(shared_6);
-                        break;
-                    }
-                    r10_014 = r32_2;
-                    index_5 = index_5 + 1;
-                }
-            }
-            shared_7 = load_address(map + INT_MAP_SHARED);
-            words_len = load64(map + INT_MAP_WORDS_LEN);
-            if (words_len == 0) {
-                bits = 0;
-                r6_2 = (char *)no_bytes;
-                r6_3 = 0;
-            } else {
-                words_2 = load_address(map + INT_MAP_WORDS);
-                bits = load64(words_2);
-                r6_2 = words_2 + 8;
-                r6_3 = words_len - 1;
-            }
-            r21 = r8_2 == 0;
-            r28_2 = r8_2 - 1;
-            r317 = r28_2 == 0;
-            x17 = (r8_2 << 3) - 8;
-            r56 = r8 + (r28_2 << 3);
-            r8_4 = bits;
-            r8_5 = 0;
-            r8_6 = r6_2;
-            r8_7 = r6_3;
-            r6_0 = 0;
-            for (;;) {
-                if (r8_4 == 0) {
-                    r8_8 = r8_7;
-                    r8_9 = r8_6;
-                    r8_10 = r8_5;
-                    for (;;) {
-                        if (r8_8 == 0) {
-                            if (r6_0 == 0) {
-                                r13_2 = dangling;
-                            } else {
-                                if (r6_0 >= UINT64_C(576460752303423488)) {
-                                    goto arm_8_2;
-                                }
-                                block_3 = rattle_alloc(r6_0 << 4, 8);
-                                if ((block_3.first & 1) == 0) {
-                                    goto arm_8_2;
-                                }
-                                r13_2 = (char *)(uintptr_t)block_3.second;
-                            }
-                            if (!r12) {
-                                rattle_dealloc(r8);
-                            }
-                            store_address(r4, r13_2);
-                            store64(r4 + 8, 0);
-                            store64(r4 + 16, r6_0);
-                            shared_8 = load_address(map + INT_MAP_SHARED);
-                            shared_len_8 = load64(map + INT_MAP_SHARED_LEN);
-                            words_len_2 = load64(map + INT_MAP_WORDS_LEN);
-                            if (words_len_2 == 0) {
-                                bits_2 = 0;
-                                r6_4 = (char *)no_bytes;
-                                r6_5 = 0;
-                            } else {
-                                words_3 = load_address(map + INT_MAP_WORDS);
-                                bits_2 = load64(words_3);
-                                r6_4 = words_3 + 8;
-                                r6_5 = words_len_2 - 1;
-                            }
-                            r2_3 = shared_len_8 - 1;
-                            r3_2 = bits_2;
-                            r3_3 = 0;
-                            r3_4 = r6_4;
-                            r3_5 = r6_5;
-                            for (;;) {
-                                if (r3_2 == 0) {
-                                    r3_6 = r3_5;
-                                    r3_7 = r3_4;
-                                    r3_8 = r3_3;
-                                    for (;;) {
-                                        if (r3_6 == 0) {
-                                            words_4 = load_address(map + INT_MAP_WORDS);
-                                            words_room_2 = load64(map + INT_MAP_WORDS_ROOM);
-                                            store64(map + INT_MAP_MASK, capacity - 1);
-                                            memcpy(map + INT_MAP_WORDS, r22 + 8, 24);
-                                            if (words_room_2 != 0) {
-                                                rattle_dealloc(words_4);
-                                            }
-                                            if (load64(r4 + 16) == 0) {
-                                                r0 = 0;
-                                                goto return_4;
-                                            }
-                                            rattle_dealloc(load_address(r4));
-                                            r0 = 0;
-                                            goto return_4;
-                                        }
-                                        r33 = r3_6 - 1;
-                                        bits_3 = load64(r3_7);
-                                        r60 = r3_8 + 64;
-                                        if (bits_3 != 0) {
-                                            r3_9 = bits_3;
-                                            r3_10 = r60;
-                                            r3_11 = r3_7 + 8;
-                                            r3_12 = r33;
-                                            break;
-                                        }
-                                        r3_6 = r33;
-                                        r3_7 = r3_7 + 8;
-                                        r3_8 = r60;
-                                    }
-                                } else {
-                                    r3_9 = r3_2;
-                                    r3_10 = r3_3;
-                                    r3_11 = r3_4;
-                                    r3_12 = r3_5;
-                                }
-                                r27 = low_zeros(r3_9);
-                                index_7 = r3_10 + r27;
-                                r40 = (r3_9 - 1) & r3_9;
-                                slot_7 = shared_8 + (index_7 * SLOT_SIZE);
-                                if (load64(slot_7 + SLOT_REST_LEN) == 0) {
-                                    key_5 = load_key(slot_7 + SLOT_KEY);
-                                    value_5 = load64(slot_7 + SLOT_VALUE);
-                                    has_first = load8(slot_7 + SLOT_HAS_FIRST);
-                                    memset(slot_7, 0, 24);
-                                    if (has_first == 1) {
-                                        index_8 = (key_5 * MULTIPLIER) & r2_3;
-                                        slot_8 = shared_8 + (index_8 * SLOT_SIZE);
-                                        r11_2 = r1_2 + ((index_8 >> 3) & UINT64_C(2305843009213693944));
-                                        store64(r11_2, load64(r11_2) | ((uint64_t)1 << (index_8 & 63)));
-                                        store64(slot_8 + SLOT_HAS_FIRST, 1);
-                                        store64(slot_8 + SLOT_KEY, key_5);
-                                        store64(slot_8 + SLOT_VALUE, value_5);
-                                        goto loop_2_backedge;
-                                    }
-                                }
-                                place_move_several(r22 + 8, shared_8, shared_len_8, index_7, r4);
-                            loop_2_backedge:;
-                                r3_2 = r40;
-                                r3_3 = r3_10;
-                                r3_4 = r3_11;
-                                r3_5 = r3_12;
-                            }
-                        }
-                        r33_2 = r8_8 - 1;
-                        bits_4 = load64(r8_9);
-                        r60_2 = r8_10 + 64;
-                        if (bits_4 != 0) {
-                            r8_11 = bits_4;
-                            r8_12 = r60_2;
-                            r8_13 = r8_9 + 8;
-                            r8_14 = r33_2;
-                            break;
-                        }
-                        r8_8 = r33_2;
-                        r8_9 = r8_9 + 8;
-                        r8_10 = r60_2;
-                    }
-                } else {
-                    r8_11 = r8_4;
-                    r8_12 = r8_5;
-                    r8_13 = r8_6;
-                    r8_14 = r8_7;
-                }
-                r27_2 = low_zeros(r8_11);
-                index_9 = r8_12 + r27_2;
-                r40_2 = (r8_11 - 1) & r8_11;
-                slot_9 = shared_7 + (index_9 * SLOT_SIZE);
-                rest_len_3 = load64(slot_9 + SLOT_REST_LEN);
-                if (rest_len_3 > 2) {
-                    r76 = load64(map + INT_MAP_MASK) + 1;
-                    if (r21) {
-                        rest_len_4 = rest_len_3;
-                    } else {
-                        if (!r317) {
-                            memset(r8, 0, x17);
-                        }
-                        store64(r56, 0);
-                        rest_len_4 = load64(slot_9 + SLOT_REST_LEN);
-                    }
-                    rest_3 = load_address(slot_9 + SLOT_REST);
-                    if (load8(slot_9 + SLOT_HAS_FIRST) == 1) {
-                        if (r76 == 0) {
-                            abort();
-                        }
-                        r20_3 = r8 + ((((load64(slot_9 + SLOT_KEY) * MULTIPLIER) & ((r76 * r8_2) - 1)) / r76) << 3);
-                        store64(r20_3, load64(r20_3) + 1);
-                    }
-                    if (rest_len_4 != 0) {
-                        r2_4 = (r76 * r8_2) - 1;
-                        if (r76 == 0) {
-                            abort();
-                        }
-                        place_4 = 0;
-                        for (;;) {
-                            r20_4 = r8 + ((((load64((rest_3 + (place_4 << 4)) + PAIR_KEY) * MULTIPLIER) & r2_4) / r76) << 3);
-                            store64(r20_4, load64(r20_4) + 1);
-                            next_place_2 = place_4 + 1;
-                            if (next_place_2 == rest_len_4) {
-                                break;
-                            }
-                            place_4 = next_place_2;
-                        }
-                    }
-                    r89 = load64(map + INT_MAP_MASK) + 1;
-                    if (!r21) {
-                        r5_08 = false;
-                        r6_07 = 0;
-                        for (;;) {
-                            r38 = load64(r8 + (r6_07 << 3));
-                            r41 = r38 > 1;
-                            if (r41 ? r5_08 : false) {
-                                r64 = slot_reserve_behind(shared_7 + (((r6_07 * r89) + index_9) * SLOT_SIZE), r38 - 1);
-                                if ((r64 & 1) != 0) {
-                                    goto arm_8_2;
-                                }
-                                r5_1 = true;
-                            } else {
-                                r5_1 = r41 ? true : r5_08;
-                            }
-                            r73 = r6_07 + 1;
-                            if (r73 == r8_2) {
-                                break;
-                            }
-                            r5_08 = r5_1;
-                            r6_07 = r73;
-                        }
+                        place_move_several(r22 + 8, shared_8, shared_len_8, index_7, r4);
+                    loop_2_backedge:;
+                        r3_2 = r40;
+                        r3_3 = r3_10;
+                        r3_4 = r3_11;
+                        r3_5 = r3_12;
                     }
                 }
-                spec_select = greater(r6_0, rest_len_3);
-                r8_4 = r40_2;
-                r8_5 = r8_12;
-                r8_6 = r8_13;
-                r8_7 = r8_14;
-                r6_0 = spec_select;
-            }
-        arm_8_2:;
-            shared_len_9 = load64(map + INT_MAP_SHARED_LEN);
-            shared_room_6 = load64(map + INT_MAP_SHARED_ROOM);
-            if (shared_len_9 > shared_len_4) {
-                shared_9 = load_address(map + INT_MAP_SHARED);
-                memset(map + INT_MAP_SHARED_LEN, 0, 16);
-                index_10 = shared_len_4;
-                for (;;) {
-                    slot_10 = shared_9 + (index_10 * SLOT_SIZE);
-                    if (load64(slot_10 + SLOT_REST_ROOM) != 0) {
-                        rattle_dealloc(load_address(slot_10 + SLOT_REST));
-                    }
-                    next_index_5 = index_10 + 1;
-                    if (next_index_5 == shared_len_9) {
-                        store_address(map + INT_MAP_SHARED, shared_9);
-                        store64(map + INT_MAP_SHARED_LEN, shared_len_4);
-                        store64(map + INT_MAP_SHARED_ROOM, shared_room_6);
-                        shared_len_10 = shared_len_4;
-                        break;
-                    }
-                    index_10 = next_index_5;
+                r33_2 = r8_8 - 1;
+                bits_4 = load64(r8_9);
+                r60_2 = r8_10 + 64;
+                if (bits_4 != 0) {
+                    r8_11 = bits_4;
+                    r8_12 = r60_2;
+                    r8_13 = r8_9 + 8;
+                    r8_14 = r33_2;
+                    break;
                 }
-            } else {
-                shared_len_10 = shared_len_9;
-            }
-            if (shared_room_6 > shared_len_10) {
-                if (shared_len_10 == 0) {
-                    rattle_dealloc(load_address(map + INT_MAP_SHARED));
-                    store_address(map + INT_MAP_SHARED, dangling);
-                    memset(map + INT_MAP_SHARED_LEN, 0, 16);
-                } else {
-                    r12_3 = shared_len_10 * 48;
-                    block_4 = rattle_realloc(load_address(map + INT_MAP_SHARED), r12_3, r12_3, 8);
-                    if ((block_4.first & 1) != 0) {
-                        store_address(map + INT_MAP_SHARED, (char *)(uintptr_t)block_4.second);
-                        store64(map + INT_MAP_SHARED_ROOM, shared_len_10);
-                    }
-                }
-            }
-            if (!r12) {
-                rattle_dealloc(r8);
-            }
-        arm_13:;
-            if (r1_3 == 0) {
-                r0 = 1;
-            } else {
-                rattle_dealloc(r1_2);
-                r0 = 1;
+                r8_8 = r33_2;
+                r8_9 = r8_9 + 8;
+                r8_10 = r60_2;
             }
         } else {
-            r0 = 1;
+            r8_11 = r8_4;
+            r8_12 = r8_5;
+            r8_13 = r8_6;
+            r8_14 = r8_7;
+        }
+        r27_2 = low_zeros(r8_11);
+        index_9 = r8_12 + r27_2;
+        r40_2 = (r8_11 - 1) & r8_11;
+        slot_9 = shared_7 + (index_9 * SLOT_SIZE);
+        rest_len_3 = load64(slot_9 + SLOT_REST_LEN);
+        if (rest_len_3 > 2) {
+            r76 = load64(map + INT_MAP_MASK) + 1;
+            if (r21) {
+                rest_len_4 = rest_len_3;
+            } else {
+                if (!r317) {
+                    memset(r8, 0, x17);
+                }
+                store64(r56, 0);
+                rest_len_4 = load64(slot_9 + SLOT_REST_LEN);
+            }
+            rest_3 = load_address(slot_9 + SLOT_REST);
+            if (load8(slot_9 + SLOT_HAS_FIRST) == 1) {
+                if (r76 == 0) {
+                    abort();
+                }
+                r20_3 = r8 + ((((load64(slot_9 + SLOT_KEY) * MULTIPLIER) & ((r76 * r8_2) - 1)) / r76) << 3);
+                store64(r20_3, load64(r20_3) + 1);
+            }
+            if (rest_len_4 != 0) {
+                r2_4 = (r76 * r8_2) - 1;
+                if (r76 == 0) {
+                    abort();
+                }
+                place_4 = 0;
+                for (;;) {
+                    r20_4 = r8 + ((((load64((rest_3 + (place_4 << 4)) + PAIR_KEY) * MULTIPLIER) & r2_4) / r76) << 3);
+                    store64(r20_4, load64(r20_4) + 1);
+                    next_place_2 = place_4 + 1;
+                    if (next_place_2 == rest_len_4) {
+                        break;
+                    }
+                    place_4 = next_place_2;
+                }
+            }
+            r89 = load64(map + INT_MAP_MASK) + 1;
+            if (!r21) {
+                r5_08 = false;
+                r6_07 = 0;
+                for (;;) {
+                    r38 = load64(r8 + (r6_07 << 3));
+                    r41 = r38 > 1;
+                    if (r41 ? r5_08 : false) {
+                        r64 = slot_reserve_behind(shared_7 + (((r6_07 * r89) + index_9) * SLOT_SIZE), r38 - 1);
+                        if ((r64 & 1) != 0) {
+                            goto arm_8_2;
+                        }
+                        r5_1 = true;
+                    } else {
+                        r5_1 = r41 ? true : r5_08;
+                    }
+                    r73 = r6_07 + 1;
+                    if (r73 == r8_2) {
+                        break;
+                    }
+                    r5_08 = r5_1;
+                    r6_07 = r73;
+                }
+            }
+        }
+        spec_select = greater(r6_0, rest_len_3);
+        r8_4 = r40_2;
+        r8_5 = r8_12;
+        r8_6 = r8_13;
+        r8_7 = r8_14;
+        r6_0 = spec_select;
+    }
+arm_8_2:;
+    shared_len_9 = load64(map + INT_MAP_SHARED_LEN);
+    shared_room_6 = load64(map + INT_MAP_SHARED_ROOM);
+    if (shared_len_9 > shared_len_4) {
+        shared_9 = load_address(map + INT_MAP_SHARED);
+        memset(map + INT_MAP_SHARED_LEN, 0, 16);
+        index_10 = shared_len_4;
+        for (;;) {
+            slot_10 = shared_9 + (index_10 * SLOT_SIZE);
+            if (load64(slot_10 + SLOT_REST_ROOM) != 0) {
+                rattle_dealloc(load_address(slot_10 + SLOT_REST));
+            }
+            next_index_5 = index_10 + 1;
+            if (next_index_5 == shared_len_9) {
+                store_address(map + INT_MAP_SHARED, shared_9);
+                store64(map + INT_MAP_SHARED_LEN, shared_len_4);
+                store64(map + INT_MAP_SHARED_ROOM, shared_room_6);
+                shared_len_10 = shared_len_4;
+                break;
+            }
+            index_10 = next_index_5;
         }
     } else {
-        r59 = grow_lone_grow_lone(map + INT_MAP_LONE, map, capacity);
-        r0 = r59;
+        shared_len_10 = shared_len_9;
     }
-return_4:;
-    return r0;
+    if (shared_room_6 > shared_len_10) {
+        if (shared_len_10 == 0) {
+            rattle_dealloc(load_address(map + INT_MAP_SHARED));
+            store_address(map + INT_MAP_SHARED, dangling);
+            memset(map + INT_MAP_SHARED_LEN, 0, 16);
+        } else {
+            r12_3 = shared_len_10 * 48;
+            block_4 = rattle_realloc(load_address(map + INT_MAP_SHARED), r12_3, r12_3, 8);
+            if ((block_4.first & 1) != 0) {
+                store_address(map + INT_MAP_SHARED, (char *)(uintptr_t)block_4.second);
+                store64(map + INT_MAP_SHARED_ROOM, shared_len_10);
+            }
+        }
+    }
+    if (!r12) {
+        rattle_dealloc(r8);
+    }
+arm_13:;
+    if (r1_3 == 0) {
+        return 1;
+    }
+    rattle_dealloc(r1_2);
+    return 1;
 }
 
 // Moves all pairs, in the order of the walk, to their slots among `capacity` slots.
@@ -1966,117 +1941,116 @@ static ALIGNED uint8_t grow_lone_grow_lone(char *lone, char *directory, uint64_t
     memset(r5, 0, 32);
     grow_reserve_slots_2(r5, lone, capacity);
     r1 = load8(r5);
-    if (r1 == 0) {
-        r6 = load_address(r5 + 8);
-        lone_len = load64(lone + VEC_LEN);
-        lone_2 = load_address(lone + VEC_ADDRESS);
-        lone_room = load64(lone + VEC_ROOM);
-        store_address(lone + VEC_ADDRESS, dangling);
-        memset(lone + VEC_LEN, 0, 16);
-        if (capacity == lone_len) {
-            store_address(lone + VEC_ADDRESS, lone_2);
-            store64(lone + VEC_LEN, capacity);
-            store64(lone + VEC_ROOM, lone_room);
+    if (r1 != 0) {
+        return r1;
+    }
+    r6 = load_address(r5 + 8);
+    lone_len = load64(lone + VEC_LEN);
+    lone_2 = load_address(lone + VEC_ADDRESS);
+    lone_room = load64(lone + VEC_ROOM);
+    store_address(lone + VEC_ADDRESS, dangling);
+    memset(lone + VEC_LEN, 0, 16);
+    if (capacity == lone_len) {
+        store_address(lone + VEC_ADDRESS, lone_2);
+        store64(lone + VEC_LEN, capacity);
+        store64(lone + VEC_ROOM, lone_room);
+        r6_2 = capacity;
+        lone_3 = lone_2;
+    } else {
+        memset(lone_2 + (lone_len * LONE_SIZE), 0, (capacity - lone_len) * 24);
+        lone_4 = load_address(lone + VEC_ADDRESS);
+        lone_room_2 = load64(lone + VEC_ROOM);
+        store_address(lone + VEC_ADDRESS, lone_2);
+        store64(lone + VEC_LEN, capacity);
+        store64(lone + VEC_ROOM, lone_room);
+        if (lone_room_2 == 0) {
             r6_2 = capacity;
             lone_3 = lone_2;
         } else {
-            memset(lone_2 + (lone_len * LONE_SIZE), 0, (capacity - lone_len) * 24);
-            lone_4 = load_address(lone + VEC_ADDRESS);
-            lone_room_2 = load64(lone + VEC_ROOM);
-            store_address(lone + VEC_ADDRESS, lone_2);
-            store64(lone + VEC_LEN, capacity);
-            store64(lone + VEC_ROOM, lone_room);
-            if (lone_room_2 == 0) {
-                r6_2 = capacity;
-                lone_3 = lone_2;
-            } else {
-                rattle_dealloc(lone_4);
-                r6_2 = load64(lone + VEC_LEN);
-                lone_3 = load_address(lone + VEC_ADDRESS);
-            }
-        }
-        words_len = load64(directory + INT_MAP_WORDS_LEN);
-        if (words_len == 0) {
-            bits = 0;
-            r6_3 = (char *)no_bytes;
-            r6_4 = 0;
-        } else {
-            words = load_address(directory + INT_MAP_WORDS);
-            bits = load64(words);
-            r6_3 = words + 8;
-            r6_4 = words_len - 1;
-        }
-        r2 = r6_2 - 1;
-        r3 = bits;
-        r3_2 = 0;
-        r3_3 = r6_3;
-        r3_4 = r6_4;
-        for (;;) {
-            if (r3 == 0) {
-                r3_5 = r3_4;
-                r3_6 = r3_3;
-                r3_7 = r3_2;
-                for (;;) {
-                    if (r3_5 == 0) {
-                        words_2 = load_address(directory + INT_MAP_WORDS);
-                        words_room = load64(directory + INT_MAP_WORDS_ROOM);
-                        store64(directory + INT_MAP_MASK, capacity - 1);
-                        store_address(directory + INT_MAP_WORDS, r6);
-                        memcpy(directory + INT_MAP_WORDS_LEN, r5 + 16, 16);
-                        if (words_room == 0) {
-                            goto return_5;
-                        }
-                        rattle_dealloc(words_2);
-                        goto return_5;
-                    }
-                    r33 = r3_5 - 1;
-                    bits_2 = load64(r3_6);
-                    r60 = r3_7 + 64;
-                    if (bits_2 != 0) {
-                        r3_8 = bits_2;
-                        r3_9 = r60;
-                        r3_10 = r3_6 + 8;
-                        r3_11 = r33;
-                        break;
-                    }
-                    r3_5 = r33;
-                    r3_6 = r3_6 + 8;
-                    r3_7 = r60;
-                }
-            } else {
-                r3_8 = r3;
-                r3_9 = r3_2;
-                r3_10 = r3_3;
-                r3_11 = r3_4;
-            }
-            r27 = low_zeros(r3_8);
-            slot = lone_3 + ((r3_9 + r27) * LONE_SIZE);
-            key = load_key(slot + LONE_KEY);
-            value = load64(slot + LONE_VALUE);
-            has_pair = load8(slot + LONE_HAS_PAIR);
-            memset(slot, 0, 24);
-            if (has_pair != 1) {
-                abort();
-            }
-            index = (key * MULTIPLIER) & r2;
-            r11 = r6 + ((index >> 3) & UINT64_C(2305843009213693944));
-            store64(r11, load64(r11) | ((uint64_t)1 << (index & 63)));
-            slot_2 = lone_3 + (index * LONE_SIZE);
-            has_pair_2 = load8(slot_2 + LONE_HAS_PAIR);
-            store64(slot_2 + LONE_HAS_PAIR, 1);
-            store64(slot_2 + LONE_KEY, key);
-            store64(slot_2 + LONE_VALUE, value);
-            if (has_pair_2 != 0) {
-                abort();
-            }
-            r3 = (r3_8 - 1) & r3_8;
-            r3_2 = r3_9;
-            r3_3 = r3_10;
-            r3_4 = r3_11;
+            rattle_dealloc(lone_4);
+            r6_2 = load64(lone + VEC_LEN);
+            lone_3 = load_address(lone + VEC_ADDRESS);
         }
     }
-return_5:;
-    return r1;
+    words_len = load64(directory + INT_MAP_WORDS_LEN);
+    if (words_len == 0) {
+        bits = 0;
+        r6_3 = (char *)no_bytes;
+        r6_4 = 0;
+    } else {
+        words = load_address(directory + INT_MAP_WORDS);
+        bits = load64(words);
+        r6_3 = words + 8;
+        r6_4 = words_len - 1;
+    }
+    r2 = r6_2 - 1;
+    r3 = bits;
+    r3_2 = 0;
+    r3_3 = r6_3;
+    r3_4 = r6_4;
+    for (;;) {
+        if (r3 == 0) {
+            r3_5 = r3_4;
+            r3_6 = r3_3;
+            r3_7 = r3_2;
+            for (;;) {
+                if (r3_5 == 0) {
+                    words_2 = load_address(directory + INT_MAP_WORDS);
+                    words_room = load64(directory + INT_MAP_WORDS_ROOM);
+                    store64(directory + INT_MAP_MASK, capacity - 1);
+                    store_address(directory + INT_MAP_WORDS, r6);
+                    memcpy(directory + INT_MAP_WORDS_LEN, r5 + 16, 16);
+                    if (words_room == 0) {
+                        return r1;
+                    }
+                    rattle_dealloc(words_2);
+                    return r1;
+                }
+                r33 = r3_5 - 1;
+                bits_2 = load64(r3_6);
+                r60 = r3_7 + 64;
+                if (bits_2 != 0) {
+                    r3_8 = bits_2;
+                    r3_9 = r60;
+                    r3_10 = r3_6 + 8;
+                    r3_11 = r33;
+                    break;
+                }
+                r3_5 = r33;
+                r3_6 = r3_6 + 8;
+                r3_7 = r60;
+            }
+        } else {
+            r3_8 = r3;
+            r3_9 = r3_2;
+            r3_10 = r3_3;
+            r3_11 = r3_4;
+        }
+        r27 = low_zeros(r3_8);
+        slot = lone_3 + ((r3_9 + r27) * LONE_SIZE);
+        key = load_key(slot + LONE_KEY);
+        value = load64(slot + LONE_VALUE);
+        has_pair = load8(slot + LONE_HAS_PAIR);
+        memset(slot, 0, 24);
+        if (has_pair != 1) {
+            abort();
+        }
+        index = (key * MULTIPLIER) & r2;
+        r11 = r6 + ((index >> 3) & UINT64_C(2305843009213693944));
+        store64(r11, load64(r11) | ((uint64_t)1 << (index & 63)));
+        slot_2 = lone_3 + (index * LONE_SIZE);
+        has_pair_2 = load8(slot_2 + LONE_HAS_PAIR);
+        store64(slot_2 + LONE_HAS_PAIR, 1);
+        store64(slot_2 + LONE_KEY, key);
+        store64(slot_2 + LONE_VALUE, value);
+        if (has_pair_2 != 0) {
+            abort();
+        }
+        r3 = (r3_8 - 1) & r3_8;
+        r3_2 = r3_9;
+        r3_3 = r3_10;
+        r3_4 = r3_11;
+    }
 }
 
 // Allocates room for `capacity` slots, the largest block by far, and then the bits of all of them.
@@ -2111,7 +2085,7 @@ static ALIGNED void grow_reserve_slots_2(char *result, char *slots, uint64_t cap
     arm_2:;
         store8(result, 1);
         memset(result + 8, 0, 24);
-        goto common_ret;
+        return;
     }
 arm_1:;
     r4_0 = (capacity >> 6) + ((uint64_t)((capacity & 63) != 0));
@@ -2139,7 +2113,7 @@ arm_1:;
             }
             store8(result, 1);
             memset(result + 8, 0, 24);
-            goto common_ret;
+            return;
         }
         r8 = (char *)(uintptr_t)block_3.second;
         if (r4_0 == 1) {
@@ -2156,51 +2130,41 @@ arm_1:;
     store_address(result + 8, r9);
     store64(result + 16, r9_2);
     store64(result + 24, r4_0);
-common_ret:;
-    return;
 }
 
 // Makes room for `count` pairs behind the first one, and allocates for exactly those.
 // intmap_table::slot::Slot::reserve_behind, in crates/intmap_table/src/slot/room.rt
 static ALIGNED NOINLINE uint8_t slot_reserve_behind(char *slot, uint64_t count) {
     uint64_t rest_len, rest_room, r33;
-    uint8_t r0;
-    struct word_word block, r0_2, block_2;
+    struct word_word block, r0, block_2;
     rest_len = load64(slot + SLOT_REST_LEN);
     rest_room = load64(slot + SLOT_REST_ROOM);
-    if (count > (rest_room - rest_len)) {
-        if (count > (rest_len ^ UINT64_C(18446744073709551615))) {
-            r0 = 1;
-        } else {
-            r33 = rest_len + count;
-            if (r33 < UINT64_C(576460752303423488)) {
-                if (rest_room == 0) {
-                    block = rattle_alloc(r33 << 4, 8);
-                    if ((block.first & 1) == 0) {
-                        r0 = 1;
-                        goto after_Vec_reserve_exact;
-                    }
-                    r0_2 = block;
-                } else {
-                    block_2 = rattle_realloc(load_address(slot + SLOT_REST), rest_len << 4, r33 << 4, 8);
-                    if ((block_2.first & 1) == 0) {
-                        r0 = 1;
-                        goto after_Vec_reserve_exact;
-                    }
-                    r0_2 = block_2;
-                }
-                store_address(slot + SLOT_REST, (char *)(uintptr_t)r0_2.second);
-                store64(slot + SLOT_REST_ROOM, r33);
-                r0 = 0;
-            } else {
-                r0 = 1;
-            }
-        }
-    } else {
-        r0 = 0;
+    if (count <= (rest_room - rest_len)) {
+        return 0;
     }
-after_Vec_reserve_exact:;
-    return r0;
+    if (count > (rest_len ^ UINT64_C(18446744073709551615))) {
+        return 1;
+    }
+    r33 = rest_len + count;
+    if (r33 >= UINT64_C(576460752303423488)) {
+        return 1;
+    }
+    if (rest_room == 0) {
+        block = rattle_alloc(r33 << 4, 8);
+        if ((block.first & 1) == 0) {
+            return 1;
+        }
+        r0 = block;
+    } else {
+        block_2 = rattle_realloc(load_address(slot + SLOT_REST), rest_len << 4, r33 << 4, 8);
+        if ((block_2.first & 1) == 0) {
+            return 1;
+        }
+        r0 = block_2;
+    }
+    store_address(slot + SLOT_REST, (char *)(uintptr_t)r0.second);
+    store64(slot + SLOT_REST_ROOM, r33);
+    return 0;
 }
 
 // Moves the pairs of an old slot that holds several, in order, to the ends of their slots.
@@ -2411,50 +2375,43 @@ after_Vec_append:;
             len_4 = len_5;
         }
     }
-    if (rest_room_4 != 0) {
-        rattle_dealloc(rest_6);
+    if (rest_room_4 == 0) {
+        return;
     }
-    return;
+    rattle_dealloc(rest_6);
 }
 
 // std_alloc::vec::Vec::grow_amortized, in Rattle's library std_alloc
 static COLD bool vec_grow_amortized(char *vec, uint64_t a1) {
-    uint64_t len, room, a2_a1, x0, common_ret_op_2;
-    bool common_ret_op;
+    uint64_t len, room, a2_a1, x0, common_ret_op;
     struct word_word block, r0, block_2;
     len = load64(vec + VEC_LEN);
     if (a1 > (len ^ UINT64_C(18446744073709551615))) {
-        common_ret_op = false;
-    } else {
-        room = load64(vec + VEC_ROOM);
-        a2_a1 = greater(len + a1, 4);
-        x0 = greater(a2_a1, room << 1);
-        common_ret_op_2 = (room < UINT64_C(4611686018427387904)) ? x0 : a2_a1;
-        if (common_ret_op_2 < UINT64_C(576460752303423488)) {
-            if (room == 0) {
-                block = rattle_alloc(x0 << 4, 8);
-                if ((block.first & 1) == 0) {
-                    common_ret_op = false;
-                    goto common_ret;
-                }
-                r0 = block;
-            } else {
-                block_2 = rattle_realloc(load_address(vec + VEC_ADDRESS), len << 4, common_ret_op_2 << 4, 8);
-                if ((block_2.first & 1) == 0) {
-                    common_ret_op = false;
-                    goto common_ret;
-                }
-                r0 = block_2;
-            }
-            store_address(vec + VEC_ADDRESS, (char *)(uintptr_t)r0.second);
-            store64(vec + VEC_ROOM, common_ret_op_2);
-            common_ret_op = true;
-        } else {
-            common_ret_op = false;
-        }
+        return false;
     }
-common_ret:;
-    return common_ret_op;
+    room = load64(vec + VEC_ROOM);
+    a2_a1 = greater(len + a1, 4);
+    x0 = greater(a2_a1, room << 1);
+    common_ret_op = (room < UINT64_C(4611686018427387904)) ? x0 : a2_a1;
+    if (common_ret_op >= UINT64_C(576460752303423488)) {
+        return false;
+    }
+    if (room == 0) {
+        block = rattle_alloc(x0 << 4, 8);
+        if ((block.first & 1) == 0) {
+            return false;
+        }
+        r0 = block;
+    } else {
+        block_2 = rattle_realloc(load_address(vec + VEC_ADDRESS), len << 4, common_ret_op << 4, 8);
+        if ((block_2.first & 1) == 0) {
+            return false;
+        }
+        r0 = block_2;
+    }
+    store_address(vec + VEC_ADDRESS, (char *)(uintptr_t)r0.second);
+    store64(vec + VEC_ROOM, common_ret_op);
+    return true;
 }
 
 // core::slice::edits::mirror, in Rattle's library core
@@ -2484,114 +2441,103 @@ static ALIGNED NOINLINE struct byte_word slots_push_second(char *map, uint64_t i
     struct word_word block, block_2;
     char *r8, *r8_2, *lone, *slot, *r20, *shared, *slot_2, *slot_3, *pair;
     uint64_t lone_len, lone_len_2, lone_room, index_2, r2, r17, r27, shared_len, shared_room, index_3, next_index,
-        value_2, rest_len;
-    uint8_t r0;
+        rest_len;
     char *dangling = (char *)no_bytes;
     uint64_t r11_3_room[2];
     char *r11_3 = (char *)r11_3_room;
     block = rattle_alloc(16, 8);
-    if ((block.first & 1) != 0) {
-        r8 = (char *)(uintptr_t)block.second;
-        lone_len = load64(map + INT_MAP_LONE_LEN);
-        if (lone_len != 0) {
-            if (lone_len < UINT64_C(192153584101141163)) {
-                block_2 = rattle_alloc(lone_len * 48, 8);
-                if ((block_2.first & 1) != 0) {
-                    r8_2 = (char *)(uintptr_t)block_2.second;
-                    lone = load_address(map + INT_MAP_LONE);
-                    lone_len_2 = load64(map + INT_MAP_LONE_LEN);
-                    lone_room = load64(map + INT_MAP_LONE_ROOM);
-                    store_address(map + INT_MAP_LONE, dangling);
-                    memset(map + INT_MAP_LONE_LEN, 0, 16);
-                    if (lone_len_2 != 0) {
-                        index_2 = 0;
-                        r2 = lone_len_2;
-                        for (;;) {
-                            r17 = r2 - 1;
-                            slot = lone + (index_2 * LONE_SIZE);
-                            r27 = (uint64_t)load8(slot + LONE_HAS_PAIR);
-                            memcpy(r11_3, slot + LONE_KEY, 16);
-                            r20 = r8_2 + (index_2 * 48);
-                            store64(r20, r27);
-                            memcpy(r20 + 8, r11_3, 16);
-                            store_address(r20 + 24, dangling);
-                            memset(r20 + 32, 0, 16);
-                            if (r17 == 0) {
-                                break;
-                            }
-                            index_2 = index_2 + 1;
-                            r2 = r17;
+    if ((block.first & 1) == 0) {
+        return made_byte_word(1, value);
+    }
+    r8 = (char *)(uintptr_t)block.second;
+    lone_len = load64(map + INT_MAP_LONE_LEN);
+    if (lone_len != 0) {
+        if (lone_len < UINT64_C(192153584101141163)) {
+            block_2 = rattle_alloc(lone_len * 48, 8);
+            if ((block_2.first & 1) != 0) {
+                r8_2 = (char *)(uintptr_t)block_2.second;
+                lone = load_address(map + INT_MAP_LONE);
+                lone_len_2 = load64(map + INT_MAP_LONE_LEN);
+                lone_room = load64(map + INT_MAP_LONE_ROOM);
+                store_address(map + INT_MAP_LONE, dangling);
+                memset(map + INT_MAP_LONE_LEN, 0, 16);
+                if (lone_len_2 != 0) {
+                    index_2 = 0;
+                    r2 = lone_len_2;
+                    for (;;) {
+                        r17 = r2 - 1;
+                        slot = lone + (index_2 * LONE_SIZE);
+                        r27 = (uint64_t)load8(slot + LONE_HAS_PAIR);
+                        memcpy(r11_3, slot + LONE_KEY, 16);
+                        r20 = r8_2 + (index_2 * 48);
+                        store64(r20, r27);
+                        memcpy(r20 + 8, r11_3, 16);
+                        store_address(r20 + 24, dangling);
+                        memset(r20 + 32, 0, 16);
+                        if (r17 == 0) {
+                            break;
                         }
+                        index_2 = index_2 + 1;
+                        r2 = r17;
                     }
-                    if (lone_room != 0) {
-                        rattle_dealloc(lone);
-                    }
-                    shared = load_address(map + INT_MAP_SHARED);
-                    shared_len = load64(map + INT_MAP_SHARED_LEN);
-                    shared_room = load64(map + INT_MAP_SHARED_ROOM);
-                    store_address(map + INT_MAP_SHARED, r8_2);
-                    store64(map + INT_MAP_SHARED_LEN, lone_len_2);
-                    store64(map + INT_MAP_SHARED_ROOM, lone_len);
-                    if (shared_len != 0) {
-                        index_3 = 0;
-                        for (;;) {
-                            slot_2 = shared + (index_3 * SLOT_SIZE);
-                            if (load64(slot_2 + SLOT_REST_ROOM) != 0) {
-                                rattle_dealloc(load_address(slot_2 + SLOT_REST));
-                            }
-                            next_index = index_3 + 1;
-                            if (next_index == shared_len) {
-                                break;
-                            }
-                            index_3 = next_index;
+                }
+                if (lone_room != 0) {
+                    rattle_dealloc(lone);
+                }
+                shared = load_address(map + INT_MAP_SHARED);
+                shared_len = load64(map + INT_MAP_SHARED_LEN);
+                shared_room = load64(map + INT_MAP_SHARED_ROOM);
+                store_address(map + INT_MAP_SHARED, r8_2);
+                store64(map + INT_MAP_SHARED_LEN, lone_len_2);
+                store64(map + INT_MAP_SHARED_ROOM, lone_len);
+                if (shared_len != 0) {
+                    index_3 = 0;
+                    for (;;) {
+                        slot_2 = shared + (index_3 * SLOT_SIZE);
+                        if (load64(slot_2 + SLOT_REST_ROOM) != 0) {
+                            rattle_dealloc(load_address(slot_2 + SLOT_REST));
                         }
+                        next_index = index_3 + 1;
+                        if (next_index == shared_len) {
+                            break;
+                        }
+                        index_3 = next_index;
                     }
-                    if (shared_room == 0) {
-                        goto join_8;
-                    }
-                    rattle_dealloc(shared);
+                }
+                if (shared_room == 0) {
                     goto join_8;
                 }
+                rattle_dealloc(shared);
+                goto join_8;
             }
-            rattle_dealloc(r8);
-            value_2 = value;
-            r0 = 1;
-            goto return_5;
         }
-    join_8:;
-        slot_3 = load_address(map + INT_MAP_SHARED) + (index * SLOT_SIZE);
-        if (load64(slot_3 + SLOT_REST_ROOM) == 0) {
-            store_address(slot_3 + SLOT_REST, r8);
-            store64(slot_3 + SLOT_REST_ROOM, 1);
-            store64(r8, key);
-            store64(r8 + 8, value);
-            store64(slot_3 + SLOT_REST_LEN, 1);
-            value_2 = 1;
-            r0 = 0;
-        } else {
-            rest_len = load64(slot_3 + SLOT_REST_LEN);
-            pair = load_address(slot_3 + SLOT_REST) + (rest_len << 4);
-            store64(pair + PAIR_KEY, key);
-            store64(pair + PAIR_VALUE, value);
-            store64(slot_3 + SLOT_REST_LEN, rest_len + 1);
-            rattle_dealloc(r8);
-            value_2 = 1;
-            r0 = 0;
-        }
-    } else {
-        value_2 = value;
-        r0 = 1;
+        rattle_dealloc(r8);
+        return made_byte_word(1, value);
     }
-return_5:;
-    return made_byte_word(r0, value_2);
+join_8:;
+    slot_3 = load_address(map + INT_MAP_SHARED) + (index * SLOT_SIZE);
+    if (load64(slot_3 + SLOT_REST_ROOM) == 0) {
+        store_address(slot_3 + SLOT_REST, r8);
+        store64(slot_3 + SLOT_REST_ROOM, 1);
+        store64(r8, key);
+        store64(r8 + 8, value);
+        store64(slot_3 + SLOT_REST_LEN, 1);
+        return made_byte_word(0, 1);
+    }
+    rest_len = load64(slot_3 + SLOT_REST_LEN);
+    pair = load_address(slot_3 + SLOT_REST) + (rest_len << 4);
+    store64(pair + PAIR_KEY, key);
+    store64(pair + PAIR_VALUE, value);
+    store64(slot_3 + SLOT_REST_LEN, rest_len + 1);
+    rattle_dealloc(r8);
+    return made_byte_word(0, 1);
 }
 
 // Adds a pair behind others, and returns its place.
 // intmap_table::slot::Slot::push, in crates/intmap_table/src/slot/pairs.rt
 static ALIGNED NOINLINE struct byte_word slot_push(char *slot, uint64_t key, uint64_t value) {
-    uint64_t rest_len, rest_room, r0, rest_len_2, next_place;
+    uint64_t rest_len, rest_room, rest_len_2, next_place;
     struct word_word block;
-    uint8_t r0_2;
     bool r24;
     char *pair;
     rest_len = load64(slot + SLOT_REST_LEN);
@@ -2600,9 +2546,7 @@ static ALIGNED NOINLINE struct byte_word slot_push(char *slot, uint64_t key, uin
         if (rest_room == 0) {
             block = rattle_alloc(16, 8);
             if ((block.first & 1) == 0) {
-                r0 = value;
-                r0_2 = 1;
-                goto return_7;
+                return made_byte_word(1, value);
             }
             store_address(slot + SLOT_REST, (char *)(uintptr_t)block.second);
             store64(slot + SLOT_REST_ROOM, 1);
@@ -2611,9 +2555,7 @@ static ALIGNED NOINLINE struct byte_word slot_push(char *slot, uint64_t key, uin
         if (rest_room == rest_len) {
             r24 = vec_grow_amortized(slot + SLOT_REST, 1);
             if (!r24) {
-                r0 = value;
-                r0_2 = 1;
-                goto return_7;
+                return made_byte_word(1, value);
             }
         }
     }
@@ -2623,10 +2565,7 @@ static ALIGNED NOINLINE struct byte_word slot_push(char *slot, uint64_t key, uin
     store64(pair + PAIR_VALUE, value);
     next_place = rest_len_2 + 1;
     store64(slot + SLOT_REST_LEN, next_place);
-    r0 = next_place;
-    r0_2 = 0;
-return_7:;
-    return made_byte_word(r0_2, r0);
+    return made_byte_word(0, next_place);
 }
 
 // Writes the address of the value of the key, or null if the key is absent.
@@ -2636,49 +2575,48 @@ static ALWAYS_INLINE void do_intmap_place(char *word, uint64_t key, char *at) {
     uint64_t index, rest_len, place, r21, next_place;
     store_address(at, NULL);
     map = load_address(word);
-    if (map != NULL) {
-        index = load64(map + INT_MAP_MASK) & (key * MULTIPLIER);
-        if (index < load64(map + INT_MAP_LONE_LEN)) {
-            slot = load_address(map + INT_MAP_LONE) + (index * LONE_SIZE);
-            if (load8(slot + LONE_HAS_PAIR) != 1) {
-                goto after_place_intmap_place;
-            }
-            if (load64(slot + LONE_KEY) != key) {
-                goto after_place_intmap_place;
-            }
-            value_at = slot + LONE_VALUE;
+    if (map == NULL) {
+        return;
+    }
+    index = load64(map + INT_MAP_MASK) & (key * MULTIPLIER);
+    if (index < load64(map + INT_MAP_LONE_LEN)) {
+        slot = load_address(map + INT_MAP_LONE) + (index * LONE_SIZE);
+        if (load8(slot + LONE_HAS_PAIR) != 1) {
+            return;
+        }
+        if (load64(slot + LONE_KEY) != key) {
+            return;
+        }
+        value_at = slot + LONE_VALUE;
+    } else {
+        slot_2 = load_address(map + INT_MAP_SHARED) + (index * SLOT_SIZE);
+        if (load8(slot_2 + SLOT_HAS_FIRST) != 1) {
+            return;
+        }
+        if (load64(slot_2 + SLOT_KEY) == key) {
+            value_at = slot_2 + SLOT_VALUE;
         } else {
-            slot_2 = load_address(map + INT_MAP_SHARED) + (index * SLOT_SIZE);
-            if (load8(slot_2 + SLOT_HAS_FIRST) != 1) {
-                goto after_place_intmap_place;
+            rest = load_address(slot_2 + SLOT_REST);
+            rest_len = load64(slot_2 + SLOT_REST_LEN);
+            if (rest_len == 0) {
+                return;
             }
-            if (load64(slot_2 + SLOT_KEY) == key) {
-                value_at = slot_2 + SLOT_VALUE;
-            } else {
-                rest = load_address(slot_2 + SLOT_REST);
-                rest_len = load64(slot_2 + SLOT_REST_LEN);
-                if (rest_len == 0) {
-                    goto after_place_intmap_place;
+            place = 0;
+            for (;;) {
+                r21 = place << 4;
+                if (load64((rest + r21) + PAIR_KEY) == key) {
+                    value_at = (rest + r21) + PAIR_VALUE;
+                    break;
                 }
-                place = 0;
-                for (;;) {
-                    r21 = place << 4;
-                    if (load64((rest + r21) + PAIR_KEY) == key) {
-                        value_at = (rest + r21) + PAIR_VALUE;
-                        break;
-                    }
-                    next_place = place + 1;
-                    if (next_place == rest_len) {
-                        goto after_place_intmap_place;
-                    }
-                    place = next_place;
+                next_place = place + 1;
+                if (next_place == rest_len) {
+                    return;
                 }
+                place = next_place;
             }
         }
-        store_address(at, value_at);
     }
-after_place_intmap_place:;
-    return;
+    store_address(at, value_at);
 }
 
 // The version of the code, which is 1.0.0: 10000 times the first number, 100 times the second, and the third.
@@ -2691,63 +2629,52 @@ static ALWAYS_INLINE uint32_t do_intmap_version(void) {
 // intmap_capacity, in crates/intmap_c/src/read.rt
 static ALWAYS_INLINE uint64_t do_intmap_capacity(char *word) {
     char *map;
-    uint64_t r4_0;
     map = load_address(word);
     if (map == NULL) {
-        r4_0 = 4;
-    } else {
-        r4_0 = load64(map + INT_MAP_SHARED_LEN) + load64(map + INT_MAP_LONE_LEN);
+        return 4;
     }
-    return r4_0;
+    return load64(map + INT_MAP_SHARED_LEN) + load64(map + INT_MAP_LONE_LEN);
 }
 
 // Whether the key is present.
 // intmap_contains_key, in crates/intmap_c/src/read.rt
 static ALWAYS_INLINE bool do_intmap_contains_key(char *word, uint64_t key) {
     char *map, *slot, *slot_2, *rest;
-    bool r4_0, r11;
     uint64_t index, rest_len, place, next_place;
+    bool r11;
     map = load_address(word);
     if (map == NULL) {
-        r4_0 = false;
-    } else {
-        index = load64(map + INT_MAP_MASK) & (key * MULTIPLIER);
-        if (index < load64(map + INT_MAP_LONE_LEN)) {
-            slot = load_address(map + INT_MAP_LONE) + (index * LONE_SIZE);
-            if (load8(slot + LONE_HAS_PAIR) == 1) {
-                r4_0 = load64(slot + LONE_KEY) == key;
-            } else {
-                r4_0 = false;
-            }
-        } else {
-            slot_2 = load_address(map + INT_MAP_SHARED) + (index * SLOT_SIZE);
-            if (load8(slot_2 + SLOT_HAS_FIRST) == 1) {
-                if (load64(slot_2 + SLOT_KEY) == key) {
-                    r4_0 = true;
-                } else {
-                    rest = load_address(slot_2 + SLOT_REST);
-                    rest_len = load64(slot_2 + SLOT_REST_LEN);
-                    if (rest_len == 0) {
-                        r4_0 = false;
-                    } else {
-                        place = 0;
-                        for (;;) {
-                            r11 = load64((rest + (place << 4)) + PAIR_KEY) == key;
-                            next_place = place + 1;
-                            if (r11 ? true : (next_place == rest_len)) {
-                                r4_0 = r11;
-                                break;
-                            }
-                            place = next_place;
-                        }
-                    }
-                }
-            } else {
-                r4_0 = false;
-            }
-        }
+        return false;
     }
-    return r4_0;
+    index = load64(map + INT_MAP_MASK) & (key * MULTIPLIER);
+    if (index < load64(map + INT_MAP_LONE_LEN)) {
+        slot = load_address(map + INT_MAP_LONE) + (index * LONE_SIZE);
+        if (load8(slot + LONE_HAS_PAIR) == 1) {
+            return load64(slot + LONE_KEY) == key;
+        }
+        return false;
+    }
+    slot_2 = load_address(map + INT_MAP_SHARED) + (index * SLOT_SIZE);
+    if (load8(slot_2 + SLOT_HAS_FIRST) != 1) {
+        return false;
+    }
+    if (load64(slot_2 + SLOT_KEY) == key) {
+        return true;
+    }
+    rest = load_address(slot_2 + SLOT_REST);
+    rest_len = load64(slot_2 + SLOT_REST_LEN);
+    if (rest_len == 0) {
+        return false;
+    }
+    place = 0;
+    for (;;) {
+        r11 = load64((rest + (place << 4)) + PAIR_KEY) == key;
+        next_place = place + 1;
+        if (r11 ? true : (next_place == rest_len)) {
+            return r11;
+        }
+        place = next_place;
+    }
 }
 
 // Whether the same keys have the same values in both maps.
@@ -2755,7 +2682,7 @@ static ALWAYS_INLINE bool do_intmap_contains_key(char *word, uint64_t key) {
 static ALWAYS_INLINE bool do_intmap_equal(char *word, char *other) {
     char *map, *map_2, *r6, *words, *pair, *r1_4, *r1_7, *r1_11, *r1_14, *slot, *pair_2, *slot_2, *pair_4, *r1_19,
         *pair_5, *pair_6, *r1_23, *slot_3, *value_at, *slot_4, *pair_7, *rest;
-    bool r12, r9_0_shrunk;
+    bool r12;
     uint64_t len, words_len, bits, r6_2, r1, r1_2, r1_3, r1_5, r1_6, r1_8, r1_9, r1_10, r1_12, r33, bits_2, r60,
         r1_13, r1_15, r17, r27, index, r40, rest_len, pair_3, r1_16, r1_17, r1_18, r1_20, r1_21, r1_22, r1_24, r11_2,
         key, index_2, rest_len_2, place, r21, next_place;
@@ -2766,250 +2693,227 @@ static ALWAYS_INLINE bool do_intmap_equal(char *word, char *other) {
     r12 = map_2 == NULL;
     if (map == NULL) {
         if (r12) {
-            r9_0_shrunk = true;
-        } else {
-            r9_0_shrunk = load64(map_2 + INT_MAP_LEN) == 0;
+            return true;
         }
+        return load64(map_2 + INT_MAP_LEN) == 0;
+    }
+    len = load64(map + INT_MAP_LEN);
+    if (r12) {
+        return len == 0;
+    }
+    if (len != load64(map_2 + INT_MAP_LEN)) {
+        return false;
+    }
+    words_len = load64(map + INT_MAP_WORDS_LEN);
+    if (words_len == 0) {
+        bits = 0;
+        r6 = (char *)no_bytes;
+        r6_2 = 0;
     } else {
-        len = load64(map + INT_MAP_LEN);
-        if (r12) {
-            r9_0_shrunk = len == 0;
-        } else {
-            if (len == load64(map_2 + INT_MAP_LEN)) {
-                words_len = load64(map + INT_MAP_WORDS_LEN);
-                if (words_len == 0) {
-                    bits = 0;
-                    r6 = (char *)no_bytes;
-                    r6_2 = 0;
+        words = load_address(map + INT_MAP_WORDS);
+        bits = load64(words);
+        r6 = words + 8;
+        r6_2 = words_len - 1;
+    }
+    pair = dangling;
+    r1 = 0;
+    r1_2 = bits;
+    r1_3 = 0;
+    r1_4 = r6;
+    r1_5 = r6_2;
+    for (;;) {
+        if (r1 == 0) {
+            r1_6 = r1_5;
+            r1_7 = r1_4;
+            r1_8 = r1_3;
+            r1_9 = r1_2;
+            for (;;) {
+                if (r1_9 == 0) {
+                    r1_10 = r1_8;
+                    r1_11 = r1_7;
+                    r1_12 = r1_6;
+                    for (;;) {
+                        if (r1_12 == 0) {
+                            return true;
+                        }
+                        r33 = r1_12 - 1;
+                        bits_2 = load64(r1_11);
+                        r60 = r1_10 + 64;
+                        if (bits_2 != 0) {
+                            r1_13 = r60;
+                            r1_14 = r1_11 + 8;
+                            r1_15 = r33;
+                            r17 = bits_2;
+                            break;
+                        }
+                        r1_10 = r60;
+                        r1_11 = r1_11 + 8;
+                        r1_12 = r33;
+                    }
                 } else {
-                    words = load_address(map + INT_MAP_WORDS);
-                    bits = load64(words);
-                    r6 = words + 8;
-                    r6_2 = words_len - 1;
+                    r1_13 = r1_8;
+                    r1_14 = r1_7;
+                    r1_15 = r1_6;
+                    r17 = r1_9;
                 }
-                pair = dangling;
-                r1 = 0;
-                r1_2 = bits;
-                r1_3 = 0;
-                r1_4 = r6;
-                r1_5 = r6_2;
+                r27 = low_zeros(r17);
+                index = r27 + r1_13;
+                r40 = (r17 - 1) & r17;
+                if (load64(map + INT_MAP_LONE_LEN) == 0) {
+                    slot = load_address(map + INT_MAP_SHARED) + (index * SLOT_SIZE);
+                    has_first = load8(slot + SLOT_HAS_FIRST);
+                    pair_2 = load_address(slot + SLOT_REST);
+                    rest_len = load64(slot + SLOT_REST_LEN);
+                    r11 = has_first;
+                    pair_3 = (has_first == 1) ? ((uint64_t)(uintptr_t)(slot + SLOT_KEY)) : 0;
+                } else {
+                    slot_2 = load_address(map + INT_MAP_LONE) + (index * LONE_SIZE);
+                    has_pair = load8(slot_2 + LONE_HAS_PAIR);
+                    pair_2 = dangling;
+                    rest_len = 0;
+                    r11 = has_pair;
+                    pair_3 = (has_pair == 1) ? ((uint64_t)(uintptr_t)(slot_2 + LONE_KEY)) : 0;
+                }
+                if (r11 == 1) {
+                    pair_4 = pair_2;
+                    r1_16 = rest_len;
+                    r1_17 = r40;
+                    r1_18 = r1_13;
+                    r1_19 = r1_14;
+                    r1_20 = r1_15;
+                    pair_5 = (char *)(uintptr_t)pair_3;
+                    goto arm_6;
+                }
+                if (rest_len != 0) {
+                    pair_6 = pair_2;
+                    r1_21 = r40;
+                    r1_22 = r1_13;
+                    r1_23 = r1_14;
+                    r1_24 = r1_15;
+                    r11_2 = rest_len;
+                    break;
+                }
+                r1_6 = r1_15;
+                r1_7 = r1_14;
+                r1_8 = r1_13;
+                r1_9 = r40;
+            }
+        } else {
+            pair_6 = pair;
+            r1_21 = r1_2;
+            r1_22 = r1_3;
+            r1_23 = r1_4;
+            r1_24 = r1_5;
+            r11_2 = r1;
+        }
+        pair_4 = pair_6 + 16;
+        r1_16 = r11_2 - 1;
+        r1_17 = r1_21;
+        r1_18 = r1_22;
+        r1_19 = r1_23;
+        r1_20 = r1_24;
+        pair_5 = pair_6;
+    arm_6:;
+        key = load_key(pair_5 + PAIR_KEY);
+        index_2 = load64(map_2 + INT_MAP_MASK) & (key * MULTIPLIER);
+        if (index_2 < load64(map_2 + INT_MAP_LONE_LEN)) {
+            slot_3 = load_address(map_2 + INT_MAP_LONE) + (index_2 * LONE_SIZE);
+            if (load8(slot_3 + LONE_HAS_PAIR) != 1) {
+                return false;
+            }
+            if (load64(slot_3 + LONE_KEY) != key) {
+                return false;
+            }
+            value_at = slot_3 + LONE_VALUE;
+        } else {
+            slot_4 = load_address(map_2 + INT_MAP_SHARED) + (index_2 * SLOT_SIZE);
+            if (load8(slot_4 + SLOT_HAS_FIRST) != 1) {
+                return false;
+            }
+            if (load64(slot_4 + SLOT_KEY) == key) {
+                pair_7 = slot_4 + SLOT_KEY;
+            } else {
+                rest = load_address(slot_4 + SLOT_REST);
+                rest_len_2 = load64(slot_4 + SLOT_REST_LEN);
+                if (rest_len_2 == 0) {
+                    return false;
+                }
+                place = 0;
                 for (;;) {
-                    if (r1 == 0) {
-                        r1_6 = r1_5;
-                        r1_7 = r1_4;
-                        r1_8 = r1_3;
-                        r1_9 = r1_2;
-                        for (;;) {
-                            if (r1_9 == 0) {
-                                r1_10 = r1_8;
-                                r1_11 = r1_7;
-                                r1_12 = r1_6;
-                                for (;;) {
-                                    if (r1_12 == 0) {
-                                        r9_0_shrunk = true;
-                                        goto after_read_intmap_equal;
-                                    }
-                                    r33 = r1_12 - 1;
-                                    bits_2 = load64(r1_11);
-                                    r60 = r1_10 + 64;
-                                    if (bits_2 != 0) {
-                                        r1_13 = r60;
-                                        r1_14 = r1_11 + 8;
-                                        r1_15 = r33;
-                                        r17 = bits_2;
-                                        break;
-                                    }
-                                    r1_10 = r60;
-                                    r1_11 = r1_11 + 8;
-                                    r1_12 = r33;
-                                }
-                            } else {
-                                r1_13 = r1_8;
-                                r1_14 = r1_7;
-                                r1_15 = r1_6;
-                                r17 = r1_9;
-                            }
-                            r27 = low_zeros(r17);
-                            index = r27 + r1_13;
-                            r40 = (r17 - 1) & r17;
-                            if (load64(map + INT_MAP_LONE_LEN) == 0) {
-                                slot = load_address(map + INT_MAP_SHARED) + (index * SLOT_SIZE);
-                                has_first = load8(slot + SLOT_HAS_FIRST);
-                                pair_2 = load_address(slot + SLOT_REST);
-                                rest_len = load64(slot + SLOT_REST_LEN);
-                                r11 = has_first;
-                                pair_3 = (has_first == 1) ? ((uint64_t)(uintptr_t)(slot + SLOT_KEY)) : 0;
-                            } else {
-                                slot_2 = load_address(map + INT_MAP_LONE) + (index * LONE_SIZE);
-                                has_pair = load8(slot_2 + LONE_HAS_PAIR);
-                                pair_2 = dangling;
-                                rest_len = 0;
-                                r11 = has_pair;
-                                pair_3 = (has_pair == 1) ? ((uint64_t)(uintptr_t)(slot_2 + LONE_KEY)) : 0;
-                            }
-                            if (r11 == 1) {
-                                pair_4 = pair_2;
-                                r1_16 = rest_len;
-                                r1_17 = r40;
-                                r1_18 = r1_13;
-                                r1_19 = r1_14;
-                                r1_20 = r1_15;
-                                pair_5 = (char *)(uintptr_t)pair_3;
-                                goto arm_6;
-                            }
-                            if (rest_len != 0) {
-                                pair_6 = pair_2;
-                                r1_21 = r40;
-                                r1_22 = r1_13;
-                                r1_23 = r1_14;
-                                r1_24 = r1_15;
-                                r11_2 = rest_len;
-                                break;
-                            }
-                            r1_6 = r1_15;
-                            r1_7 = r1_14;
-                            r1_8 = r1_13;
-                            r1_9 = r40;
-                        }
-                    } else {
-                        pair_6 = pair;
-                        r1_21 = r1_2;
-                        r1_22 = r1_3;
-                        r1_23 = r1_4;
-                        r1_24 = r1_5;
-                        r11_2 = r1;
-                    }
-                    pair_4 = pair_6 + 16;
-                    r1_16 = r11_2 - 1;
-                    r1_17 = r1_21;
-                    r1_18 = r1_22;
-                    r1_19 = r1_23;
-                    r1_20 = r1_24;
-                    pair_5 = pair_6;
-                arm_6:;
-                    key = load_key(pair_5 + PAIR_KEY);
-                    index_2 = load64(map_2 + INT_MAP_MASK) & (key * MULTIPLIER);
-                    if (index_2 < load64(map_2 + INT_MAP_LONE_LEN)) {
-                        slot_3 = load_address(map_2 + INT_MAP_LONE) + (index_2 * LONE_SIZE);
-                        if (load8(slot_3 + LONE_HAS_PAIR) != 1) {
-                            r9_0_shrunk = false;
-                            break;
-                        }
-                        if (load64(slot_3 + LONE_KEY) != key) {
-                            r9_0_shrunk = false;
-                            break;
-                        }
-                        value_at = slot_3 + LONE_VALUE;
-                    } else {
-                        slot_4 = load_address(map_2 + INT_MAP_SHARED) + (index_2 * SLOT_SIZE);
-                        if (load8(slot_4 + SLOT_HAS_FIRST) != 1) {
-                            r9_0_shrunk = false;
-                            break;
-                        }
-                        if (load64(slot_4 + SLOT_KEY) == key) {
-                            pair_7 = slot_4 + SLOT_KEY;
-                        } else {
-                            rest = load_address(slot_4 + SLOT_REST);
-                            rest_len_2 = load64(slot_4 + SLOT_REST_LEN);
-                            if (rest_len_2 == 0) {
-                                r9_0_shrunk = false;
-                                break;
-                            }
-                            place = 0;
-                            for (;;) {
-                                r21 = place << 4;
-                                if (load64((rest + r21) + PAIR_KEY) == key) {
-                                    pair_7 = rest + r21;
-                                    break;
-                                }
-                                next_place = place + 1;
-                                if (next_place == rest_len_2) {
-                                    r9_0_shrunk = false;
-                                    goto after_read_intmap_equal;
-                                }
-                                place = next_place;
-                            }
-                        }
-                        value_at = pair_7 + PAIR_VALUE;
-                    }
-                    if (load64(pair_5 + PAIR_VALUE) != load64(value_at)) {
-                        r9_0_shrunk = false;
+                    r21 = place << 4;
+                    if (load64((rest + r21) + PAIR_KEY) == key) {
+                        pair_7 = rest + r21;
                         break;
                     }
-                    pair = pair_4;
-                    r1 = r1_16;
-                    r1_2 = r1_17;
-                    r1_3 = r1_18;
-                    r1_4 = r1_19;
-                    r1_5 = r1_20;
+                    next_place = place + 1;
+                    if (next_place == rest_len_2) {
+                        return false;
+                    }
+                    place = next_place;
                 }
-            } else {
-                r9_0_shrunk = false;
             }
+            value_at = pair_7 + PAIR_VALUE;
         }
+        if (load64(pair_5 + PAIR_VALUE) != load64(value_at)) {
+            return false;
+        }
+        pair = pair_4;
+        r1 = r1_16;
+        r1_2 = r1_17;
+        r1_3 = r1_18;
+        r1_4 = r1_19;
+        r1_5 = r1_20;
     }
-after_read_intmap_equal:;
-    return r9_0_shrunk;
 }
 
 // The number of slots that hold a pair.
 // intmap_filled_slots, in crates/intmap_c/src/read.rt
 static ALWAYS_INLINE uint64_t do_intmap_filled_slots(char *word) {
     char *map, *words;
-    uint64_t r4_0, words_len, r1_06, r3_05, r38, r44, r46;
+    uint64_t words_len, r1_06, r3_05, r38, r44, r46;
     map = load_address(word);
     if (map == NULL) {
-        r4_0 = 0;
-    } else {
-        words = load_address(map + INT_MAP_WORDS);
-        words_len = load64(map + INT_MAP_WORDS_LEN);
-        if (words_len == 0) {
-            r4_0 = 0;
-        } else {
-            r1_06 = 0;
-            r3_05 = 0;
-            for (;;) {
-                r38 = ones_in(load64(words + (r3_05 << 3)));
-                r44 = r38 + r1_06;
-                r46 = r3_05 + 1;
-                if (r46 == words_len) {
-                    r4_0 = r44;
-                    break;
-                }
-                r1_06 = r44;
-                r3_05 = r46;
-            }
-        }
+        return 0;
     }
-    return r4_0;
+    words = load_address(map + INT_MAP_WORDS);
+    words_len = load64(map + INT_MAP_WORDS_LEN);
+    if (words_len == 0) {
+        return 0;
+    }
+    r1_06 = 0;
+    r3_05 = 0;
+    for (;;) {
+        r38 = ones_in(load64(words + (r3_05 << 3)));
+        r44 = r38 + r1_06;
+        r46 = r3_05 + 1;
+        if (r46 == words_len) {
+            return r44;
+        }
+        r1_06 = r44;
+        r3_05 = r46;
+    }
 }
 
 // The number of pairs.
 // intmap_len, in crates/intmap_c/src/read.rt
 static ALWAYS_INLINE uint64_t do_intmap_len(char *word) {
     char *map;
-    uint64_t len;
     map = load_address(word);
     if (map == NULL) {
-        len = 0;
-    } else {
-        len = load64(map + INT_MAP_LEN);
+        return 0;
     }
-    return len;
+    return load64(map + INT_MAP_LEN);
 }
 
 // The load factor in thousandths, which is 909 if there is no map yet.
 // intmap_load_factor, in crates/intmap_c/src/read.rt
 static ALWAYS_INLINE uint64_t do_intmap_load_factor(char *word) {
     char *map;
-    uint64_t factor;
     map = load_address(word);
     if (map == NULL) {
-        factor = 909;
-    } else {
-        factor = load64(map + INT_MAP_FACTOR);
+        return 909;
     }
-    return factor;
+    return load64(map + INT_MAP_FACTOR);
 }
 
 // The value of the key.
@@ -3260,82 +3164,81 @@ static ALWAYS_INLINE void do_intmap_clear(char *handle) {
     map_address = load64(handle);
     store64(handle, 0);
     map = (char *)(uintptr_t)map_address;
-    if (map_address != 0) {
-        words_len = load64(map + INT_MAP_WORDS_LEN);
-        if (words_len == 0) {
-            bits = 0;
-            r6 = (char *)no_bytes;
-            r6_2 = 0;
-        } else {
-            words = load_address(map + INT_MAP_WORDS);
-            bits = load64(words);
-            r6 = words + 8;
-            r6_2 = words_len - 1;
-        }
-        r1 = bits;
-        r1_2 = 0;
-        r1_3 = r6;
-        r1_4 = r6_2;
-        for (;;) {
-            if (r1 == 0) {
-                r1_5 = r1_4;
-                r1_6 = r1_3;
-                r1_7 = r1_2;
-                for (;;) {
-                    if (r1_5 == 0) {
-                        words_2 = load_address(map + INT_MAP_WORDS);
-                        words_len_2 = load64(map + INT_MAP_WORDS_LEN);
-                        if (words_len_2 != 0) {
-                            r28 = words_len_2 - 1;
-                            if (r28 != 0) {
-                                memset(words_2, 0, (words_len_2 << 3) - 8);
-                            }
-                            store64(words_2 + (r28 << 3), 0);
-                        }
-                        store64(map + INT_MAP_LEN, 0);
-                        store64(handle, map_address);
-                        goto after_walk_intmap_clear;
-                    }
-                    r33 = r1_5 - 1;
-                    bits_2 = load64(r1_6);
-                    r60 = r1_7 + 64;
-                    if (bits_2 != 0) {
-                        r1_8 = bits_2;
-                        r1_9 = r60;
-                        r1_10 = r1_6 + 8;
-                        r1_11 = r33;
-                        break;
-                    }
-                    r1_5 = r33;
-                    r1_6 = r1_6 + 8;
-                    r1_7 = r60;
-                }
-            } else {
-                r1_8 = r1;
-                r1_9 = r1_2;
-                r1_10 = r1_3;
-                r1_11 = r1_4;
-            }
-            r27 = low_zeros(r1_8);
-            index = r1_9 + r27;
-            r40 = (r1_8 - 1) & r1_8;
-            if (index < load64(map + INT_MAP_LONE_LEN)) {
-                memset(load_address(map + INT_MAP_LONE) + (index * LONE_SIZE), 0, 24);
-            } else {
-                slot = load_address(map + INT_MAP_SHARED) + (index * SLOT_SIZE);
-                memset(slot, 0, 24);
-                if (load64(slot + SLOT_REST_LEN) != 0) {
-                    store64(slot + SLOT_REST_LEN, 0);
-                }
-            }
-            r1 = r40;
-            r1_2 = r1_9;
-            r1_3 = r1_10;
-            r1_4 = r1_11;
-        }
+    if (map_address == 0) {
+        return;
     }
-after_walk_intmap_clear:;
-    return;
+    words_len = load64(map + INT_MAP_WORDS_LEN);
+    if (words_len == 0) {
+        bits = 0;
+        r6 = (char *)no_bytes;
+        r6_2 = 0;
+    } else {
+        words = load_address(map + INT_MAP_WORDS);
+        bits = load64(words);
+        r6 = words + 8;
+        r6_2 = words_len - 1;
+    }
+    r1 = bits;
+    r1_2 = 0;
+    r1_3 = r6;
+    r1_4 = r6_2;
+    for (;;) {
+        if (r1 == 0) {
+            r1_5 = r1_4;
+            r1_6 = r1_3;
+            r1_7 = r1_2;
+            for (;;) {
+                if (r1_5 == 0) {
+                    words_2 = load_address(map + INT_MAP_WORDS);
+                    words_len_2 = load64(map + INT_MAP_WORDS_LEN);
+                    if (words_len_2 != 0) {
+                        r28 = words_len_2 - 1;
+                        if (r28 != 0) {
+                            memset(words_2, 0, (words_len_2 << 3) - 8);
+                        }
+                        store64(words_2 + (r28 << 3), 0);
+                    }
+                    store64(map + INT_MAP_LEN, 0);
+                    store64(handle, map_address);
+                    return;
+                }
+                r33 = r1_5 - 1;
+                bits_2 = load64(r1_6);
+                r60 = r1_7 + 64;
+                if (bits_2 != 0) {
+                    r1_8 = bits_2;
+                    r1_9 = r60;
+                    r1_10 = r1_6 + 8;
+                    r1_11 = r33;
+                    break;
+                }
+                r1_5 = r33;
+                r1_6 = r1_6 + 8;
+                r1_7 = r60;
+            }
+        } else {
+            r1_8 = r1;
+            r1_9 = r1_2;
+            r1_10 = r1_3;
+            r1_11 = r1_4;
+        }
+        r27 = low_zeros(r1_8);
+        index = r1_9 + r27;
+        r40 = (r1_8 - 1) & r1_8;
+        if (index < load64(map + INT_MAP_LONE_LEN)) {
+            memset(load_address(map + INT_MAP_LONE) + (index * LONE_SIZE), 0, 24);
+        } else {
+            slot = load_address(map + INT_MAP_SHARED) + (index * SLOT_SIZE);
+            memset(slot, 0, 24);
+            if (load64(slot + SLOT_REST_LEN) != 0) {
+                store64(slot + SLOT_REST_LEN, 0);
+            }
+        }
+        r1 = r40;
+        r1_2 = r1_9;
+        r1_3 = r1_10;
+        r1_4 = r1_11;
+    }
 }
 
 // Removes the first pair of the walk from the cursor on and returns it.
@@ -3646,7 +3549,6 @@ static ALWAYS_INLINE void do_intmap_free(char *handle) {
     map_address = load64(handle);
     store64(handle, 0);
     mem_drop((uint8_t)(map_address != 0), (char *)(uintptr_t)map_address);
-    return;
 }
 
 // Removes the pair of the key, and returns its value.
@@ -4408,9 +4310,9 @@ after_pairs_intmap_insert:;
 static ALWAYS_INLINE uint32_t do_intmap_insert_checked(char *handle, uint64_t key, uint64_t value) {
     uint64_t map_address, map_address_2, index, rest_len, place, next_place, len, r44, r8, bits, r20;
     struct byte_address r15;
-    uint32_t r6_0, r4_0;
     char *map, *slot, *slot_2, *rest, *r11, *slot_3, *slot_4, *r11_2;
     bool r16;
+    uint32_t r4_0;
     struct byte_word r53, r53_2, r86;
     uint8_t has_pair;
     uint64_t r12_room[4];
@@ -4420,8 +4322,7 @@ static ALWAYS_INLINE uint32_t do_intmap_insert_checked(char *handle, uint64_t ke
     if (map_address == 0) {
         r15 = handle_make_first();
         if (r15.first == 0) {
-            r6_0 = 4294967295u;
-            goto after_pairs_intmap_insert_checked;
+            return 4294967295u;
         }
         map = r15.second;
     } else {
@@ -4524,9 +4425,7 @@ static ALWAYS_INLINE uint32_t do_intmap_insert_checked(char *handle, uint64_t ke
     }
 after_pairs_insert_checked:;
     store64(handle, map_address_2);
-    r6_0 = r4_0;
-after_pairs_intmap_insert_checked:;
-    return r6_0;
+    return r4_0;
 }
 
 // Makes the number of slots at least the least power of two that is no less than the number of pairs plus
@@ -4535,8 +4434,8 @@ after_pairs_intmap_insert_checked:;
 static ALWAYS_INLINE uint32_t do_intmap_reserve(char *handle, uint64_t additional) {
     uint64_t map_address, map_address_2, len, r40, r2_0, r13, r13_2, a0_a1;
     struct byte_address r15;
-    uint32_t r6_0, r4_0;
     char *map;
+    uint32_t r4_0;
     uint8_t r18;
     u128 r17;
     map_address = load64(handle);
@@ -4544,8 +4443,7 @@ static ALWAYS_INLINE uint32_t do_intmap_reserve(char *handle, uint64_t additiona
     if (map_address == 0) {
         r15 = handle_make_first();
         if (r15.first == 0) {
-            r6_0 = (additional > UINT64_C(9223372036854775808)) ? 4294967294u : 4294967295u;
-            goto after_figures_intmap_reserve;
+            return (additional > UINT64_C(9223372036854775808)) ? 4294967294u : 4294967295u;
         }
         map = r15.second;
     } else {
@@ -4578,9 +4476,7 @@ static ALWAYS_INLINE uint32_t do_intmap_reserve(char *handle, uint64_t additiona
     }
 after_figures_reserve:;
     store64(handle, map_address_2);
-    r6_0 = r4_0;
-after_figures_intmap_reserve:;
-    return r6_0;
+    return r4_0;
 }
 
 // Sets the load factor in thousandths, and makes the number of slots the least doubling that meets it.
@@ -4588,17 +4484,16 @@ after_figures_intmap_reserve:;
 static ALWAYS_INLINE uint32_t do_intmap_set_load_factor(char *handle, uint64_t thousandths) {
     uint64_t map_address, map_address_2, r13, r3_09, r31;
     struct byte_address r15;
-    uint32_t r6_0, r4_0;
     char *map;
     u128 r10, r13_2, r187, r15_2, r18, r17;
+    uint32_t r4_0;
     uint8_t r18_2;
     map_address = load64(handle);
     store64(handle, 0);
     if (map_address == 0) {
         r15 = handle_make_first();
         if (r15.first == 0) {
-            r6_0 = 4294967295u;
-            goto after_figures_intmap_set_load_factor;
+            return 4294967295u;
         }
         map = r15.second;
     } else {
@@ -4642,9 +4537,7 @@ static ALWAYS_INLINE uint32_t do_intmap_set_load_factor(char *handle, uint64_t t
     r4_0 = 0;
 after_figures_set_load_factor:;
     store64(handle, map_address_2);
-    r6_0 = r4_0;
-after_figures_intmap_set_load_factor:;
-    return r6_0;
+    return r4_0;
 }
 
 // The calls of intmap.h, by value and by address as this compiler passes them.
