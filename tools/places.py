@@ -5,8 +5,7 @@ place is a type with a number of bytes behind its start; an address may be sever
 the struct's start. Where ways meet, those places stay that hold on each. So a name is only given where it is always right."""
 import re
 
-from llvm_module import NAME, TYPE, VALUE, bare
-from llvm_module import parted as operands_of
+from llvm_module import NAME, TYPE, VALUE, bare, groups_of, parted
 
 MAP = "IntMap<u64, u64, Global>"
 # C's words lead to a map, though they are declared as addresses of bytes
@@ -55,7 +54,7 @@ class Places:
             for line in (line for lines in function.blocks.values() for line in lines):
                 called = CALL.match(line.split(" = ", 1)[-1])
                 if called and called[1].strip('"') in self.calls:
-                    self.calls[called[1].strip('"')].append((function.name, [it.split()[-1] for it in operands_of(called[2])]))
+                    self.calls[called[1].strip('"')].append((function.name, [it.split()[-1] for it in parted(called[2])]))
         self.made = self.made_blocks()
         self.given, before = {}, None
         # what a call hands on is taken from the round before, so that each round only takes places away
@@ -156,13 +155,13 @@ class Places:
         if code.startswith("getelementptr "):
             return self.moved(function, code)
         if code.startswith("load "):
-            return self.behind(self.of(function, LOADED.match(code)[1]))
+            return self.behind(self.of(function, groups_of(LOADED, code)[0]))
         if part:
             return self.of_part(function, bare(part[1]), int(part[2]))
         return ()
 
     def moved(self, function, code):
-        base, by = MOVED.match(code).groups()
+        base, by = groups_of(MOVED, code)
         places = self.of(function, base)
         if not places:
             return places
@@ -231,7 +230,7 @@ class Places:
             code = function.made_by.get(bare(value), "")
         part = PART.match(code)
         if places and part and (function.name, bare(part[1])) in self.made:
-            self.made[function.name, bare(part[1])] = places
+            self.made[function.name, bare(part[1])] = meet(self.made[function.name, bare(part[1])], places)
 
     def is_for_a_map(self, function, value):
         """Whether a call returns a block in which a map is made."""
