@@ -10,8 +10,8 @@
 // of the module is written by hand, and isn't proved.
 //
 // Above each function of the module stands the first sentence of its comment in the sources, and where it
-// is. An enum for each struct has the places of its fields: a map is a block of INT_MAP_SIZE bytes. Names
-// of maps, slots, pairs, fields and indices come from the sources. All other names are the optimiser's.
+// is. An enum for each struct has the places of its fields: a map is a block of INT_MAP_SIZE bytes. Maps,
+// slots, pairs, fields and indices have the names of the sources. A name such as r12 is the optimiser's.
 //
 // Compilers: rattle-kit-13f logic dac8208d650f15bf; clang version 22.1.8
 // Sources: 01bb3fb9ed319cedba767f1ac438e2a99301a4553e2bb12b87e7b306cf353d56
