@@ -70,12 +70,12 @@ class Places:
 
     def declared(self, function, signature):
         """The name and the places of each parameter, as far as the sources tell."""
-        found = {}
-        for at, (kind, value) in enumerate(function.parameters):
-            number = int(re.sub(r"\D", "", value) or at)
-            name, its = signature[number] if number < len(signature) else (None, None)
-            found[value] = (name, self.leads_to(its) if its and its[0] in "&*" else ())
-        return found
+        known = {f"a{at}": it for at, it in enumerate(signature)}
+        found = {value: known[value] for _, value in function.parameters if value in known}
+        # the sources and the module have to agree on which are addresses
+        if any((kind == "ptr") != (found[value][1][0] in "&*") for kind, value in function.parameters if value in found):
+            return {}
+        return {value: (name, self.leads_to(kind) if kind[0] in "&*" else ()) for value, (name, kind) in found.items()}
 
     def leads_to(self, kind):
         """What an address of this type leads to."""
@@ -135,7 +135,7 @@ class Places:
         return self.found.get((function.name, bare(text))) if text[0] == "%" else None
 
     def of_parameter(self, function, value):
-        return self.given.get((function.name, value)) or self.parameters[function.name][value][1]
+        return self.given.get((function.name, value)) or self.parameters[function.name].get(value, (None, ()))[1]
 
     def of_calls(self, function, at):
         """What all calls of a function hand to one of its parameters."""

@@ -60,7 +60,7 @@ APPENDED = "i\\d*|sroa|sroa_idx|copyload|fca|extract|insert|pre-phi|pre|not|le|l
 INSERTED = rf"insertvalue ({TYPE}) ({VALUE}), ({TYPE}) ({VALUE}), (\d+)$"
 # the instructions of a block that only returns
 ENDS = re.compile(rf"(?:%{NAME} = (?:phi|insertvalue) |ret )")
-TAKEN = set("switch default case if else for do while return break continue goto new delete this common at map".split())
+TAKEN = set("switch default case if else for do while return break continue goto new delete this".split())
 FIELD_TYPES = {"i64": "word", "i32": "half", "i8": "byte", "i1": "truth", "ptr": "address"}
 FIELDS = ("first", "second", "third", "fourth")
 STEP = "    "
@@ -237,13 +237,17 @@ class FunctionInC:
 
     def name_parameters(self):
         for _, value in self.function.parameters:
-            self.names[value] = unique(self.printer.places.name(self.function, value) or value, self.taken)
+            self.names[value] = unique(self.place_name(value) or value, self.taken)
+
+    def place_name(self, value):
+        name = self.printer.places.name(self.function, value)
+        return f"{name}_" if name in TAKEN else name
 
     # Values.
 
     def variable(self, value):
         if value not in self.names:
-            self.names[value] = unique(self.printer.places.name(self.function, value) or word_of(value), self.taken)
+            self.names[value] = unique(self.place_name(value) or word_of(value), self.taken)
         return self.names[value]
 
     def assigned(self, value):
