@@ -31,12 +31,12 @@ def bare(name):
     return name.strip().lstrip("%").strip('"')
 
 
-def parted(text):
+def parted(text, opening="([{", closing=")]}"):
     """What stands between commas that no bracket and no quote holds."""
     found, depth, is_quoted = [""], 0, False
     for sign in text:
         is_quoted ^= sign == '"'
-        depth += 0 if is_quoted else (sign in "([{") - (sign in ")]}")
+        depth += 0 if is_quoted else (sign in opening) - (sign in closing)
         if sign == "," and depth == 0 and not is_quoted:
             found.append("")
         else:

@@ -8,6 +8,8 @@ from collections import defaultdict, namedtuple
 
 from crates import text_of
 from llvm_module import NAME, NUMBERED, TYPE, VALUE, bare, functions_of, groups_of, parted, result_type
+from places import MAP, Places, title
+from origins import WIDTH, Origins, path_of
 
 PARTS = "tools/portable_driver"
 # How clang prints a module: behind the optimiser, with names. Vectors have no form in C, and unrolled loops are longer
@@ -55,10 +57,13 @@ FACTOR = "-7046029254386353067"
 ADDRESS_AND_NUMBER = rf"getelementptr (?:(?:inbounds|nuw|nusw) )*i8, ptr ({VALUE}), i64 (-?\d+)$"
 # what the optimiser appends to a name
 APPENDED = "i\\d*|sroa|sroa_idx|copyload|fca|extract|insert|pre-phi|pre|not|le|lcssa|unr|ph|preheader|fr|pn"
-TAKEN = set("switch default case if else for do while return break continue goto new delete this common at map".split())
+INSERTED = rf"insertvalue ({TYPE}) ({VALUE}), ({TYPE}) ({VALUE}), (\d+)$"
+# the instructions of a block that only returns
+ENDS = re.compile(rf"(?:%{NAME} = (?:phi|insertvalue) |ret )")
+TAKEN = set("switch default case if else for do while return break continue goto new delete this".split())
 FIELD_TYPES = {"i64": "word", "i32": "half", "i8": "byte", "i1": "truth", "ptr": "address"}
 FIELDS = ("first", "second", "third", "fourth")
-WIDTH, STEP = 118, "    "
+STEP = "    "
 HELPER = re.compile(r"^static inline [^\n]*?\b(\w+)\([^\n]*\) \{(?:[^\n]*\}\n|\n.*?^\}\n)", re.M | re.S)
 
 # an expression that waits for its one use, whether it reads memory, and its contrary if it is a test
@@ -156,17 +161,16 @@ def word_of(name):
     return f"x{name}" if name[0].isdigit() else f"{name}_" if name in TAKEN else name
 
 
-def path_of(name):
-    """The modules and the name of a function of Rattle."""
-    return re.sub(r"::<.*", "", name).split("::")
-
-
 class Printer:
-    """What is known of the whole module: the names of its functions, and the structs that they return."""
+    """What is known of the whole module: the names of its functions, the structs that they return, the places of values, and
+    the types whose fields have names."""
 
-    def __init__(self, header, sources):
-        self.header, self.sources = re.sub(r"//.*", "", header), sources
+    def __init__(self, functions, texts):
+        self.origins = Origins(texts)
+        self.places = Places(functions, self.origins)
         self.names, self.taken, self.structs = {}, set(), {}
+        # types whose fields have names, and numbers that have
+        self.laid_out, self.defined = {}, {}
 
     def name(self, name):
         """A function's name in C. One that C calls has the same name, with a word before it."""
@@ -182,20 +186,31 @@ class Printer:
         self.structs.setdefault(tuple(fields_of(kind)), kind)
         return struct_name(kind)
 
-    def parameters(self, name):
-        """The names that the header gives the parameters of a call."""
-        found = re.search(rf"\b{name}\(([^)]*)\)\s*INTMAP_CALL", self.header)
-        return [re.findall(r"\w+", it)[-1] for it in parted(found[1])] if found and found[1].strip() != "void" else []
+    def constant(self, number, kind):
+        """A number, by the name that the sources give it, if any."""
+        name = self.origins.constants.get(number % (1 << bits(kind))) if kind == "i64" else None
+        if not name:
+            return constant(number, kind)
+        self.defined[name] = constant(number, kind)
+        return name
 
-    def source(self, name):
-        """The file that has a function, as far as a look tells."""
-        *modules, last = path_of(name)
-        crate = modules[0] if modules else "intmap_c"
-        there = [
-            path for path, text in self.sources.items() if f"/{crate}/" in path and re.search(rf"\bfn {re.escape(last)}\b", text)
-        ]
-        found = sorted(there, key=lambda path: -sum(it.lower() in path for it in [*modules[1:], last]))
-        return found[0] if found else f"Rattle's library {crate}"
+    def size(self, kind):
+        """The name of a type's size."""
+        self.laid_out[kind] = None
+        return f"{title(kind)}_size".upper()
+
+    def layouts(self):
+        """The enums that say where fields lie, of the types whose fields have names."""
+        layouts = self.origins.layouts
+        laid_out = {title(it): it for it in self.laid_out}
+        if laid_out:
+            yield "// Where the fields of structs lie, by the names of the sources, and how many bytes a struct has.\n"
+        for name, kind in sorted(laid_out.items(), key=lambda it: (-layouts.size(it[1]), it)):
+            places = {field or "address": at for at, (field, _) in layouts.fields(kind).items()} | {"size": layouts.size(kind)}
+            words = ",\n".join(f"{STEP}{name}_{it} = {at}".upper() for it, at in places.items())
+            yield from [*self.origins.about(kind), "enum {", words, "};"]
+        yield from (f"#define {name} {number}" for name, number in self.defined.items())
+        yield ""
 
 
 class FunctionInC:
@@ -204,6 +219,11 @@ class FunctionInC:
     def __init__(self, printer, function):
         self.printer, self.function, self.graph = printer, function, function.graph
         self.is_call_of_c = "::" not in function.name
+        # blocks that only return: each way to one ends with a return of its own. With that clang would save one register
+        # more in calls of C that return a struct
+        is_apart = self.is_call_of_c and function.result[0] == "{"
+        self.ends = {it for it, lines in function.blocks.items() if not is_apart and all(ENDS.match(line) for line in lines)}
+        self.graph.joins -= self.ends
         self.name, self.taken, self.names, self.types = printer.name(function.name), set(), {}, {}
         labels = set()
         self.labels = {it: unique(word_of(it), labels) for it in self.graph.order}
@@ -216,17 +236,18 @@ class FunctionInC:
         self.made, self.used_labels, self.left_loops, self.waiting = {}, set(), set(), {}
 
     def name_parameters(self):
-        given = self.printer.parameters(self.function.name)
-        if self.is_call_of_c and len(given) < len(self.function.parameters):
-            given = ["found", *given]
-        for at, (_, value) in enumerate(self.function.parameters):
-            self.names[value] = unique(given[at] if at < len(given) else value, self.taken)
+        for _, value in self.function.parameters:
+            self.names[value] = unique(self.place_name(value) or value, self.taken)
+
+    def place_name(self, value):
+        name = self.printer.places.name(self.function, value)
+        return f"{name}_" if name in TAKEN else name
 
     # Values.
 
     def variable(self, value):
         if value not in self.names:
-            self.names[value] = unique(word_of(value), self.taken)
+            self.names[value] = unique(self.place_name(value) or word_of(value), self.taken)
         return self.names[value]
 
     def assigned(self, value):
@@ -248,7 +269,7 @@ class FunctionInC:
         address = re.match(r"inttoptr \(i64 (-?\d+) to ptr\)", text)
         if address:
             return f"address_of({address[1]})"
-        return "(char *)no_bytes" if text[0] == "@" else constant(int(text), kind)
+        return "(char *)no_bytes" if text[0] == "@" else self.printer.constant(int(text), kind)
 
     def used(self, value, is_whole_wanted):
         if value in self.made:
@@ -279,7 +300,7 @@ class FunctionInC:
         line = self.function.made_by[value]
         word = line.split()[0]
         if word in BINARY:
-            kind, text = self.binary(word, line)
+            kind, text = self.binary(value, word, line)
         elif word == "load":
             kind, text = self.loaded(value, line)
         elif word == "icmp":
@@ -302,7 +323,7 @@ class FunctionInC:
 
     def loaded(self, value, line):
         kind, address = groups_of(rf"load ({TYPE}), ptr ({VALUE})(?:, align \d+)?$", line)
-        address = self.operand(address, "ptr", False)
+        address = self.place(address)
         users = [self.function.made_by[it] for it, _ in self.function.uses[value] if it]
         is_hashed = any(it.startswith("mul i64 ") and it.endswith(FACTOR) for it in users)
         if is_odd(kind):
@@ -324,7 +345,20 @@ class FunctionInC:
             if not further:
                 break
             base, by = further[1], by + int(further[2])
-        return f"{self.operand(base, 'ptr')} {'-' if by < 0 else '+'} {abs(by)}"
+        return self.field(base, by) or f"{self.operand(base, 'ptr')} {'-' if by < 0 else '+'} {abs(by)}"
+
+    def field(self, base, by):
+        """The address of a field, by its name; None if nobody knows that."""
+        named = self.printer.places.field_name(self.function, base, by)
+        if not named:
+            return None
+        self.printer.laid_out[named[1]] = None
+        return f"{self.operand(base, 'ptr')} + {named[0]}"
+
+    def place(self, address):
+        """Where something is read or written."""
+        is_moved = re.match(ADDRESS_AND_NUMBER, self.function.made_by.get(bare(address), ""))
+        return (None if is_moved else self.field(address, 0)) or self.operand(address, "ptr", False)
 
     def compared(self, line, is_contrary):
         how, kind, one, other = groups_of(rf"icmp (?:samesign )?(\w+) ({TYPE}) ({VALUE}), ({VALUE})$", line)
@@ -336,14 +370,15 @@ class FunctionInC:
         cast = f"(int{bits(kind)}_t)" if how[0] == "s" else "(uintptr_t)" if kind == "ptr" and how[0] == "u" else ""
         return f"{cast}{left} {sign} {cast}{right}"
 
-    def binary(self, word, line):
+    def binary(self, value, word, line):
         kind, one, other = groups_of(rf"{word} (?:(?:nuw|nsw|exact|disjoint) )*({TYPE}) ({VALUE}), ({VALUE})$", line)
         if kind == "i128":
             return kind, self.wide(word, one, other, line)
         left = self.operand(one, kind)
         if kind == "i64" and word == "add" and re.match(r"-\d", other):
             return kind, f"{left} - {constant(-int(other), kind)}"
-        right = self.operand(other, kind)
+        skipped = self.printer.places.stride_name(self.function, value) if word == "mul" else None
+        right = self.printer.size(skipped) if skipped else self.operand(other, kind)
         if kind == "i1":
             return kind, f"{left} {known(OF_TESTS, word, line)} {right}"
         # C computes with numbers of at least 32 bits, and with signs if they are shorter
@@ -397,6 +432,10 @@ class FunctionInC:
         moves = next((it for start, it in MOVES.items() if name.startswith(f"{start}.p0")), None)
         if moves:
             return f"{moves}({', '.join(given[:3])});"
+        if self.printer.places.is_for_a_map(self.function, value):
+            if given[0] != str(self.printer.origins.layouts.size(MAP)):
+                raise SystemExit(f"portable: a map has {given[0]} bytes, and in the sources another number")
+            given[0] = self.printer.size(MAP)
         helper, count = HELPERS.get(name, (None, len(given)))
         text = f"{helper or (name if name in HEAP else self.printer.name(name))}({', '.join(given[:count])});"
         uses = self.function.uses.get(value)
@@ -433,7 +472,7 @@ class FunctionInC:
         return out
 
     def insert_field(self, value, code, out):
-        kind, whole, _, part, at = groups_of(rf"insertvalue ({TYPE}) ({VALUE}), ({TYPE}) ({VALUE}), (\d+)$", code)
+        kind, whole, _, part, at = groups_of(INSERTED, code)
         self.types[value] = kind
         if bare(whole) in self.made:
             parts = list(self.made[bare(whole)][1])
@@ -456,7 +495,7 @@ class FunctionInC:
 
     def store(self, code, out):
         kind, one, address = groups_of(rf"store ({TYPE}) ({VALUE}), ptr ({VALUE})(?:, align \d+)?$", code)
-        one, address = self.operand(one, kind, False), self.operand(address, "ptr", False)
+        one, address = self.operand(one, kind, False), self.place(address)
         self.settle(out, True)
         if is_odd(kind):
             out.append(f"store_bytes({address}, {one}, {bits(kind) // 8});")
@@ -524,6 +563,8 @@ class FunctionInC:
 
     def edge(self, block, other, following, loop):
         """The lines from a block to one that it leads to."""
+        if other in self.ends:
+            return [self.end(other, {value: cases[block] for value, _, cases in self.function.joined[other]})], False
         waiting = dict(self.waiting)
         out = self.joined(block, other)
         waiting = {it: waiting[it] for it in waiting if it in self.waiting}
@@ -567,8 +608,7 @@ class FunctionInC:
         out, last = self.statements(block), self.function.blocks[block][-1]
         word, first, goes_on = last.split()[0], joins[0] if joins else following, False
         if word == "ret":
-            kind, value = groups_of(rf"ret ({TYPE})(?: ({VALUE}))?$", last)
-            out.append("return;" if kind == "void" else f"return {self.operand(value, kind, False)};")
+            out.append(self.end(block, {}))
         elif word == "unreachable":
             out += ["abort();"] if out[-1:] != ["abort();"] else []
         elif word == "switch":
@@ -584,6 +624,20 @@ class FunctionInC:
             lines, goes_on = self.rest(joins, following, loop)
             out += lines
         return out, goes_on
+
+    def end(self, block, given):
+        """The return of a block, where values that it joins are given."""
+        kind, value = groups_of(rf"ret ({TYPE})(?: ({VALUE}))?$", self.function.blocks[block][-1])
+        if kind == "void":
+            return "return;"
+        code, parts = self.function.made_by.get(bare(value), ""), {}
+        while given and code.startswith("insertvalue "):
+            _, whole, _, part, at = groups_of(INSERTED, code)
+            parts.setdefault(int(at), given.get(bare(part), part))
+            code = self.function.made_by.get(bare(whole), "")
+        if parts:
+            self.made[bare(value)] = (kind, [parts.get(at, "poison") for at in range(len(fields_of(kind)))])
+        return f"return {self.operand(given.get(bare(value), value), kind, False)};"
 
     def switch(self, block, last, following):
         kind, value, otherwise, cases = groups_of(rf"switch ({TYPE}) ({VALUE}), label (%{NAME}) \[ (.*) \]$", last)
@@ -667,10 +721,10 @@ class FunctionInC:
 
     def text(self):
         lines, _ = self.tree(self.graph.order[0], None, (None, None))
+        lines = lines[:-1] if lines[-1] == "return;" else lines
         body = "\n".join(lines)
         unused = [self.variable(it) for _, it in self.function.parameters if not re.search(rf"\b{self.variable(it)}\b", body)]
-        name = self.function.name.split("::<")[0]
-        whole = [f"// {name}, in {self.printer.source(self.function.name)}", f"{self.head()} {{", *self.declarations()]
+        whole = [*self.printer.origins.about(self.function.name), f"{self.head()} {{", *self.declarations()]
         return "\n".join([*whole, *(f"{STEP}(void){it};" for it in unused), *self.indented(lines), "}"])
 
 
@@ -710,10 +764,10 @@ def without_unused(text):
         text = HELPER.sub(lambda it: "" if it[1] in unused else it[0], text)
 
 
-def c_of_module(module, head, header, sources, last=f"{PARTS}/calls.c"):
-    """The whole text: `head` comes first, and the file `last` last. `header` is the text of intmap.h, and `sources` has
-    those of Rattle by path."""
-    printer, functions = Printer(header, sources), functions_of(module)
+def c_of_module(module, head, sources, last=f"{PARTS}/calls.c"):
+    """The whole text: `head` comes first, and the file `last` last. `sources` has the texts of Rattle's sources by path."""
+    functions = functions_of(module)
+    printer = Printer(functions, sources)
     for it in functions:
         printer.name(it.name)
     printed = [FunctionInC(printer, it) for it in functions]
@@ -723,5 +777,5 @@ def c_of_module(module, head, header, sources, last=f"{PARTS}/calls.c"):
             printer.struct(it.result)
     structs = "\n".join(struct_in_c(it, bodies) for it in printer.structs.values())
     heads = "\n".join(f"{it.head()};" for it in printed)
-    parts = [head + text_of(f"{PARTS}/head.c"), structs, text_of(f"{PARTS}/heap.c"), heads, "", bodies, "", text_of(last)]
+    parts = [head + text_of(f"{PARTS}/head.c"), structs, text_of(f"{PARTS}/heap.c"), *printer.layouts(), heads, "", bodies, "", text_of(last)]
     return without_unused("\n".join(parts))

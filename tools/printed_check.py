@@ -100,7 +100,7 @@ def wrong_samples(compiler, room):
         yield said
         return
     with open(f"{room}/samples.c", "w", encoding="utf-8") as file:
-        file.write(c_of_module(text_of(f"{room}/samples.ll"), "#define PRINTED\n", "", {}, SAMPLES))
+        file.write(c_of_module(text_of(f"{room}/samples.ll"), "#define PRINTED\n", {}, SAMPLES))
     for words in ([], ["-DINTMAP_PLAIN_C"]):
         program = f"{room}/samples"
         status, said = told(compiler, "-O2", "-w", f"-I{FOLDER}", *words, SAMPLES, f"{room}/samples.c", "-o", program)

@@ -6,18 +6,15 @@
 //
 // Each function that intmap.h declares is compiled from Rattle code that is proved to keep its
 // contract. This file is that code as its compiler hands it to LLVM, behind LLVM's optimiser, printed as
-// C by tools/printed of the repository. It isn't to be edited. Above each function of the module stands
-// where its source is. What comes before and behind these functions is written by hand, and isn't proved.
+// C by tools/printed of the repository. It isn't to be edited. What comes before and behind the functions
+// of the module is written by hand, and isn't proved.
 //
-// A map is a block of 80 bytes, in words of 8: at 0 the number of slots less one; at 8, 16 and 24 the
-// bits that tell which slots hold a pair, by address, number of words and room; at 32, 40 and 48 the
-// slots, by address, number and room; at 56 the number of pairs, at 64 up to how many the load factor
-// is met, and at 72 the load factor. A slot has 48 bytes: at 0 whether it has a first pair, at 8 and 16
-// that pair's key and value, at 24, 32 and 40 the pairs behind it, by address, number and room. These
-// have 16 bytes each.
+// Above each function of the module stands the first sentence of its comment in the sources, and where it
+// is. An enum for each struct has the places of its fields: a map is a block of INT_MAP_SIZE bytes. Maps,
+// slots, pairs, fields and indices have the names of the sources. A name such as r12 is the optimiser's.
 //
 // Compilers: rattle-kit-13f logic dac8208d650f15bf; clang version 22.1.8
-// Sources: fa09939632d7f792dd0c88ee3c3fef89c0af4761419ee9e722d98fabdc04845f
+// Sources: 01bb3fb9ed319cedba767f1ac438e2a99301a4553e2bb12b87e7b306cf353d56
 //
 // SPDX-License-Identifier: MIT
 //
@@ -371,91 +368,170 @@ static inline void rattle_dealloc(char *block) {
 
 // The functions of the module.
 
-static ALIGNED void mem_drop(uint8_t a0, char *a1);
-static ALIGNED uint32_t make_keep(char *a0, char *a1);
-static ALIGNED void intmap_with_slots(char *a0, uint64_t a1);
-static ALIGNED void grow_reserve_slots(char *a0, char *a1, uint64_t a2);
-static ALIGNED struct byte_address handle_take_or_make(char *a0);
-static ALIGNED NOINLINE void intmap_add_growing(char *a0, char *a1, uint64_t a2, uint64_t a3, uint64_t a4, uint64_t a5);
-static ALIGNED uint8_t slots_grow(char *a0, uint64_t a1, bool a2);
-static ALIGNED uint8_t grow_lone_grow_lone(char *a0, char *a1, uint64_t a2);
-static ALIGNED void grow_reserve_slots_2(char *a0, char *a1, uint64_t a2);
-static ALIGNED NOINLINE uint8_t slot_reserve_behind(char *a0, uint64_t a1);
-static ALIGNED NOINLINE void place_move_several(char *a0, char *a1, uint64_t a2, uint64_t a3, char *a4);
-static COLD bool vec_grow_amortized(char *a0, uint64_t a1);
-static ALIGNED NOINLINE void edits_mirror(char *a0, char *a3, uint64_t a5);
-static ALIGNED NOINLINE struct byte_word slots_push_second(char *a0, uint64_t a1, uint64_t a2, uint64_t a3);
-static ALIGNED NOINLINE struct byte_word slot_push(char *a0, uint64_t a1, uint64_t a2);
-static ALWAYS_INLINE void do_intmap_place(char *map, uint64_t key, char *at);
+// Where the fields of structs lie, by the names of the sources, and how many bytes a struct has.
+
+// A hash map from integer keys to values.
+// IntMap<u64, u64, Global>, in crates/intmap/src/map.rt
+enum {
+    INT_MAP_MASK = 0,
+    INT_MAP_WORDS = 8,
+    INT_MAP_WORDS_LEN = 16,
+    INT_MAP_WORDS_ROOM = 24,
+    INT_MAP_LONE = 32,
+    INT_MAP_LONE_LEN = 40,
+    INT_MAP_LONE_ROOM = 48,
+    INT_MAP_SHARED = 56,
+    INT_MAP_SHARED_LEN = 64,
+    INT_MAP_SHARED_ROOM = 72,
+    INT_MAP_LEN = 80,
+    INT_MAP_THRESHOLD = 88,
+    INT_MAP_FACTOR = 96,
+    INT_MAP_SIZE = 104
+};
+// Pairs in order, with room for further ones.
+// Slot<u64, Kept<u64>, Global>, in crates/intmap_table/src/slot.rt
+enum {
+    SLOT_HAS_FIRST = 0,
+    SLOT_KEY = 8,
+    SLOT_VALUE = 16,
+    SLOT_REST = 24,
+    SLOT_REST_LEN = 32,
+    SLOT_REST_ROOM = 40,
+    SLOT_SIZE = 48
+};
+// One bit for each index: whether it is marked.
+// Bits<Global>, in crates/intmap_table/src/bits.rt
+enum {
+    BITS_WORDS = 0,
+    BITS_WORDS_LEN = 8,
+    BITS_WORDS_ROOM = 16,
+    BITS_SIZE = 24
+};
+// A pair, if there is one.
+// FoundPair, in crates/intmap_c/src/answer.rt
+enum {
+    FOUND_PAIR_KEY = 0,
+    FOUND_PAIR_VALUE = 8,
+    FOUND_PAIR_STATUS = 16,
+    FOUND_PAIR_SIZE = 24
+};
+// A place for one pair.
+// Lone<u64, Kept<u64>>, in crates/intmap_table/src/lone.rt
+enum {
+    LONE_HAS_PAIR = 0,
+    LONE_KEY = 8,
+    LONE_VALUE = 16,
+    LONE_SIZE = 24
+};
+// Vec, in Rattle's library
+enum {
+    VEC_ADDRESS = 0,
+    VEC_LEN = 8,
+    VEC_ROOM = 16,
+    VEC_SIZE = 24
+};
+// A place of a walk: before the pair at this place of this slot or, if there is none, before the pairs of the slots
+// behind it.
+// Cursor, in crates/intmap_table/src/table/walk.rt
+enum {
+    CURSOR_SLOT = 0,
+    CURSOR_PLACE = 8,
+    CURSOR_SIZE = 16
+};
+// (Stored<u64>, Kept<u64>)
+enum {
+    PAIR_KEY = 0,
+    PAIR_VALUE = 8,
+    PAIR_SIZE = 16
+};
+#define MULTIPLIER UINT64_C(11400714819323198549)
+
+static ALIGNED void mem_drop(uint8_t a0, char *map);
+static ALIGNED uint32_t make_keep(char *handle, char *a1);
+static ALIGNED void intmap_with_slots(char *result, uint64_t slots);
+static ALIGNED void grow_reserve_slots(char *result, char *slots, uint64_t capacity);
+static ALIGNED NOINLINE struct byte_address handle_make_first(void);
+static ALIGNED NOINLINE void intmap_add_growing(char *result, char *map, uint64_t len, uint64_t slot, uint64_t key, uint64_t value);
+static ALIGNED uint8_t slots_grow(char *map, uint64_t capacity, bool may_part);
+static ALIGNED uint8_t grow_lone_grow_lone(char *lone, char *directory, uint64_t capacity);
+static ALIGNED void grow_reserve_slots_2(char *result, char *slots, uint64_t capacity);
+static ALIGNED NOINLINE uint8_t slot_reserve_behind(char *slot, uint64_t count);
+static ALIGNED NOINLINE void place_move_several(char *bits, char *slots, uint64_t slots_len, uint64_t index, char *buffer);
+static COLD bool vec_grow_amortized(char *vec, uint64_t a1);
+static ALIGNED NOINLINE void edits_mirror(char *pair, char *pair_2, uint64_t a5);
+static ALIGNED NOINLINE struct byte_word slots_push_second(char *map, uint64_t index, uint64_t key, uint64_t value);
+static ALIGNED NOINLINE struct byte_word slot_push(char *slot, uint64_t key, uint64_t value);
+static ALWAYS_INLINE void do_intmap_place(char *word, uint64_t key, char *at);
 static ALWAYS_INLINE uint32_t do_intmap_version(void);
-static ALWAYS_INLINE uint64_t do_intmap_capacity(char *map);
-static ALWAYS_INLINE bool do_intmap_contains_key(char *map, uint64_t key);
-static ALWAYS_INLINE bool do_intmap_equal(char *map, char *other);
-static ALWAYS_INLINE uint64_t do_intmap_filled_slots(char *map);
-static ALWAYS_INLINE uint64_t do_intmap_len(char *map);
-static ALWAYS_INLINE uint64_t do_intmap_load_factor(char *map);
-static ALWAYS_INLINE struct word_word do_intmap_get(char *map, uint64_t key);
-static ALWAYS_INLINE char *do_intmap_step(char *found, char *map, char *at);
-static ALWAYS_INLINE struct word_word do_intmap_add_present(char *map, uint64_t key, uint64_t more);
-static ALWAYS_INLINE void do_intmap_clear(char *map);
-static ALWAYS_INLINE char *do_intmap_cut(char *found, char *map, char *at);
-static ALWAYS_INLINE void do_intmap_free(char *map);
-static ALWAYS_INLINE struct word_word do_intmap_remove(char *map, uint64_t key);
-static ALWAYS_INLINE struct word_word do_intmap_replace(char *map, uint64_t key, uint64_t value);
-static ALWAYS_INLINE uint32_t do_intmap_clone(char *map, char *to);
-static ALWAYS_INLINE uint32_t do_intmap_with_capacity(char *map, uint64_t capacity);
-static ALWAYS_INLINE struct word_word do_intmap_add_or_insert(char *map, uint64_t key, uint64_t more);
-static ALWAYS_INLINE struct word_word do_intmap_insert(char *map, uint64_t key, uint64_t value);
-static ALWAYS_INLINE uint32_t do_intmap_insert_checked(char *map, uint64_t key, uint64_t value);
-static ALWAYS_INLINE uint32_t do_intmap_reserve(char *map, uint64_t additional);
-static ALWAYS_INLINE uint32_t do_intmap_set_load_factor(char *map, uint64_t thousandths);
+static ALWAYS_INLINE uint64_t do_intmap_capacity(char *word);
+static ALWAYS_INLINE bool do_intmap_contains_key(char *word, uint64_t key);
+static ALWAYS_INLINE bool do_intmap_equal(char *word, char *other);
+static ALWAYS_INLINE uint64_t do_intmap_filled_slots(char *word);
+static ALWAYS_INLINE uint64_t do_intmap_len(char *word);
+static ALWAYS_INLINE uint64_t do_intmap_load_factor(char *word);
+static ALWAYS_INLINE struct word_word do_intmap_get(char *word, uint64_t key);
+static ALWAYS_INLINE char *do_intmap_step(char *result, char *word, char *at);
+static ALWAYS_INLINE struct word_word do_intmap_add_present(char *handle, uint64_t key, uint64_t more);
+static ALWAYS_INLINE void do_intmap_clear(char *handle);
+static ALWAYS_INLINE char *do_intmap_cut(char *result, char *handle, char *at);
+static ALWAYS_INLINE void do_intmap_free(char *handle);
+static ALWAYS_INLINE struct word_word do_intmap_remove(char *handle, uint64_t key);
+static ALWAYS_INLINE struct word_word do_intmap_replace(char *handle, uint64_t key, uint64_t value);
+static ALWAYS_INLINE uint32_t do_intmap_clone(char *word, char *to);
+static ALWAYS_INLINE uint32_t do_intmap_with_capacity(char *handle, uint64_t capacity);
+static ALWAYS_INLINE struct word_word do_intmap_add_or_insert(char *handle, uint64_t key, uint64_t more);
+static ALWAYS_INLINE struct word_word do_intmap_insert(char *handle, uint64_t key, uint64_t value);
+static ALWAYS_INLINE uint32_t do_intmap_insert_checked(char *handle, uint64_t key, uint64_t value);
+static ALWAYS_INLINE uint32_t do_intmap_reserve(char *handle, uint64_t additional);
+static ALWAYS_INLINE uint32_t do_intmap_set_load_factor(char *handle, uint64_t thousandths);
 
 // core::mem::drop, in Rattle's library core
-static ALIGNED void mem_drop(uint8_t a0, char *a1) {
-    char *r4, *r4_2, *r4_4, *r9;
-    uint64_t r4_3, r4_5, r4_6, r4_7, r0_06, r12;
-    if ((a0 & 1) != 0) {
-        r4 = load_address(a1 + 8);
-        r4_2 = load_address(a1 + 32);
-        r4_3 = load64(a1 + 48);
-        r4_4 = load_address(a1 + 56);
-        r4_5 = load64(a1 + 64);
-        r4_6 = load64(a1 + 72);
-        r4_7 = load64(a1 + 24);
-        rattle_dealloc(a1);
-        if (r4_7 != 0) {
-            rattle_dealloc(r4);
-        }
-        if (r4_3 != 0) {
-            rattle_dealloc(r4_2);
-        }
-        if (r4_5 != 0) {
-            r0_06 = 0;
-            for (;;) {
-                r9 = r4_4 + (r0_06 * 48);
-                if (load64(r9 + 40) != 0) {
-                    rattle_dealloc(load_address(r9 + 24));
-                }
-                r12 = r0_06 + 1;
-                if (r12 == r4_5) {
-                    break;
-                }
-                r0_06 = r12;
+static ALIGNED void mem_drop(uint8_t a0, char *map) {
+    char *words, *lone, *shared, *slot;
+    uint64_t lone_room, shared_len, shared_room, words_room, index, next_index;
+    if ((a0 & 1) == 0) {
+        return;
+    }
+    words = load_address(map + INT_MAP_WORDS);
+    lone = load_address(map + INT_MAP_LONE);
+    lone_room = load64(map + INT_MAP_LONE_ROOM);
+    shared = load_address(map + INT_MAP_SHARED);
+    shared_len = load64(map + INT_MAP_SHARED_LEN);
+    shared_room = load64(map + INT_MAP_SHARED_ROOM);
+    words_room = load64(map + INT_MAP_WORDS_ROOM);
+    rattle_dealloc(map);
+    if (words_room != 0) {
+        rattle_dealloc(words);
+    }
+    if (lone_room != 0) {
+        rattle_dealloc(lone);
+    }
+    if (shared_len != 0) {
+        index = 0;
+        for (;;) {
+            slot = shared + (index * SLOT_SIZE);
+            if (load64(slot + SLOT_REST_ROOM) != 0) {
+                rattle_dealloc(load_address(slot + SLOT_REST));
             }
-        }
-        if (r4_6 != 0) {
-            rattle_dealloc(r4_4);
+            next_index = index + 1;
+            if (next_index == shared_len) {
+                break;
+            }
+            index = next_index;
         }
     }
-    return;
+    if (shared_room == 0) {
+        return;
+    }
+    rattle_dealloc(shared);
 }
 
+// Puts a new map into the handle and returns `OK`.
 // intmap_c::make::keep, in crates/intmap_c/src/make.rt
-static ALIGNED uint32_t make_keep(char *a0, char *a1) {
-    char *r2_2, *r2_3, *r2_6, *r2_9, *x1, *r9;
-    uint64_t r2_4, r2_5, r2_7, r2_8, r2_10, r2_11, r3, r0_06, r12;
-    struct word_word r0;
-    uint32_t common_ret_op;
+static ALIGNED uint32_t make_keep(char *handle, char *a1) {
+    char *r2_2, *r2_3, *r2_6, *r2_9, *map, *r9;
+    uint64_t r2_4, r2_5, r2_7, r2_8, r2_10, r2_11, map_address, r0_06, r12;
+    struct word_word block;
     uint64_t r2_room[3];
     char *r2 = (char *)r2_room;
     r2_2 = load_address(a1 + 8);
@@ -468,69 +544,66 @@ static ALIGNED uint32_t make_keep(char *a0, char *a1) {
     r2_9 = load_address(a1 + 64);
     r2_10 = load64(a1 + 72);
     r2_11 = load64(a1 + 80);
-    if (load8(a1) == 0) {
-        memcpy(r2, a1 + 88, 24);
-        r0 = rattle_alloc(104, 8);
-        if ((r0.first & 1) != 0) {
-            x1 = (char *)(uintptr_t)r0.second;
-            store_address(x1, r2_2);
-            store_address(x1 + 8, r2_3);
-            store64(x1 + 16, r2_4);
-            store64(x1 + 24, r2_5);
-            store_address(x1 + 32, r2_6);
-            store64(x1 + 40, r2_7);
-            store64(x1 + 48, r2_8);
-            store_address(x1 + 56, r2_9);
-            store64(x1 + 64, r2_10);
-            store64(x1 + 72, r2_11);
-            memcpy(x1 + 80, r2, 24);
-            r3 = load64(a0);
-            store64(a0, r0.second);
-            mem_drop((uint8_t)(r3 != 0), (char *)(uintptr_t)r3);
-            common_ret_op = 0;
-        } else {
-            if (r2_5 != 0) {
-                rattle_dealloc(r2_3);
-            }
-            if (r2_8 != 0) {
-                rattle_dealloc(r2_6);
-            }
-            if (r2_10 != 0) {
-                r0_06 = 0;
-                for (;;) {
-                    r9 = r2_9 + (r0_06 * 48);
-                    if (load64(r9 + 40) != 0) {
-                        rattle_dealloc(load_address(r9 + 24));
-                    }
-                    r12 = r0_06 + 1;
-                    if (r12 == r2_10) {
-                        break;
-                    }
-                    r0_06 = r12;
-                }
-            }
-            if (r2_11 == 0) {
-                common_ret_op = 4294967295u;
-            } else {
-                rattle_dealloc(r2_9);
-                common_ret_op = 4294967295u;
-            }
-        }
-    } else {
-        common_ret_op = (load8(a1 + 1) == 0) ? 4294967295u : 4294967294u;
+    if (load8(a1) != 0) {
+        return (load8(a1 + 1) == 0) ? 4294967295u : 4294967294u;
     }
-    return common_ret_op;
+    memcpy(r2, a1 + 88, 24);
+    block = rattle_alloc(INT_MAP_SIZE, 8);
+    if ((block.first & 1) != 0) {
+        map = (char *)(uintptr_t)block.second;
+        store_address(map + INT_MAP_MASK, r2_2);
+        store_address(map + INT_MAP_WORDS, r2_3);
+        store64(map + INT_MAP_WORDS_LEN, r2_4);
+        store64(map + INT_MAP_WORDS_ROOM, r2_5);
+        store_address(map + INT_MAP_LONE, r2_6);
+        store64(map + INT_MAP_LONE_LEN, r2_7);
+        store64(map + INT_MAP_LONE_ROOM, r2_8);
+        store_address(map + INT_MAP_SHARED, r2_9);
+        store64(map + INT_MAP_SHARED_LEN, r2_10);
+        store64(map + INT_MAP_SHARED_ROOM, r2_11);
+        memcpy(map + INT_MAP_LEN, r2, 24);
+        map_address = load64(handle);
+        store64(handle, block.second);
+        mem_drop((uint8_t)(map_address != 0), (char *)(uintptr_t)map_address);
+        return 0;
+    }
+    if (r2_5 != 0) {
+        rattle_dealloc(r2_3);
+    }
+    if (r2_8 != 0) {
+        rattle_dealloc(r2_6);
+    }
+    if (r2_10 != 0) {
+        r0_06 = 0;
+        for (;;) {
+            r9 = r2_9 + (r0_06 * 48);
+            if (load64(r9 + 40) != 0) {
+                rattle_dealloc(load_address(r9 + 24));
+            }
+            r12 = r0_06 + 1;
+            if (r12 == r2_10) {
+                break;
+            }
+            r0_06 = r12;
+        }
+    }
+    if (r2_11 == 0) {
+        return 4294967295u;
+    }
+    rattle_dealloc(r2_9);
+    return 4294967295u;
 }
 
+// An empty map of `slots` slots.
 // intmap::map::IntMap::with_slots, in crates/intmap/src/map/build.rt
-static ALIGNED void intmap_with_slots(char *a0, uint64_t a1) {
-    uint64_t r2_3, r22, r10_014, r2_4, r32, r4_3, r4_5, r4_6, r19_2, r0_06, r12;
-    char *r0, *r20, *r4_4, *r19, *r9_2;
+static ALIGNED void intmap_with_slots(char *result, uint64_t slots) {
+    uint64_t r2_2, r22, r10_014, r2_3, r32, r4_3, r4_4, r4_5, r19_2, r0_06, r12;
+    char *r0, *r20, *dangling_2, *r19, *r9_2;
     u128 r17;
     uint8_t sink16;
-    char *r2 = (char *)no_bytes;
-    uint64_t r2_2_room[3];
-    char *r2_2 = (char *)r2_2_room;
+    char *dangling = (char *)no_bytes;
+    uint64_t r2_room[3];
+    char *r2 = (char *)r2_room;
     uint64_t r9_room[4];
     char *r9 = (char *)r9_room;
     uint64_t r6_7_room[3];
@@ -548,47 +621,47 @@ static ALIGNED void intmap_with_slots(char *a0, uint64_t a1) {
     memset(r4, 0, 24);
     memset(r4_2, 0, 40);
     memset(r9, 0, 32);
-    store_address(r2_2, r2);
-    memset(r2_2 + 8, 0, 16);
-    grow_reserve_slots(r9, r2_2, a1);
-    r2_3 = load64(r2_2 + 8);
+    store_address(r2, dangling);
+    memset(r2 + 8, 0, 16);
+    grow_reserve_slots(r9, r2, slots);
+    r2_2 = load64(r2 + 8);
     if (load8(r9) == 0) {
-        r22 = a1 - r2_3;
-        r0 = load_address(r2_2);
-        if (a1 != r2_3) {
+        r22 = slots - r2_2;
+        r0 = load_address(r2);
+        if (slots != r2_2) {
             r10_014 = 0;
-            r2_4 = r2_3;
+            r2_3 = r2_2;
             for (;;) {
-                r20 = r0 + (r2_4 * 48);
+                r20 = r0 + (r2_3 * 48);
                 memset(r20, 0, 24);
-                store_address(r20 + 24, r2);
+                store_address(r20 + 24, dangling);
                 memset(r20 + 32, 0, 16);
                 r32 = r10_014 + 1;
                 if (r32 == r22) {
                     break;
                 }
                 r10_014 = r32;
-                r2_4 = r2_4 + 1;
+                r2_3 = r2_3 + 1;
             }
         }
-        store64(r2_2 + 8, a1);
+        store64(r2 + 8, slots);
         memcpy(r6_7, r9 + 8, 24);
-        memcpy(r6_10, r2_2, 24);
+        memcpy(r6_10, r2, 24);
         memcpy(r3_5, r6_7, 24);
         memset(r3_8, 0, 16);
         memcpy(r3_8 + 16, r6_10, 24);
-        r17 = u128_less_one(u128_mul(u128_of(a1), u128_of(910u)));
+        r17 = u128_less_one(u128_mul(u128_of(slots), u128_of(910u)));
         memcpy(r4, r3_5, 24);
         memcpy(r4_2, r3_8, 40);
         sink16 = 0;
-        r4_3 = a1 - 1;
-        r4_4 = r2;
-        r4_5 = u128_above(r17, u128_two(UINT64_C(999), UINT64_C(18446744073709551615))) ? UINT64_C(18446744073709551615) : u128_low(u128_div(r17, u128_of(1000u)));
-        r4_6 = 909;
+        r4_3 = slots - 1;
+        dangling_2 = dangling;
+        r4_4 = u128_above(r17, u128_two(UINT64_C(999), UINT64_C(18446744073709551615))) ? UINT64_C(18446744073709551615) : u128_low(u128_div(r17, u128_of(1000u)));
+        r4_5 = 909;
     } else {
-        r19 = load_address(r2_2);
-        r19_2 = load64(r2_2 + 16);
-        if (r2_3 != 0) {
+        r19 = load_address(r2);
+        r19_2 = load64(r2 + 16);
+        if (r2_2 != 0) {
             r0_06 = 0;
             for (;;) {
                 r9_2 = r19 + (r0_06 * 48);
@@ -596,7 +669,7 @@ static ALIGNED void intmap_with_slots(char *a0, uint64_t a1) {
                     rattle_dealloc(load_address(r9_2 + 24));
                 }
                 r12 = r0_06 + 1;
-                if (r12 == r2_3) {
+                if (r12 == r2_2) {
                     break;
                 }
                 r0_06 = r12;
@@ -607,84 +680,84 @@ static ALIGNED void intmap_with_slots(char *a0, uint64_t a1) {
         }
         sink16 = 1;
         r4_3 = 0;
-        r4_4 = NULL;
+        dangling_2 = NULL;
+        r4_4 = 0;
         r4_5 = 0;
-        r4_6 = 0;
     }
-    store8(a0, sink16);
-    store8(a0 + 1, 0);
-    store64(a0 + 8, r4_3);
-    memcpy(a0 + 16, r4, 24);
-    store_address(a0 + 40, r4_4);
-    memcpy(a0 + 48, r4_2, 40);
-    store64(a0 + 88, 0);
-    store64(a0 + 96, r4_5);
-    store64(a0 + 104, r4_6);
-    return;
+    store8(result, sink16);
+    store8(result + 1, 0);
+    store64(result + 8, r4_3);
+    memcpy(result + 16, r4, 24);
+    store_address(result + 40, dangling_2);
+    memcpy(result + 48, r4_2, 40);
+    store64(result + 88, 0);
+    store64(result + 96, r4_4);
+    store64(result + 104, r4_5);
 }
 
+// Allocates room for `capacity` slots, the largest block by far, and then the bits of all of them.
 // intmap_table::table::slots::grow::reserve_slots, in crates/intmap_table/src/table/slots/grow.rt
-static ALIGNED void grow_reserve_slots(char *a0, char *a1, uint64_t a2) {
-    uint64_t r2_2, r19, r2_3, r4_0, r9_2, r19_2, r3, r2_4, r12;
-    struct word_word r0, r0_2, r0_3, r0_4, r0_5;
+static ALIGNED void grow_reserve_slots(char *result, char *slots, uint64_t capacity) {
+    uint64_t len, r19, room, r4_0, r9_2, r19_2, r3, len_2, r12;
+    struct word_word block, r0, block_2, block_3, block_4;
     char *r9, *r8;
-    char *r2 = (char *)no_bytes;
-    r2_2 = load64(a1 + 8);
-    r19 = a2 - r2_2;
-    r2_3 = load64(a1 + 16);
-    if (r19 > (r2_3 - r2_2)) {
-        if ((a2 < UINT64_C(192153584101141163)) & (r19 <= (r2_2 ^ UINT64_C(18446744073709551615)))) {
-            if (r2_3 == 0) {
-                r0 = rattle_alloc(a2 * 48, 8);
-                if ((r0.first & 1) == 0) {
+    char *dangling = (char *)no_bytes;
+    len = load64(slots + VEC_LEN);
+    r19 = capacity - len;
+    room = load64(slots + VEC_ROOM);
+    if (r19 > (room - len)) {
+        if ((capacity < UINT64_C(192153584101141163)) & (r19 <= (len ^ UINT64_C(18446744073709551615)))) {
+            if (room == 0) {
+                block = rattle_alloc(capacity * 48, 8);
+                if ((block.first & 1) == 0) {
                     goto arm_2;
                 }
-                r0_2 = r0;
+                r0 = block;
             } else {
-                r0_3 = rattle_realloc(load_address(a1), r2_2 * 48, a2 * 48, 8);
-                if ((r0_3.first & 1) == 0) {
+                block_2 = rattle_realloc(load_address(slots + VEC_ADDRESS), len * 48, capacity * 48, 8);
+                if ((block_2.first & 1) == 0) {
                     goto arm_2;
                 }
-                r0_2 = r0_3;
+                r0 = block_2;
             }
-            store_address(a1, (char *)(uintptr_t)r0_2.second);
-            store64(a1 + 16, a2);
+            store_address(slots + VEC_ADDRESS, (char *)(uintptr_t)r0.second);
+            store64(slots + VEC_ROOM, capacity);
             goto arm_1;
         }
     arm_2:;
-        store8(a0, 1);
-        memset(a0 + 8, 0, 24);
-        goto common_ret;
+        store8(result, 1);
+        memset(result + 8, 0, 24);
+        return;
     }
 arm_1:;
-    r4_0 = (a2 >> 6) + ((uint64_t)((a2 & 63) != 0));
-    if (a2 == 0) {
-        r9 = r2;
+    r4_0 = (capacity >> 6) + ((uint64_t)((capacity & 63) != 0));
+    if (capacity == 0) {
+        r9 = dangling;
         r9_2 = 0;
     } else {
         r19_2 = r4_0 << 3;
-        r0_4 = rattle_alloc(r19_2, 8);
-        if ((r0_4.first & 1) == 0) {
-            r2_4 = load64(a1 + 8);
-            if (load64(a1 + 16) > r2_4) {
-                if (r2_4 == 0) {
-                    rattle_dealloc(load_address(a1));
-                    store_address(a1, r2);
-                    memset(a1 + 8, 0, 16);
+        block_3 = rattle_alloc(r19_2, 8);
+        if ((block_3.first & 1) == 0) {
+            len_2 = load64(slots + VEC_LEN);
+            if (load64(slots + VEC_ROOM) > len_2) {
+                if (len_2 == 0) {
+                    rattle_dealloc(load_address(slots + VEC_ADDRESS));
+                    store_address(slots + VEC_ADDRESS, dangling);
+                    memset(slots + VEC_LEN, 0, 16);
                 } else {
-                    r12 = r2_4 * 48;
-                    r0_5 = rattle_realloc(load_address(a1), r12, r12, 8);
-                    if ((r0_5.first & 1) != 0) {
-                        store_address(a1, (char *)(uintptr_t)r0_5.second);
-                        store64(a1 + 16, r2_4);
+                    r12 = len_2 * 48;
+                    block_4 = rattle_realloc(load_address(slots + VEC_ADDRESS), r12, r12, 8);
+                    if ((block_4.first & 1) != 0) {
+                        store_address(slots + VEC_ADDRESS, (char *)(uintptr_t)block_4.second);
+                        store64(slots + VEC_ROOM, len_2);
                     }
                 }
             }
-            store8(a0, 1);
-            memset(a0 + 8, 0, 24);
-            goto common_ret;
+            store8(result, 1);
+            memset(result + 8, 0, 24);
+            return;
         }
-        r8 = (char *)(uintptr_t)r0_4.second;
+        r8 = (char *)(uintptr_t)block_3.second;
         if (r4_0 == 1) {
             r3 = 0;
         } else {
@@ -695,119 +768,105 @@ arm_1:;
         r9 = r8;
         r9_2 = r3 + 1;
     }
-    store8(a0, 0);
-    store_address(a0 + 8, r9);
-    store64(a0 + 16, r9_2);
-    store64(a0 + 24, r4_0);
-common_ret:;
-    return;
+    store8(result, 0);
+    store_address(result + 8, r9);
+    store64(result + 16, r9_2);
+    store64(result + 24, r4_0);
 }
 
-// intmap_c::handle::take_or_make, in crates/intmap_c/src/handle.rt
-static ALIGNED struct byte_address handle_take_or_make(char *a0) {
-    uint64_t r3, r7_4, r7_5, r7_7, r7_8, r7_10, r7_11, r0_06, r12;
-    char *r7_2, *r7_3, *r7_6, *r7_9, *x3, *r0_3, *r9;
-    uint8_t x1, r0_4;
-    struct word_word r0_2;
+// Makes a new map, for which there may be no memory.
+// intmap_c::handle::make_first, in crates/intmap_c/src/handle.rt
+static ALIGNED NOINLINE struct byte_address handle_make_first(void) {
+    char *r3_2, *r3_3, *r3_6, *r3_9, *x2, *r9;
+    uint64_t r3_4, r3_5, r3_7, r3_8, r3_10, r3_11, r0_06, r12;
+    uint8_t x0;
+    struct word_word block;
     uint64_t r0_room[14];
     char *r0 = (char *)r0_room;
-    uint64_t r7_room[3];
-    char *r7 = (char *)r7_room;
-    r3 = load64(a0);
-    store64(a0, 0);
-    if (r3 == 0) {
-        memset(r0, 0, 112);
-        intmap_with_slots(r0, 4);
-        r7_2 = load_address(r0 + 8);
-        r7_3 = load_address(r0 + 16);
-        r7_4 = load64(r0 + 24);
-        r7_5 = load64(r0 + 32);
-        r7_6 = load_address(r0 + 40);
-        r7_7 = load64(r0 + 48);
-        r7_8 = load64(r0 + 56);
-        r7_9 = load_address(r0 + 64);
-        r7_10 = load64(r0 + 72);
-        r7_11 = load64(r0 + 80);
-        x1 = load8(r0);
-        memcpy(r7, r0 + 88, 24);
-        if (x1 == 0) {
-            r0_2 = rattle_alloc(104, 8);
-            if ((r0_2.first & 1) != 0) {
-                x3 = (char *)(uintptr_t)r0_2.second;
-                store_address(x3, r7_2);
-                store_address(x3 + 8, r7_3);
-                store64(x3 + 16, r7_4);
-                store64(x3 + 24, r7_5);
-                store_address(x3 + 32, r7_6);
-                store64(x3 + 40, r7_7);
-                store64(x3 + 48, r7_8);
-                store_address(x3 + 56, r7_9);
-                store64(x3 + 64, r7_10);
-                store64(x3 + 72, r7_11);
-                memcpy(x3 + 80, r7, 24);
-                r0_3 = x3;
-                r0_4 = 1;
-            } else {
-                if (r7_5 != 0) {
-                    rattle_dealloc(r7_3);
-                }
-                if (r7_8 != 0) {
-                    rattle_dealloc(r7_6);
-                }
-                if (r7_10 != 0) {
-                    r0_06 = 0;
-                    for (;;) {
-                        r9 = r7_9 + (r0_06 * 48);
-                        if (load64(r9 + 40) != 0) {
-                            rattle_dealloc(load_address(r9 + 24));
-                        }
-                        r12 = r0_06 + 1;
-                        if (r12 == r7_10) {
-                            break;
-                        }
-                        r0_06 = r12;
-                    }
-                }
-                if (r7_11 == 0) {
-                    r0_3 = NULL;
-                    r0_4 = 0;
-                } else {
-                    rattle_dealloc(r7_9);
-                    r0_3 = NULL;
-                    r0_4 = 0;
-                }
-            }
-        } else {
-            r0_3 = NULL;
-            r0_4 = 0;
-        }
-    } else {
-        r0_3 = (char *)(uintptr_t)r3;
-        r0_4 = 1;
+    uint64_t r3_room[3];
+    char *r3 = (char *)r3_room;
+    memset(r0, 0, 112);
+    intmap_with_slots(r0, 4);
+    r3_2 = load_address(r0 + 8);
+    r3_3 = load_address(r0 + 16);
+    r3_4 = load64(r0 + 24);
+    r3_5 = load64(r0 + 32);
+    r3_6 = load_address(r0 + 40);
+    r3_7 = load64(r0 + 48);
+    r3_8 = load64(r0 + 56);
+    r3_9 = load_address(r0 + 64);
+    r3_10 = load64(r0 + 72);
+    r3_11 = load64(r0 + 80);
+    x0 = load8(r0);
+    memcpy(r3, r0 + 88, 24);
+    if (x0 != 0) {
+        return made_byte_address(0, NULL);
     }
-    return made_byte_address(r0_4, r0_3);
+    block = rattle_alloc(104, 8);
+    if ((block.first & 1) != 0) {
+        x2 = (char *)(uintptr_t)block.second;
+        store_address(x2, r3_2);
+        store_address(x2 + 8, r3_3);
+        store64(x2 + 16, r3_4);
+        store64(x2 + 24, r3_5);
+        store_address(x2 + 32, r3_6);
+        store64(x2 + 40, r3_7);
+        store64(x2 + 48, r3_8);
+        store_address(x2 + 56, r3_9);
+        store64(x2 + 64, r3_10);
+        store64(x2 + 72, r3_11);
+        memcpy(x2 + 80, r3, 24);
+        return made_byte_address(1, x2);
+    }
+    if (r3_5 != 0) {
+        rattle_dealloc(r3_3);
+    }
+    if (r3_8 != 0) {
+        rattle_dealloc(r3_6);
+    }
+    if (r3_10 != 0) {
+        r0_06 = 0;
+        for (;;) {
+            r9 = r3_9 + (r0_06 * 48);
+            if (load64(r9 + 40) != 0) {
+                rattle_dealloc(load_address(r9 + 24));
+            }
+            r12 = r0_06 + 1;
+            if (r12 == r3_10) {
+                break;
+            }
+            r0_06 = r12;
+        }
+    }
+    if (r3_11 == 0) {
+        return made_byte_address(0, NULL);
+    }
+    rattle_dealloc(r3_9);
+    return made_byte_address(0, NULL);
 }
 
+// Adds the pair of an absent key, if the new length exceeds the load factor, and returns where it is.
 // intmap::map::IntMap::add_growing, in crates/intmap/src/map/insert.rt
-static ALIGNED NOINLINE void intmap_add_growing(char *a0, char *a1, uint64_t a2, uint64_t a3, uint64_t a4, uint64_t a5) {
-    uint64_t r2_2, r13, r0, r3_09, r31, r8_0, r2_3, r7, r10_2, r3_3, r3_5, r1, r12_2, r12_3, r17_4, r6_2, r2_4, r2_5,
-        r33, r8, r0_8, r16, r20, r8_2, r9_6, r0_9, r0_10, r3_7, r0_11, r28, r2_6, r4, r2_7, r4_2, r2_8, r12_4, r0_15,
-        r0_16, r14, r2_9, r17_5, r27, r9_11, r34_2, r34_3, r0_06, r12_5, r10_4, common_ret_op, r17_2;
+static ALIGNED NOINLINE void intmap_add_growing(char *result, char *map, uint64_t len, uint64_t slot, uint64_t key, uint64_t value) {
+    uint64_t lone_len, r13, r0, r3_09, r31, r8_0, r2, hash, index, pair, rest_len, r1, r12_2, r12_3, rest_len_2, r6,
+        rest_len_3, rest_room, r33, r8, place, bits, r20, r8_2, bits_2, value_2, value_3, rest_len_4, value_4,
+        place_2, value_5, value_6, value_7, value_8, rest_len_5, r12_4, lone_len_2, lone_room, index_2, r2_2, r17_4,
+        r27, r9_2, shared_len, shared_room, index_3, next_index, index_4, rest_len_6, r17_2;
     u128 r10, r13_2, r187, r15, r18, r17;
-    bool r5, r0_2, r0_6, r0_7, r13_3;
-    char *r11, *r3_4, *r11_2, *r6, *r11_4, *r9, *r9_2, *r5_2, *r9_3, *r5_3, *r11_6, *r9_4, *r9_5, *r11_8, *r9_7,
-        *r9_8, *r23, *r18_2, *r23_2, *x21, *r9_9, *r8_3, *r10_472_0_ph102, *r8_4, *r4_3, *r25, *r20_2, *r9_10, *r4_4,
-        *r10_3, *r4_5, *r15_2, *r34, *r9_12;
-    uint8_t r3, r3_2, r3_6, r12, r11_5, r17_3, r11_7, r69, r11_9, r11_10, r5099, r50;
-    struct word_word r0_3, r0_4, r0_5, r0_12, r0_13, r0_14;
+    bool r5, r0_2, r0_4, r0_5, r13_3;
+    char *slot_2, *pair_2, *slot_3, *pair_3, *r11, *slot_4, *slot_5, *shared, *slot_6, *shared_2, *r11_2, *slot_7,
+        *slot_8, *r11_4, *slot_9, *slot_10, *pair_4, *rest, *pair_5, *pair_6, *slot_11, *r8_3, *r10_472_0_ph102,
+        *r8_4, *lone, *slot_12, *r20_2, *r9, *r4, *r10_2, *r4_2, *r15_2, *shared_3, *slot_13;
+    uint8_t has_first, r3, has_pair, r12, has_pair_2, r17_3, has_pair_3, r69, has_pair_4, has_first_2, r5099, r50;
+    struct word_word block, r0_3, block_2, block_3, block_4, block_5;
     struct byte_word r53, r53_2, r86;
-    char *r2 = (char *)no_bytes;
+    char *dangling = (char *)no_bytes;
     uint64_t r11_3_room[2];
     char *r11_3 = (char *)r11_3_room;
-    r2_2 = load64(a1 + 40);
-    r13 = load64(a1 + 64) + r2_2;
-    r10 = u128_mul(u128_of(a2), u128_of(1000u));
-    r13_2 = u128_add(u128_of(load64(a1 + 96)), u128_of(1u));
+    lone_len = load64(map + INT_MAP_LONE_LEN);
+    r13 = load64(map + INT_MAP_SHARED_LEN) + lone_len;
+    r10 = u128_mul(u128_of(len), u128_of(1000u));
+    r13_2 = u128_add(u128_of(load64(map + INT_MAP_FACTOR)), u128_of(1u));
     r187 = u128_mul(r13_2, u128_of(r13));
     if (u128_above(r187, r10)) {
         r15 = r187;
@@ -816,12 +875,12 @@ static ALIGNED NOINLINE void intmap_add_growing(char *a0, char *a1, uint64_t a2,
         r3_09 = r13;
         for (;;) {
             if (r3_09 == UINT64_C(9223372036854775808)) {
-                store64(a0, 1);
-                store64(a0 + 8, a5);
-                store8(a0 + 16, 1);
-                store_bytes(a0 + 17, 0, 7);
-                store64(a0 + 24, 0);
-                goto common_ret;
+                store64(result, 1);
+                store64(result + 8, value);
+                store8(result + 16, 1);
+                store_bytes(result + 17, 0, 7);
+                store64(result + 24, 0);
+                return;
             }
             r31 = r3_09 << 1;
             r18 = u128_mul(r13_2, u128_of(r31));
@@ -835,86 +894,86 @@ static ALIGNED NOINLINE void intmap_add_growing(char *a0, char *a1, uint64_t a2,
     }
     r17 = u128_less_one(r15);
     r8_0 = u128_above(r17, u128_two(UINT64_C(999), UINT64_C(18446744073709551615))) ? UINT64_C(18446744073709551615) : u128_low(u128_div(r17, u128_of(1000u)));
-    r2_3 = r0 - 1;
-    r7 = a4 * UINT64_C(11400714819323198549);
-    r10_2 = r2_3 & r7;
-    r5 = r2_2 == 0;
+    r2 = r0 - 1;
+    hash = key * MULTIPLIER;
+    index = r2 & hash;
+    r5 = lone_len == 0;
     if (r5) {
-        r11 = load_address(a1 + 56) + (a3 * 48);
-        r3 = load8(r11);
-        r3_2 = r3;
-        r3_3 = (r3 == 1) ? ((uint64_t)(uintptr_t)(r11 + 8)) : 0;
-        r3_4 = load_address(r11 + 24);
-        r3_5 = load64(r11 + 32);
+        slot_2 = load_address(map + INT_MAP_SHARED) + (slot * SLOT_SIZE);
+        has_first = load8(slot_2 + SLOT_HAS_FIRST);
+        r3 = has_first;
+        pair = (has_first == 1) ? ((uint64_t)(uintptr_t)(slot_2 + SLOT_KEY)) : 0;
+        pair_2 = load_address(slot_2 + SLOT_REST);
+        rest_len = load64(slot_2 + SLOT_REST_LEN);
     } else {
-        r11_2 = load_address(a1 + 32) + (a3 * 24);
-        r3_6 = load8(r11_2);
-        r3_2 = r3_6;
-        r3_3 = (r3_6 == 1) ? ((uint64_t)(uintptr_t)(r11_2 + 8)) : 0;
-        r3_4 = r2;
-        r3_5 = 0;
+        slot_3 = load_address(map + INT_MAP_LONE) + (slot * LONE_SIZE);
+        has_pair = load8(slot_3 + LONE_HAS_PAIR);
+        r3 = has_pair;
+        pair = (has_pair == 1) ? ((uint64_t)(uintptr_t)(slot_3 + LONE_KEY)) : 0;
+        pair_2 = dangling;
+        rest_len = 0;
     }
-    if (r3_2 == 1) {
-        if (((load64((char *)(uintptr_t)r3_3) * UINT64_C(11400714819323198549)) & r2_3) == r10_2) {
+    if (r3 == 1) {
+        if (((load64(((char *)(uintptr_t)pair) + PAIR_KEY) * MULTIPLIER) & r2) == index) {
             goto join_3_2;
         }
     }
-    r6 = r3_4;
-    r1 = r3_5;
+    pair_3 = pair_2;
+    r1 = rest_len;
     for (;;) {
         if (r1 == 0) {
-            r12 = slots_grow(a1, r0, true);
+            r12 = slots_grow(map, r0, true);
             if (r12 != 0) {
-                r12_2 = a5;
+                r12_2 = value;
                 r12_3 = 1;
                 r17_2 = 0;
                 r17_3 = 0;
-                r17_4 = 0;
+                rest_len_2 = 0;
                 goto join_7_3;
             }
-            r11_4 = load_address(a1 + 8) + ((r10_2 >> 3) & UINT64_C(2305843009213693944));
-            store64(r11_4, load64(r11_4) | ((uint64_t)1 << (r10_2 & 63)));
-            if (r10_2 >= load64(a1 + 40)) {
-                r9_2 = load_address(a1 + 56) + (r10_2 * 48);
-                store64(r9_2, 1);
-                store64(r9_2 + 8, a4);
-                store64(r9_2 + 16, a5);
+            r11 = load_address(map + INT_MAP_WORDS) + ((index >> 3) & UINT64_C(2305843009213693944));
+            store64(r11, load64(r11) | ((uint64_t)1 << (index & 63)));
+            if (index >= load64(map + INT_MAP_LONE_LEN)) {
+                slot_5 = load_address(map + INT_MAP_SHARED) + (index * SLOT_SIZE);
+                store64(slot_5 + SLOT_HAS_FIRST, 1);
+                store64(slot_5 + SLOT_KEY, key);
+                store64(slot_5 + SLOT_VALUE, value);
                 goto arm_1_4;
             }
-            r9 = load_address(a1 + 32) + (r10_2 * 24);
-            r11_5 = load8(r9);
-            store64(r9, 1);
-            store64(r9 + 8, a4);
-            store64(r9 + 16, a5);
-            if (r11_5 == 0) {
+            slot_4 = load_address(map + INT_MAP_LONE) + (index * LONE_SIZE);
+            has_pair_2 = load8(slot_4 + LONE_HAS_PAIR);
+            store64(slot_4 + LONE_HAS_PAIR, 1);
+            store64(slot_4 + LONE_KEY, key);
+            store64(slot_4 + LONE_VALUE, value);
+            if (has_pair_2 == 0) {
                 goto arm_1_4;
             }
             abort();
         }
-        if (((load64(r6) * UINT64_C(11400714819323198549)) & r2_3) == r10_2) {
+        if (((load64(pair_3 + PAIR_KEY) * MULTIPLIER) & r2) == index) {
             break;
         }
-        r6 = r6 + 16;
+        pair_3 = pair_3 + 16;
         r1 = r1 - 1;
     }
 join_3_2:;
     if (!r5) {
-        r0_13 = rattle_alloc(16, 8);
-        if ((r0_13.first & 1) == 0) {
-            r12_2 = a5;
+        block_4 = rattle_alloc(16, 8);
+        if ((block_4.first & 1) == 0) {
+            r12_2 = value;
             r12_3 = 1;
             r17_2 = 0;
             r17_3 = 0;
-            r17_4 = 0;
+            rest_len_2 = 0;
             goto join_7_3;
         }
-        r8_3 = (char *)(uintptr_t)r0_13.second;
+        r8_3 = (char *)(uintptr_t)block_4.second;
         if (r0 != 0) {
             if (r0 < UINT64_C(192153584101141163)) {
-                r0_14 = rattle_alloc(r0 * 48, 8);
-                if ((r0_14.first & 1) != 0) {
-                    r8_4 = (char *)(uintptr_t)r0_14.second;
-                    r50 = grow_lone_grow_lone(a1 + 32, a1, r0);
+                block_5 = rattle_alloc(r0 * 48, 8);
+                if ((block_5.first & 1) != 0) {
+                    r8_4 = (char *)(uintptr_t)block_5.second;
+                    r50 = grow_lone_grow_lone(map + INT_MAP_LONE, map, r0);
                     if ((r50 & 1) != 0) {
                         rattle_dealloc(r8_4);
                         goto after_Vec_drop_3;
@@ -924,203 +983,203 @@ join_3_2:;
                 }
             }
             rattle_dealloc(r8_3);
-            r12_2 = a5;
+            r12_2 = value;
             r12_3 = 1;
             r17_2 = 0;
             r17_3 = 0;
-            r17_4 = 0;
+            rest_len_2 = 0;
             goto join_7_3;
         }
-        r5099 = grow_lone_grow_lone(a1 + 32, a1, 0);
+        r5099 = grow_lone_grow_lone(map + INT_MAP_LONE, map, 0);
         if ((r5099 & 1) != 0) {
             goto after_Vec_drop_3;
         }
-        r10_472_0_ph102 = r2;
+        r10_472_0_ph102 = dangling;
     join_11:;
-        r4_3 = load_address(a1 + 32);
-        r0_15 = load64(a1 + 40);
-        r0_16 = load64(a1 + 48);
-        store_address(a1 + 32, r2);
-        memset(a1 + 40, 0, 16);
-        if (r0_15 != 0) {
-            r14 = 0;
-            r2_9 = r0_15;
+        lone = load_address(map + INT_MAP_LONE);
+        lone_len_2 = load64(map + INT_MAP_LONE_LEN);
+        lone_room = load64(map + INT_MAP_LONE_ROOM);
+        store_address(map + INT_MAP_LONE, dangling);
+        memset(map + INT_MAP_LONE_LEN, 0, 16);
+        if (lone_len_2 != 0) {
+            index_2 = 0;
+            r2_2 = lone_len_2;
             for (;;) {
-                r17_5 = r2_9 - 1;
-                r25 = r4_3 + (r14 * 24);
-                r27 = (uint64_t)load8(r25);
-                memcpy(r11_3, r25 + 8, 16);
-                r20_2 = r10_472_0_ph102 + (r14 * 48);
+                r17_4 = r2_2 - 1;
+                slot_12 = lone + (index_2 * LONE_SIZE);
+                r27 = (uint64_t)load8(slot_12 + LONE_HAS_PAIR);
+                memcpy(r11_3, slot_12 + LONE_KEY, 16);
+                r20_2 = r10_472_0_ph102 + (index_2 * 48);
                 store64(r20_2, r27);
                 memcpy(r20_2 + 8, r11_3, 16);
-                store_address(r20_2 + 24, r2);
+                store_address(r20_2 + 24, dangling);
                 memset(r20_2 + 32, 0, 16);
-                if (r17_5 == 0) {
+                if (r17_4 == 0) {
                     break;
                 }
-                r14 = r14 + 1;
-                r2_9 = r17_5;
+                index_2 = index_2 + 1;
+                r2_2 = r17_4;
             }
         }
-        if (r0_16 != 0) {
-            rattle_dealloc(r4_3);
+        if (lone_room != 0) {
+            rattle_dealloc(lone);
         }
-        r9_10 = r10_472_0_ph102 + (r10_2 * 48);
-        r13_3 = load64(r9_10 + 40) == 0;
+        r9 = r10_472_0_ph102 + (index * 48);
+        r13_3 = load64(r9 + 40) == 0;
         if (r13_3) {
-            r4_4 = load_address(r9_10 + 24);
-            store_address(r9_10 + 24, r8_3);
-            store64(r9_10 + 40, 1);
-            r10_3 = r8_3;
-            r9_11 = 0;
-            r4_5 = r4_4;
+            r4 = load_address(r9 + 24);
+            store_address(r9 + 24, r8_3);
+            store64(r9 + 40, 1);
+            r10_2 = r8_3;
+            r9_2 = 0;
+            r4_2 = r4;
         } else {
-            r10_3 = load_address(r9_10 + 24);
-            r9_11 = load64(r9_10 + 32);
-            r4_5 = r8_3;
+            r10_2 = load_address(r9 + 24);
+            r9_2 = load64(r9 + 32);
+            r4_2 = r8_3;
         }
-        r15_2 = r10_3 + (r9_11 << 4);
-        store64(r15_2, a4);
-        store64(r15_2 + 8, a5);
-        store64(r9_10 + 32, r9_11 + 1);
-        r34 = load_address(a1 + 56);
-        r34_2 = load64(a1 + 64);
-        r34_3 = load64(a1 + 72);
-        store_address(a1 + 56, r10_472_0_ph102);
-        store64(a1 + 64, r0_15);
-        store64(a1 + 72, r0);
-        if (r34_2 != 0) {
-            r0_06 = 0;
+        r15_2 = r10_2 + (r9_2 << 4);
+        store64(r15_2, key);
+        store64(r15_2 + 8, value);
+        store64(r9 + 32, r9_2 + 1);
+        shared_3 = load_address(map + INT_MAP_SHARED);
+        shared_len = load64(map + INT_MAP_SHARED_LEN);
+        shared_room = load64(map + INT_MAP_SHARED_ROOM);
+        store_address(map + INT_MAP_SHARED, r10_472_0_ph102);
+        store64(map + INT_MAP_SHARED_LEN, lone_len_2);
+        store64(map + INT_MAP_SHARED_ROOM, r0);
+        if (shared_len != 0) {
+            index_3 = 0;
             for (;;) {
-                r9_12 = r34 + (r0_06 * 48);
-                if (load64(r9_12 + 40) != 0) {
-                    rattle_dealloc(load_address(r9_12 + 24));
+                slot_13 = shared_3 + (index_3 * SLOT_SIZE);
+                if (load64(slot_13 + SLOT_REST_ROOM) != 0) {
+                    rattle_dealloc(load_address(slot_13 + SLOT_REST));
                 }
-                r12_5 = r0_06 + 1;
-                if (r12_5 == r34_2) {
+                next_index = index_3 + 1;
+                if (next_index == shared_len) {
                     break;
                 }
-                r0_06 = r12_5;
+                index_3 = next_index;
             }
         }
-        if (r34_3 != 0) {
-            rattle_dealloc(r34);
+        if (shared_room != 0) {
+            rattle_dealloc(shared_3);
         }
         if (r13_3) {
             goto arm_1_4;
         }
-        rattle_dealloc(r4_5);
+        rattle_dealloc(r4_2);
         goto arm_1_4;
     after_Vec_drop_3:;
         rattle_dealloc(r8_3);
-        r12_2 = a5;
+        r12_2 = value;
         r12_3 = 1;
         r17_2 = 0;
         r17_3 = 0;
-        r17_4 = 0;
+        rest_len_2 = 0;
         goto join_7_3;
     }
-    r5_2 = load_address(a1 + 56);
-    r6_2 = a3 * 48;
-    r9_3 = r5_2 + r6_2;
-    if (load8(r9_3) == 1) {
-        r2_4 = load64(r9_3 + 32);
-        r2_5 = load64(r9_3 + 40);
-        if (r2_4 < r2_5) {
-            r5_3 = r5_2;
+    shared = load_address(map + INT_MAP_SHARED);
+    r6 = slot * SLOT_SIZE;
+    slot_6 = shared + r6;
+    if (load8(slot_6 + SLOT_HAS_FIRST) == 1) {
+        rest_len_3 = load64(slot_6 + SLOT_REST_LEN);
+        rest_room = load64(slot_6 + SLOT_REST_ROOM);
+        if (rest_len_3 < rest_room) {
+            shared_2 = shared;
             r0_2 = false;
         } else {
-            if (r2_5 == r2_4) {
-                if (r2_4 == UINT64_C(18446744073709551615)) {
-                    r12_2 = a5;
+            if (rest_room == rest_len_3) {
+                if (rest_len_3 == UINT64_C(18446744073709551615)) {
+                    r12_2 = value;
                     r12_3 = 1;
                     r17_2 = 0;
                     r17_3 = 0;
-                    r17_4 = 0;
+                    rest_len_2 = 0;
                     goto join_7_3;
                 }
-                r33 = r2_4 + 1;
-                if (r2_4 >= UINT64_C(576460752303423487)) {
-                    r12_2 = a5;
+                r33 = rest_len_3 + 1;
+                if (rest_len_3 >= UINT64_C(576460752303423487)) {
+                    r12_2 = value;
                     r12_3 = 1;
                     r17_2 = 0;
                     r17_3 = 0;
-                    r17_4 = 0;
+                    rest_len_2 = 0;
                     goto join_7_3;
                 }
-                if (r2_4 == 0) {
-                    r0_3 = rattle_alloc(16, 8);
-                    if ((r0_3.first & 1) == 0) {
-                        r12_2 = a5;
+                if (rest_len_3 == 0) {
+                    block = rattle_alloc(16, 8);
+                    if ((block.first & 1) == 0) {
+                        r12_2 = value;
                         r12_3 = 1;
                         r17_2 = 0;
                         r17_3 = 0;
-                        r17_4 = 0;
+                        rest_len_2 = 0;
                         goto join_7_3;
                     }
-                    r0_4 = r0_3;
+                    r0_3 = block;
                 } else {
-                    r0_5 = rattle_realloc(load_address(r9_3 + 24), r2_4 << 4, r33 << 4, 8);
-                    if ((r0_5.first & 1) == 0) {
-                        r12_2 = a5;
+                    block_2 = rattle_realloc(load_address(slot_6 + SLOT_REST), rest_len_3 << 4, r33 << 4, 8);
+                    if ((block_2.first & 1) == 0) {
+                        r12_2 = value;
                         r12_3 = 1;
                         r17_2 = 0;
                         r17_3 = 0;
-                        r17_4 = 0;
+                        rest_len_2 = 0;
                         goto join_7_3;
                     }
-                    r0_4 = r0_5;
+                    r0_3 = block_2;
                 }
-                store_address(r9_3 + 24, (char *)(uintptr_t)r0_4.second);
-                store64(r9_3 + 40, r33);
-                if (a3 < load64(a1 + 40)) {
-                    r8 = a3 * 24;
-                    if ((load8(load_address(a1 + 32) + r8) & 1) != 0) {
-                        r53 = slots_push_second(a1, a3, a4, a5);
-                        r0_6 = true;
+                store_address(slot_6 + SLOT_REST, (char *)(uintptr_t)r0_3.second);
+                store64(slot_6 + SLOT_REST_ROOM, r33);
+                if (slot < load64(map + INT_MAP_LONE_LEN)) {
+                    r8 = slot * LONE_SIZE;
+                    if ((load8((load_address(map + INT_MAP_LONE) + r8) + LONE_HAS_PAIR) & 1) != 0) {
+                        r53 = slots_push_second(map, slot, key, value);
+                        r0_4 = true;
                         r53_2 = r53;
                         goto after_Slots_push;
                     }
-                    r11_6 = load_address(a1 + 8) + ((a3 >> 3) & UINT64_C(2305843009213693944));
-                    store64(r11_6, load64(r11_6) | ((uint64_t)1 << (a3 & 63)));
-                    r9_4 = load_address(a1 + 32) + r8;
-                    r11_7 = load8(r9_4);
-                    store64(r9_4, 1);
-                    store64(r9_4 + 8, a4);
-                    store64(r9_4 + 16, a5);
-                    if (r11_7 != 0) {
+                    r11_2 = load_address(map + INT_MAP_WORDS) + ((slot >> 3) & UINT64_C(2305843009213693944));
+                    store64(r11_2, load64(r11_2) | ((uint64_t)1 << (slot & 63)));
+                    slot_7 = load_address(map + INT_MAP_LONE) + r8;
+                    has_pair_3 = load8(slot_7 + LONE_HAS_PAIR);
+                    store64(slot_7 + LONE_HAS_PAIR, 1);
+                    store64(slot_7 + LONE_KEY, key);
+                    store64(slot_7 + LONE_VALUE, value);
+                    if (has_pair_3 != 0) {
                         abort();
                     }
-                    r0_7 = true;
-                    r0_8 = 0;
+                    r0_5 = true;
+                    place = 0;
                     goto arm_6_2;
                 }
-                r5_3 = load_address(a1 + 56);
+                shared_2 = load_address(map + INT_MAP_SHARED);
                 r0_2 = true;
             } else {
-                r5_3 = r5_2;
+                shared_2 = shared;
                 r0_2 = true;
             }
         }
     } else {
-        r5_3 = r5_2;
+        shared_2 = shared;
         r0_2 = false;
     }
-    r9_5 = r5_3 + r6_2;
-    r11_8 = load_address(a1 + 8) + ((a3 >> 3) & UINT64_C(2305843009213693944));
-    r16 = load64(r11_8);
-    r20 = (uint64_t)1 << (a3 & 63);
-    store64(r11_8, r16 | r20);
-    if ((r16 & r20) == 0) {
-        store64(r9_5, 1);
-        store64(r9_5 + 8, a4);
-        store64(r9_5 + 16, a5);
-        r0_7 = r0_2;
-        r0_8 = 0;
+    slot_8 = shared_2 + r6;
+    r11_4 = load_address(map + INT_MAP_WORDS) + ((slot >> 3) & UINT64_C(2305843009213693944));
+    bits = load64(r11_4);
+    r20 = (uint64_t)1 << (slot & 63);
+    store64(r11_4, bits | r20);
+    if ((bits & r20) == 0) {
+        store64(slot_8 + SLOT_HAS_FIRST, 1);
+        store64(slot_8 + SLOT_KEY, key);
+        store64(slot_8 + SLOT_VALUE, value);
+        r0_5 = r0_2;
+        place = 0;
         goto arm_6_2;
     }
-    r86 = slot_push(r9_5, a4, a5);
-    r0_6 = r0_2;
+    r86 = slot_push(slot_8, key, value);
+    r0_4 = r0_2;
     r53_2 = r86;
 after_Slots_push:;
     if (r53_2.first != 0) {
@@ -1128,168 +1187,169 @@ after_Slots_push:;
         r12_3 = 1;
         r17_2 = 0;
         r17_3 = 0;
-        r17_4 = 0;
+        rest_len_2 = 0;
         goto join_7_3;
     }
-    r0_7 = r0_6;
-    r0_8 = r53_2.second;
+    r0_5 = r0_4;
+    place = r53_2.second;
 arm_6_2:;
-    r69 = slots_grow(a1, r0, false);
+    r69 = slots_grow(map, r0, false);
     if (r69 != 0) {
-        r8_2 = (a3 >> 3) & UINT64_C(2305843009213693944);
-        r9_6 = load64(load_address(a1 + 8) + r8_2);
-        if (a3 < load64(a1 + 40)) {
-            r9_7 = load_address(a1 + 32) + (a3 * 24);
-            r0_9 = load64(r9_7 + 16);
-            r11_9 = load8(r9_7);
-            memset(r9_7, 0, 24);
-            if (r11_9 != 1) {
+        r8_2 = (slot >> 3) & UINT64_C(2305843009213693944);
+        bits_2 = load64(load_address(map + INT_MAP_WORDS) + r8_2);
+        if (slot < load64(map + INT_MAP_LONE_LEN)) {
+            slot_9 = load_address(map + INT_MAP_LONE) + (slot * LONE_SIZE);
+            value_2 = load64(slot_9 + LONE_VALUE);
+            has_pair_4 = load8(slot_9 + LONE_HAS_PAIR);
+            memset(slot_9, 0, 24);
+            if (has_pair_4 != 1) {
                 abort();
             }
-            store64(load_address(a1 + 8) + r8_2, r9_6 & (((uint64_t)1 << (a3 & 63)) ^ UINT64_C(18446744073709551615)));
-            r0_10 = r0_9;
+            store64(load_address(map + INT_MAP_WORDS) + r8_2, bits_2 & (((uint64_t)1 << (slot & 63)) ^ UINT64_C(18446744073709551615)));
+            value_3 = value_2;
         } else {
-            r9_8 = load_address(a1 + 56) + r6_2;
-            r3_7 = load64(r9_8 + 32);
-            if (r3_7 == 0) {
-                r0_11 = load64(r9_8 + 16);
-                r11_10 = load8(r9_8);
-                memset(r9_8, 0, 24);
-                if (r11_10 == 1) {
-                    store64(load_address(a1 + 8) + r8_2, r9_6 & (((uint64_t)1 << (a3 & 63)) ^ UINT64_C(18446744073709551615)));
-                    r0_10 = r0_11;
+            slot_10 = load_address(map + INT_MAP_SHARED) + r6;
+            rest_len_4 = load64(slot_10 + SLOT_REST_LEN);
+            if (rest_len_4 == 0) {
+                value_4 = load64(slot_10 + SLOT_VALUE);
+                has_first_2 = load8(slot_10 + SLOT_HAS_FIRST);
+                memset(slot_10, 0, 24);
+                if (has_first_2 == 1) {
+                    store64(load_address(map + INT_MAP_WORDS) + r8_2, bits_2 & (((uint64_t)1 << (slot & 63)) ^ UINT64_C(18446744073709551615)));
+                    value_3 = value_4;
                     goto after_Slots_take_at;
                 }
             }
-            r28 = r3_7 - 1;
-            store64(r9_8 + 32, r28);
-            if (r0_8 == 0) {
-                if (load8(r9_8) != 1) {
+            place_2 = rest_len_4 - 1;
+            store64(slot_10 + SLOT_REST_LEN, place_2);
+            if (place == 0) {
+                if (load8(slot_10 + SLOT_HAS_FIRST) != 1) {
                     abort();
                 }
-                r23 = load_address(r9_8 + 24) + (r28 << 4);
-                r2_6 = load64(r23 + 8);
-                r4 = load64(r9_8 + 16);
-                store64(r9_8 + 8, load64(r23));
-                store64(r9_8 + 16, r2_6);
-                r0_10 = r4;
+                pair_4 = load_address(slot_10 + SLOT_REST) + (place_2 << 4);
+                value_5 = load64(pair_4 + PAIR_VALUE);
+                value_6 = load64(slot_10 + SLOT_VALUE);
+                store64(slot_10 + SLOT_KEY, load64(pair_4 + PAIR_KEY));
+                store64(slot_10 + SLOT_VALUE, value_5);
+                value_3 = value_6;
             } else {
-                r18_2 = load_address(r9_8 + 24);
-                r23_2 = r18_2 + (r28 << 4);
-                r2_7 = load64(r23_2 + 8);
-                if (r0_8 == r3_7) {
-                    r0_10 = r2_7;
+                rest = load_address(slot_10 + SLOT_REST);
+                pair_5 = rest + (place_2 << 4);
+                value_7 = load64(pair_5 + PAIR_VALUE);
+                if (place == rest_len_4) {
+                    value_3 = value_7;
                 } else {
-                    x21 = r18_2 + (r0_8 << 4);
-                    r4_2 = load64(x21 - 8);
-                    store64(x21 - 16, load64(r23_2));
-                    store64(x21 - 8, r2_7);
-                    r0_10 = r4_2;
+                    pair_6 = rest + (place << 4);
+                    value_8 = load64(pair_6 - 8);
+                    store64(pair_6 - 16, load64(pair_5 + PAIR_KEY));
+                    store64(pair_6 - 8, value_7);
+                    value_3 = value_8;
                 }
             }
         }
     after_Slots_take_at:;
-        if (!r0_7) {
-            r12_2 = r0_10;
+        if (!r0_5) {
+            r12_2 = value_3;
             r12_3 = 1;
             r17_2 = 0;
             r17_3 = 0;
-            r17_4 = 0;
+            rest_len_2 = 0;
             goto join_7_3;
         }
-        if (load64(a1 + 40) > a3) {
-            r12_2 = r0_10;
+        if (load64(map + INT_MAP_LONE_LEN) > slot) {
+            r12_2 = value_3;
             r12_3 = 1;
             r17_2 = 0;
             r17_3 = 0;
-            r17_4 = 0;
+            rest_len_2 = 0;
             goto join_7_3;
         }
-        r9_9 = load_address(a1 + 56) + r6_2;
-        r2_8 = load64(r9_9 + 32);
-        if (load64(r9_9 + 40) <= r2_8) {
-            r12_2 = r0_10;
+        slot_11 = load_address(map + INT_MAP_SHARED) + r6;
+        rest_len_5 = load64(slot_11 + SLOT_REST_LEN);
+        if (load64(slot_11 + SLOT_REST_ROOM) <= rest_len_5) {
+            r12_2 = value_3;
             r12_3 = 1;
             r17_2 = 0;
             r17_3 = 0;
-            r17_4 = 0;
+            rest_len_2 = 0;
             goto join_7_3;
         }
-        if (r2_8 == 0) {
-            rattle_dealloc(load_address(r9_9 + 24));
-            store_address(r9_9 + 24, r2);
-            memset(r9_9 + 32, 0, 16);
-            r12_2 = r0_10;
+        if (rest_len_5 == 0) {
+            rattle_dealloc(load_address(slot_11 + SLOT_REST));
+            store_address(slot_11 + SLOT_REST, dangling);
+            memset(slot_11 + SLOT_REST_LEN, 0, 16);
+            r12_2 = value_3;
             r12_3 = 1;
             r17_2 = 0;
             r17_3 = 0;
-            r17_4 = 0;
+            rest_len_2 = 0;
             goto join_7_3;
         }
-        r12_4 = r2_8 << 4;
-        r0_12 = rattle_realloc(load_address(r9_9 + 24), r12_4, r12_4, 8);
-        if ((r0_12.first & 1) == 0) {
-            r12_2 = r0_10;
+        r12_4 = rest_len_5 << 4;
+        block_3 = rattle_realloc(load_address(slot_11 + SLOT_REST), r12_4, r12_4, 8);
+        if ((block_3.first & 1) == 0) {
+            r12_2 = value_3;
             r12_3 = 1;
             r17_2 = 0;
             r17_3 = 0;
-            r17_4 = 0;
+            rest_len_2 = 0;
             goto join_7_3;
         }
-        store_address(r9_9 + 24, (char *)(uintptr_t)r0_12.second);
-        store64(r9_9 + 40, r2_8);
-        r12_2 = r0_10;
+        store_address(slot_11 + SLOT_REST, (char *)(uintptr_t)block_3.second);
+        store64(slot_11 + SLOT_REST_ROOM, rest_len_5);
+        r12_2 = value_3;
         r12_3 = 1;
         r17_2 = 0;
         r17_3 = 0;
-        r17_4 = 0;
+        rest_len_2 = 0;
         goto join_7_3;
     }
 arm_1_4:;
-    r10_4 = load64(a1) & r7;
-    if (r10_4 < load64(a1 + 40)) {
-        if (load8(load_address(a1 + 32) + (r10_4 * 24)) != 1) {
+    index_4 = load64(map + INT_MAP_MASK) & hash;
+    if (index_4 < load64(map + INT_MAP_LONE_LEN)) {
+        if (load8((load_address(map + INT_MAP_LONE) + (index_4 * LONE_SIZE)) + LONE_HAS_PAIR) != 1) {
             abort();
         }
-        common_ret_op = 0;
+        rest_len_6 = 0;
     } else {
-        common_ret_op = load64((load_address(a1 + 56) + (r10_4 * 48)) + 32);
+        rest_len_6 = load64((load_address(map + INT_MAP_SHARED) + (index_4 * SLOT_SIZE)) + SLOT_REST_LEN);
     }
-    store64(a1 + 80, a2);
-    store64(a1 + 88, r8_0);
-    r12_2 = a4;
+    store64(map + INT_MAP_LEN, len);
+    store64(map + INT_MAP_THRESHOLD, r8_0);
+    r12_2 = key;
     r12_3 = 0;
-    r17_2 = (uint64_t)((r10_4 >> 8) & UINT64_C(72057594037927935));
-    r17_3 = (uint8_t)r10_4;
-    r17_4 = common_ret_op;
+    r17_2 = (uint64_t)((index_4 >> 8) & UINT64_C(72057594037927935));
+    r17_3 = (uint8_t)index_4;
+    rest_len_2 = rest_len_6;
 join_7_3:;
-    store64(a0, r12_3);
-    store64(a0 + 8, r12_2);
-    store8(a0 + 16, r17_3);
-    store_bytes(a0 + 17, r17_2, 7);
-    store64(a0 + 24, r17_4);
-common_ret:;
-    return;
+    store64(result, r12_3);
+    store64(result + 8, r12_2);
+    store8(result + 16, r17_3);
+    store_bytes(result + 17, r17_2, 7);
+    store64(result + 24, rest_len_2);
 }
 
+// Moves all pairs, in the order of the walk, to their slots among `capacity` slots.
 // intmap_table::table::slots::Slots::grow, in crates/intmap_table/src/table/slots/grow.rt
-static ALIGNED uint8_t slots_grow(char *a0, uint64_t a1, bool a2) {
-    char *r4_2, *r39, *r4_3, *r6_3, *r0, *r4_4, *r15, *r4_5, *r22_4, *r31, *r13, *x7, *x8, *r11, *r30, *r22_5, *r9,
-        *r23_2, *r1_4, *r8, *r8_3, *r0_10, *r20_3, *r15_2, *r9_2, *r4_8, *r6_7, *r4_9, *r56, *r8_6, *r8_9, *r13_3,
-        *r4_10, *r6_12, *r4_11, *r3_5, *r3_8, *r41, *r3_12, *r27_2, *r31_2, *r11_4, *r8_13, *r54_4, *r4_12, *r20_4,
-        *r20_5, *r13_4, *r9_3;
-    uint64_t r6, r2_2, r3_032, r6_2, r54, r2_3, r0_2, r15_36_0_pr, r6_4, r22_2, r22_3, r2_4, r4_04, r3, r0_3, r0_4,
-        r0_5, r0_6, r16, r1_2, r1_3, r28, r3_0, r0_05, r13_2, r23, r36, r20, r3_0_2, r20_2, r4_6, r4_7, r10, r40,
-        r22_3_0_pr, r22_6, r0_06, r12, r23_3, r1_5, r2_5, r32, r2_6, r8_2, r19, r3_2, r2_7, r12_3, r22_7, r0_11,
-        r10_014, r2_8, r32_2, r15_3_0_pr, r15_3, r0_06_2, r12_4, r6_5, r6_6, r6_8, r28_2, x17, r8_4, r8_5, r8_7,
-        r6_0, r8_8, r8_10, r6_9, r6_10, r6_11, r6_13, r2_9, r3_3, r3_4, r3_6, r3_7, r3_9, r41_2, r33, r54_2, r60,
-        r3_10, r3_11, r3_13, r27, r33_2, r40_2, r0_13, r0_14, r10_2, r33_3, r54_3, r60_2, r8_11, r8_12, r8_14, r27_3,
-        r33_4, r40_3, r2_10, r76, r6_14, r2_11, r4_04_2, r41_3, r89, r6_07, r38, r73, spec_select, r2_12, r2_13,
-        r0_06_3, r12_5, r2_14, r12_6;
-    uint8_t r1, r11_2, r0_7, r11_3, r64, r59;
-    bool r12_2, r21, r317, r5_08, r41_4, r5_1;
-    struct word_word r0_8, r0_9, r0_12, r0_15;
-    char *r2 = (char *)no_bytes;
+static ALIGNED uint8_t slots_grow(char *map, uint64_t capacity, bool may_part) {
+    char *shared, *slot, *rest, *r6, *lone, *lone_2, *lone_3, *shared_2, *shared_3, *slot_2, *rest_2, *pair, *pair_2,
+        *r11, *slot_3, *shared_4, *slot_4, *words, *r1_2, *r8, *r8_3, *shared_5, *slot_5, *shared_6, *slot_6,
+        *shared_7, *r6_2, *words_2, *r56, *r8_6, *r8_9, *r13_2, *shared_8, *r6_4, *words_3, *r3_4, *r3_7, *words_4,
+        *r3_11, *slot_7, *slot_8, *r11_2, *r8_13, *slot_9, *rest_3, *r20_3, *r20_4, *shared_9, *slot_10;
+    uint64_t shared_len, r2, index, rest_len, next_index, lone_len, lone_room, lone_room_2, shared_len_2,
+        shared_room, shared_room_2, r2_2, index_2, rest_len_2, key, value, key_2, value_2, rest_room, key_3, value_3,
+        r28, place, place_2, r13, next_place, r36, r20, place_3, r20_2, key_4, value_4, index_3, next_index_2,
+        shared_len_3, shared_room_3, index_4, next_index_3, words_room, r1_3, shared_len_4, r32, shared_len_5, r8_2,
+        r19, r3, shared_len_6, r12_2, r22_2, shared_room_4, r10_014, index_5, r32_2, shared_len_7, shared_room_5,
+        index_6, next_index_4, words_len, bits, r6_3, r28_2, x17, r8_4, r8_5, r8_7, r6_0, r8_8, r8_10, shared_len_8,
+        words_len_2, bits_2, r6_5, r2_3, r3_2, r3_3, r3_5, r3_6, r3_8, words_room_2, r33, bits_3, r60, r3_9, r3_10,
+        r3_12, r27, index_7, r40, key_5, value_5, index_8, r33_2, bits_4, r60_2, r8_11, r8_12, r8_14, r27_2, index_9,
+        r40_2, rest_len_3, r76, rest_len_4, r2_4, place_4, next_place_2, r89, r6_07, r38, r73, spec_select,
+        shared_len_9, shared_room_6, index_10, next_index_5, shared_len_10, r12_3;
+    uint8_t r1, has_pair, has_first, r64, r59;
+    bool r12, r21, r317, r5_08, r41, r5_1;
+    struct word_word block, block_2, block_3, block_4;
+    char *dangling = (char *)no_bytes;
     uint64_t r5_room[4];
     char *r5 = (char *)r5_room;
     uint64_t r4_room[3];
@@ -1298,771 +1358,764 @@ static ALIGNED uint8_t slots_grow(char *a0, uint64_t a1, bool a2) {
     char *r22 = (char *)r22_room;
     memset(r4, 0, 24);
     memset(r22, 0, 32);
-    if (load64(a0 + 40) == 0) {
-        r4_2 = load_address(a0 + 56);
-        r6 = load64(a0 + 64);
-        if ((a1 > 15) & a2) {
-            r2_2 = a1 - 1;
-            if (r6 != 0) {
-                r3_032 = 0;
-                for (;;) {
-                    r39 = r4_2 + (r3_032 * 48);
-                    r4_3 = load_address(r39 + 24);
-                    r6_2 = load64(r39 + 32);
-                    if (r6_2 != 0) {
-                        if (!((r6_2 == 1) & (load8(r39) == 1))) {
-                            goto join_7;
-                        }
-                        if ((((load64(r4_3) * UINT64_C(11400714819323198549)) ^ (load64(r39 + 8) * UINT64_C(11400714819323198549))) & r2_2) == 0) {
-                            goto join_7;
-                        }
+    if (load64(map + INT_MAP_LONE_LEN) != 0) {
+        r59 = grow_lone_grow_lone(map + INT_MAP_LONE, map, capacity);
+        return r59;
+    }
+    shared = load_address(map + INT_MAP_SHARED);
+    shared_len = load64(map + INT_MAP_SHARED_LEN);
+    if ((capacity > 15) & may_part) {
+        r2 = capacity - 1;
+        if (shared_len != 0) {
+            index = 0;
+            for (;;) {
+                slot = shared + (index * SLOT_SIZE);
+                rest = load_address(slot + SLOT_REST);
+                rest_len = load64(slot + SLOT_REST_LEN);
+                if (rest_len != 0) {
+                    if (!((rest_len == 1) & (load8(slot + SLOT_HAS_FIRST) == 1))) {
+                        goto join_7;
                     }
-                    r54 = r3_032 + 1;
-                    if (r54 == r6) {
-                        break;
+                    if ((((load64(rest + PAIR_KEY) * MULTIPLIER) ^ (load64(slot + SLOT_KEY) * MULTIPLIER)) & r2) == 0) {
+                        goto join_7;
                     }
-                    r3_032 = r54;
+                }
+                next_index = index + 1;
+                if (next_index == shared_len) {
+                    break;
+                }
+                index = next_index;
+            }
+        }
+        memset(r5, 0, 32);
+        grow_reserve_slots_2(r5, map + INT_MAP_LONE, capacity);
+        r1 = load8(r5);
+        if (r1 == 0) {
+            r6 = load_address(r5 + 8);
+            lone_len = load64(map + INT_MAP_LONE_LEN);
+            lone = load_address(map + INT_MAP_LONE);
+            lone_room = load64(map + INT_MAP_LONE_ROOM);
+            store_address(map + INT_MAP_LONE, dangling);
+            memset(map + INT_MAP_LONE_LEN, 0, 16);
+            if (capacity == lone_len) {
+                store_address(map + INT_MAP_LONE, lone);
+                store64(map + INT_MAP_LONE_LEN, capacity);
+                store64(map + INT_MAP_LONE_ROOM, lone_room);
+                lone_2 = lone;
+            } else {
+                memset(lone + (lone_len * LONE_SIZE), 0, (capacity - lone_len) * 24);
+                lone_3 = load_address(map + INT_MAP_LONE);
+                lone_room_2 = load64(map + INT_MAP_LONE_ROOM);
+                store_address(map + INT_MAP_LONE, lone);
+                store64(map + INT_MAP_LONE_LEN, capacity);
+                store64(map + INT_MAP_LONE_ROOM, lone_room);
+                if (lone_room_2 == 0) {
+                    lone_2 = lone;
+                } else {
+                    rattle_dealloc(lone_3);
+                    lone_2 = load_address(map + INT_MAP_LONE);
                 }
             }
-            memset(r5, 0, 32);
-            grow_reserve_slots_2(r5, a0 + 32, a1);
-            r1 = load8(r5);
-            if (r1 == 0) {
-                r6_3 = load_address(r5 + 8);
-                r2_3 = load64(a0 + 40);
-                r0 = load_address(a0 + 32);
-                r0_2 = load64(a0 + 48);
-                store_address(a0 + 32, r2);
-                memset(a0 + 40, 0, 16);
-                if (a1 == r2_3) {
-                    store_address(a0 + 32, r0);
-                    store64(a0 + 40, a1);
-                    store64(a0 + 48, r0_2);
-                    r4_4 = r0;
-                } else {
-                    memset(r0 + (r2_3 * 24), 0, (a1 - r2_3) * 24);
-                    r15 = load_address(a0 + 32);
-                    r15_36_0_pr = load64(a0 + 48);
-                    store_address(a0 + 32, r0);
-                    store64(a0 + 40, a1);
-                    store64(a0 + 48, r0_2);
-                    if (r15_36_0_pr == 0) {
-                        r4_4 = r0;
-                    } else {
-                        rattle_dealloc(r15);
-                        r4_4 = load_address(a0 + 32);
-                    }
-                }
-                r4_5 = load_address(a0 + 56);
-                r6_4 = load64(a0 + 64);
-                if (r6_4 != 0) {
-                    r2_4 = load64(a0 + 40) - 1;
-                    r4_04 = 0;
+            shared_2 = load_address(map + INT_MAP_SHARED);
+            shared_len_2 = load64(map + INT_MAP_SHARED_LEN);
+            if (shared_len_2 != 0) {
+                r2_2 = load64(map + INT_MAP_LONE_LEN) - 1;
+                index_2 = 0;
+                for (;;) {
+                    slot_2 = shared_2 + (index_2 * SLOT_SIZE);
                     for (;;) {
-                        r31 = r4_5 + (r4_04 * 48);
-                        for (;;) {
-                            if ((load8(r31) & 1) == 0) {
-                                r40 = r4_04 + 1;
-                                if (r40 != r6_4) {
-                                    r4_04 = r40;
-                                    break;
+                        if ((load8(slot_2 + SLOT_HAS_FIRST) & 1) == 0) {
+                            next_index_2 = index_2 + 1;
+                            if (next_index_2 != shared_len_2) {
+                                index_2 = next_index_2;
+                                break;
+                            }
+                            shared_len_3 = load64(map + INT_MAP_SHARED_LEN);
+                            shared_4 = load_address(map + INT_MAP_SHARED);
+                            shared_room_3 = load64(map + INT_MAP_SHARED_ROOM);
+                            store_address(map + INT_MAP_SHARED, dangling);
+                            memset(map + INT_MAP_SHARED_LEN, 0, 16);
+                            if (shared_len_3 == 0) {
+                                shared_room_2 = shared_room_3;
+                                shared_3 = shared_4;
+                                goto after_Vec_clear_3;
+                            }
+                            index_4 = 0;
+                            for (;;) {
+                                slot_4 = shared_4 + (index_4 * SLOT_SIZE);
+                                if (load64(slot_4 + SLOT_REST_ROOM) != 0) {
+                                    rattle_dealloc(load_address(slot_4 + SLOT_REST));
                                 }
-                                r22_3_0_pr = load64(a0 + 64);
-                                r22_5 = load_address(a0 + 56);
-                                r22_6 = load64(a0 + 72);
-                                store_address(a0 + 56, r2);
-                                memset(a0 + 64, 0, 16);
-                                if (r22_3_0_pr == 0) {
-                                    r22_3 = r22_6;
-                                    r22_4 = r22_5;
+                                next_index_3 = index_4 + 1;
+                                if (next_index_3 == shared_len_3) {
+                                    shared_room_2 = shared_room_3;
+                                    shared_3 = shared_4;
                                     goto after_Vec_clear_3;
                                 }
-                                r0_06 = 0;
+                                index_4 = next_index_3;
+                            }
+                        }
+                        rest_len_2 = load64(slot_2 + SLOT_REST_LEN);
+                        if (rest_len_2 == 0) {
+                            key = load64(slot_2 + SLOT_KEY);
+                            value = load64(slot_2 + SLOT_VALUE);
+                            memset(slot_2, 0, 24);
+                            key_2 = key;
+                            value_2 = value;
+                        } else {
+                            rest_2 = load_address(slot_2 + SLOT_REST);
+                            rest_room = load64(slot_2 + SLOT_REST_ROOM);
+                            memset(slot_2 + SLOT_REST_LEN, 0, 16);
+                            key_3 = load64(rest_2 + PAIR_KEY);
+                            value_3 = load64(rest_2 + PAIR_VALUE);
+                            r28 = rest_len_2 - 1;
+                            if (r28 > 128) {
+                                place = 0;
                                 for (;;) {
-                                    r9 = r22_5 + (r0_06 * 48);
-                                    if (load64(r9 + 40) != 0) {
-                                        rattle_dealloc(load_address(r9 + 24));
-                                    }
-                                    r12 = r0_06 + 1;
-                                    if (r12 == r22_3_0_pr) {
-                                        r22_3 = r22_6;
-                                        r22_4 = r22_5;
-                                        goto after_Vec_clear_3;
-                                    }
-                                    r0_06 = r12;
-                                }
-                            }
-                            r3 = load64(r31 + 32);
-                            if (r3 == 0) {
-                                r0_3 = load64(r31 + 8);
-                                r0_4 = load64(r31 + 16);
-                                memset(r31, 0, 24);
-                                r0_5 = r0_3;
-                                r0_6 = r0_4;
-                            } else {
-                                r13 = load_address(r31 + 24);
-                                r16 = load64(r31 + 40);
-                                memset(r31 + 32, 0, 16);
-                                r1_2 = load64(r13);
-                                r1_3 = load64(r13 + 8);
-                                r28 = r3 - 1;
-                                if (r28 > 128) {
-                                    r3_0 = 0;
+                                    pair = rest_2 + (place << 4);
+                                    place_2 = 0;
                                     for (;;) {
-                                        x7 = r13 + (r3_0 << 4);
-                                        r0_05 = 0;
-                                        for (;;) {
-                                            r13_2 = r0_05 << 4;
-                                            memcpy(x7 + r13_2, (x7 + 16) + r13_2, 16);
-                                            r23 = r0_05 + 1;
-                                            if (r23 == 128) {
-                                                r36 = r3_0 + 128;
-                                                r20 = r28 - r36;
-                                                if (r20 > 128) {
-                                                    r3_0 = r36;
-                                                    break;
-                                                }
-                                                r3_0_2 = r36;
-                                                r20_2 = r20;
-                                                goto after_Slots_move_back;
+                                        r13 = place_2 << 4;
+                                        memcpy(pair + r13, (pair + 16) + r13, 16);
+                                        next_place = place_2 + 1;
+                                        if (next_place == 128) {
+                                            r36 = place + 128;
+                                            r20 = r28 - r36;
+                                            if (r20 > 128) {
+                                                place = r36;
+                                                break;
                                             }
-                                            r0_05 = r23;
+                                            place_3 = r36;
+                                            r20_2 = r20;
+                                            goto after_Slots_move_back;
                                         }
+                                        place_2 = next_place;
                                     }
                                 }
-                                r3_0_2 = 0;
-                                r20_2 = r28;
-                            after_Slots_move_back:;
-                                if (r28 != r3_0_2) {
-                                    x8 = r13 + (r3_0_2 << 4);
-                                    memmove(x8, x8 + 16, r20_2 << 4);
-                                }
-                                store_address(r31 + 24, r13);
-                                store64(r31 + 32, r28);
-                                store64(r31 + 40, r16);
-                                if (load8(r31) != 1) {
-                                    abort();
-                                }
-                                r4_6 = load64(r31 + 8);
-                                r4_7 = load64(r31 + 16);
-                                store64(r31 + 8, r1_2);
-                                store64(r31 + 16, r1_3);
-                                r0_5 = r4_6;
-                                r0_6 = r4_7;
                             }
-                            r10 = (r0_5 * UINT64_C(11400714819323198549)) & r2_4;
-                            r11 = r6_3 + ((r10 >> 3) & UINT64_C(2305843009213693944));
-                            store64(r11, ((uint64_t)1 << (r10 & 63)) | load64(r11));
-                            r30 = r4_4 + (r10 * 24);
-                            r11_2 = load8(r30);
-                            store64(r30, 1);
-                            store64(r30 + 8, r0_5);
-                            store64(r30 + 16, r0_6);
-                            if (r11_2 != 0) {
+                            place_3 = 0;
+                            r20_2 = r28;
+                        after_Slots_move_back:;
+                            if (r28 != place_3) {
+                                pair_2 = rest_2 + (place_3 << 4);
+                                memmove(pair_2, pair_2 + 16, r20_2 << 4);
+                            }
+                            store_address(slot_2 + SLOT_REST, rest_2);
+                            store64(slot_2 + SLOT_REST_LEN, r28);
+                            store64(slot_2 + SLOT_REST_ROOM, rest_room);
+                            if (load8(slot_2 + SLOT_HAS_FIRST) != 1) {
                                 abort();
                             }
+                            key_4 = load64(slot_2 + SLOT_KEY);
+                            value_4 = load64(slot_2 + SLOT_VALUE);
+                            store64(slot_2 + SLOT_KEY, key_3);
+                            store64(slot_2 + SLOT_VALUE, value_3);
+                            key_2 = key_4;
+                            value_2 = value_4;
+                        }
+                        index_3 = (key_2 * MULTIPLIER) & r2_2;
+                        r11 = r6 + ((index_3 >> 3) & UINT64_C(2305843009213693944));
+                        store64(r11, ((uint64_t)1 << (index_3 & 63)) | load64(r11));
+                        slot_3 = lone_2 + (index_3 * LONE_SIZE);
+                        has_pair = load8(slot_3 + LONE_HAS_PAIR);
+                        store64(slot_3 + LONE_HAS_PAIR, 1);
+                        store64(slot_3 + LONE_KEY, key_2);
+                        store64(slot_3 + LONE_VALUE, value_2);
+                        if (has_pair != 0) {
+                            abort();
                         }
                     }
                 }
-                r22_2 = load64(a0 + 72);
-                store_address(a0 + 56, r2);
-                memset(a0 + 64, 0, 16);
-                r22_3 = r22_2;
-                r22_4 = r4_5;
-            after_Vec_clear_3:;
-                if (r22_3 != 0) {
-                    rattle_dealloc(r22_4);
-                }
-                r23_2 = load_address(a0 + 8);
-                r23_3 = load64(a0 + 24);
-                store64(a0, r2_2);
-                store_address(a0 + 8, r6_3);
-                memcpy(a0 + 16, r5 + 16, 16);
-                if (r23_3 != 0) {
-                    rattle_dealloc(r23_2);
-                }
             }
-            r0_7 = r1;
-            goto return_4;
+            shared_room = load64(map + INT_MAP_SHARED_ROOM);
+            store_address(map + INT_MAP_SHARED, dangling);
+            memset(map + INT_MAP_SHARED_LEN, 0, 16);
+            shared_room_2 = shared_room;
+            shared_3 = shared_2;
+        after_Vec_clear_3:;
+            if (shared_room_2 != 0) {
+                rattle_dealloc(shared_3);
+            }
+            words = load_address(map + INT_MAP_WORDS);
+            words_room = load64(map + INT_MAP_WORDS_ROOM);
+            store64(map + INT_MAP_MASK, r2);
+            store_address(map + INT_MAP_WORDS, r6);
+            memcpy(map + INT_MAP_WORDS_LEN, r5 + 16, 16);
+            if (words_room != 0) {
+                rattle_dealloc(words);
+            }
         }
-    join_7:;
-        grow_reserve_slots(r22, a0 + 56, a1);
-        if (load8(r22) == 0) {
-            r1_4 = load_address(r22 + 8);
-            r1_5 = load64(r22 + 24);
-            r2_5 = load64(a0 + 64);
-            if (r2_5 == 0) {
-                abort();
-            }
-            r32 = a1 / r2_5;
-            r12_2 = r2_5 > a1;
-            if (!r12_2) {
-                if (r32 < UINT64_C(1152921504606846976)) {
-                    r19 = r32 << 3;
-                    r0_8 = rattle_alloc(r19, 8);
-                    if ((r0_8.first & 1) != 0) {
-                        r8_3 = (char *)(uintptr_t)r0_8.second;
-                        if (r32 == 1) {
-                            r3_2 = 0;
-                        } else {
-                            memset(r8_3, 0, r19 - 8);
-                            r3_2 = r32 - 1;
-                        }
-                        store64(r8_3 + (r3_2 << 3), 0);
-                        r2_6 = load64(a0 + 64);
-                        r8 = r8_3;
-                        r8_2 = r3_2 + 1;
-                        goto arm_3;
-                    }
-                    r2_7 = load64(a0 + 64);
+        return r1;
+    }
+join_7:;
+    grow_reserve_slots(r22, map + INT_MAP_SHARED, capacity);
+    if (load8(r22) != 0) {
+        return 1;
+    }
+    r1_2 = load_address(r22 + 8);
+    r1_3 = load64(r22 + 24);
+    shared_len_4 = load64(map + INT_MAP_SHARED_LEN);
+    if (shared_len_4 == 0) {
+        abort();
+    }
+    r32 = capacity / shared_len_4;
+    r12 = shared_len_4 > capacity;
+    if (!r12) {
+        if (r32 < UINT64_C(1152921504606846976)) {
+            r19 = r32 << 3;
+            block = rattle_alloc(r19, 8);
+            if ((block.first & 1) != 0) {
+                r8_3 = (char *)(uintptr_t)block.second;
+                if (r32 == 1) {
+                    r3 = 0;
                 } else {
-                    r2_7 = r2_5;
+                    memset(r8_3, 0, r19 - 8);
+                    r3 = r32 - 1;
                 }
-                if (load64(a0 + 72) <= r2_7) {
-                    goto arm_13;
-                }
-                if (r2_7 == 0) {
-                    rattle_dealloc(load_address(a0 + 56));
-                    store_address(a0 + 56, r2);
-                    memset(a0 + 64, 0, 16);
-                    goto arm_13;
-                }
-                r12_3 = r2_7 * 48;
-                r0_9 = rattle_realloc(load_address(a0 + 56), r12_3, r12_3, 8);
-                if ((r0_9.first & 1) == 0) {
-                    goto arm_13;
-                }
-                store_address(a0 + 56, (char *)(uintptr_t)r0_9.second);
-                store64(a0 + 72, r2_7);
-                goto arm_13;
+                store64(r8_3 + (r3 << 3), 0);
+                shared_len_5 = load64(map + INT_MAP_SHARED_LEN);
+                r8 = r8_3;
+                r8_2 = r3 + 1;
+                goto arm_3;
             }
-            r2_6 = r2_5;
-            r8 = r2;
-            r8_2 = 0;
-        arm_3:;
-            r22_7 = a1 - r2_6;
-            r0_10 = load_address(a0 + 56);
-            r0_11 = load64(a0 + 72);
-            store_address(a0 + 56, r2);
-            memset(a0 + 64, 0, 16);
-            if (a1 == r2_6) {
-                store_address(a0 + 56, r0_10);
-                store64(a0 + 64, a1);
-                store64(a0 + 72, r0_11);
-            } else {
-                r10_014 = 0;
-                r2_8 = r2_6;
-                for (;;) {
-                    r20_3 = r0_10 + (r2_8 * 48);
-                    memset(r20_3, 0, 24);
-                    store_address(r20_3 + 24, r2);
-                    memset(r20_3 + 32, 0, 16);
-                    r32_2 = r10_014 + 1;
-                    if (r32_2 == r22_7) {
-                        r15_2 = load_address(a0 + 56);
-                        r15_3_0_pr = load64(a0 + 64);
-                        r15_3 = load64(a0 + 72);
-                        store_address(a0 + 56, r0_10);
-                        store64(a0 + 64, a1);
-                        store64(a0 + 72, r0_11);
-                        if (r15_3_0_pr != 0) {
-                            r0_06_2 = 0;
+            shared_len_6 = load64(map + INT_MAP_SHARED_LEN);
+        } else {
+            shared_len_6 = shared_len_4;
+        }
+        if (load64(map + INT_MAP_SHARED_ROOM) <= shared_len_6) {
+            goto arm_13;
+        }
+        if (shared_len_6 == 0) {
+            rattle_dealloc(load_address(map + INT_MAP_SHARED));
+            store_address(map + INT_MAP_SHARED, dangling);
+            memset(map + INT_MAP_SHARED_LEN, 0, 16);
+            goto arm_13;
+        }
+        r12_2 = shared_len_6 * 48;
+        block_2 = rattle_realloc(load_address(map + INT_MAP_SHARED), r12_2, r12_2, 8);
+        if ((block_2.first & 1) == 0) {
+            goto arm_13;
+        }
+        store_address(map + INT_MAP_SHARED, (char *)(uintptr_t)block_2.second);
+        store64(map + INT_MAP_SHARED_ROOM, shared_len_6);
+        goto arm_13;
+    }
+    shared_len_5 = shared_len_4;
+    r8 = dangling;
+    r8_2 = 0;
+arm_3:;
+    r22_2 = capacity - shared_len_5;
+    shared_5 = load_address(map + INT_MAP_SHARED);
+    shared_room_4 = load64(map + INT_MAP_SHARED_ROOM);
+    store_address(map + INT_MAP_SHARED, dangling);
+    memset(map + INT_MAP_SHARED_LEN, 0, 16);
+    if (capacity == shared_len_5) {
+        store_address(map + INT_MAP_SHARED, shared_5);
+        store64(map + INT_MAP_SHARED_LEN, capacity);
+        store64(map + INT_MAP_SHARED_ROOM, shared_room_4);
+    } else {
+        r10_014 = 0;
+        index_5 = shared_len_5;
+        for (;;) {
+            slot_5 = shared_5 + (index_5 * SLOT_SIZE);
+            memset(slot_5, 0, 24);
+            store_address(slot_5 + SLOT_REST, dangling);
+            memset(slot_5 + SLOT_REST_LEN, 0, 16);
+            r32_2 = r10_014 + 1;
+            if (r32_2 == r22_2) {
+                shared_6 = load_address(map + INT_MAP_SHARED);
+                shared_len_7 = load64(map + INT_MAP_SHARED_LEN);
+                shared_room_5 = load64(map + INT_MAP_SHARED_ROOM);
+                store_address(map + INT_MAP_SHARED, shared_5);
+                store64(map + INT_MAP_SHARED_LEN, capacity);
+                store64(map + INT_MAP_SHARED_ROOM, shared_room_4);
+                if (shared_len_7 != 0) {
+                    index_6 = 0;
+                    for (;;) {
+                        slot_6 = shared_6 + (index_6 * SLOT_SIZE);
+                        if (load64(slot_6 + SLOT_REST_ROOM) != 0) {
+                            rattle_dealloc(load_address(slot_6 + SLOT_REST));
+                        }
+                        next_index_4 = index_6 + 1;
+                        if (next_index_4 == shared_len_7) {
+                            break;
+                        }
+                        index_6 = next_index_4;
+                    }
+                }
+                if (shared_room_5 == 0) {
+                    break;
+                }
+                rattle_dealloc(shared_6);
+                break;
+            }
+            r10_014 = r32_2;
+            index_5 = index_5 + 1;
+        }
+    }
+    shared_7 = load_address(map + INT_MAP_SHARED);
+    words_len = load64(map + INT_MAP_WORDS_LEN);
+    if (words_len == 0) {
+        bits = 0;
+        r6_2 = (char *)no_bytes;
+        r6_3 = 0;
+    } else {
+        words_2 = load_address(map + INT_MAP_WORDS);
+        bits = load64(words_2);
+        r6_2 = words_2 + 8;
+        r6_3 = words_len - 1;
+    }
+    r21 = r8_2 == 0;
+    r28_2 = r8_2 - 1;
+    r317 = r28_2 == 0;
+    x17 = (r8_2 << 3) - 8;
+    r56 = r8 + (r28_2 << 3);
+    r8_4 = bits;
+    r8_5 = 0;
+    r8_6 = r6_2;
+    r8_7 = r6_3;
+    r6_0 = 0;
+    for (;;) {
+        if (r8_4 == 0) {
+            r8_8 = r8_7;
+            r8_9 = r8_6;
+            r8_10 = r8_5;
+            for (;;) {
+                if (r8_8 == 0) {
+                    if (r6_0 == 0) {
+                        r13_2 = dangling;
+                    } else {
+                        if (r6_0 >= UINT64_C(576460752303423488)) {
+                            goto arm_8_2;
+                        }
+                        block_3 = rattle_alloc(r6_0 << 4, 8);
+                        if ((block_3.first & 1) == 0) {
+                            goto arm_8_2;
+                        }
+                        r13_2 = (char *)(uintptr_t)block_3.second;
+                    }
+                    if (!r12) {
+                        rattle_dealloc(r8);
+                    }
+                    store_address(r4, r13_2);
+                    store64(r4 + 8, 0);
+                    store64(r4 + 16, r6_0);
+                    shared_8 = load_address(map + INT_MAP_SHARED);
+                    shared_len_8 = load64(map + INT_MAP_SHARED_LEN);
+                    words_len_2 = load64(map + INT_MAP_WORDS_LEN);
+                    if (words_len_2 == 0) {
+                        bits_2 = 0;
+                        r6_4 = (char *)no_bytes;
+                        r6_5 = 0;
+                    } else {
+                        words_3 = load_address(map + INT_MAP_WORDS);
+                        bits_2 = load64(words_3);
+                        r6_4 = words_3 + 8;
+                        r6_5 = words_len_2 - 1;
+                    }
+                    r2_3 = shared_len_8 - 1;
+                    r3_2 = bits_2;
+                    r3_3 = 0;
+                    r3_4 = r6_4;
+                    r3_5 = r6_5;
+                    for (;;) {
+                        if (r3_2 == 0) {
+                            r3_6 = r3_5;
+                            r3_7 = r3_4;
+                            r3_8 = r3_3;
                             for (;;) {
-                                r9_2 = r15_2 + (r0_06_2 * 48);
-                                if (load64(r9_2 + 40) != 0) {
-                                    rattle_dealloc(load_address(r9_2 + 24));
+                                if (r3_6 == 0) {
+                                    words_4 = load_address(map + INT_MAP_WORDS);
+                                    words_room_2 = load64(map + INT_MAP_WORDS_ROOM);
+                                    store64(map + INT_MAP_MASK, capacity - 1);
+                                    memcpy(map + INT_MAP_WORDS, r22 + 8, 24);
+                                    if (words_room_2 != 0) {
+                                        rattle_dealloc(words_4);
+                                    }
+                                    if (load64(r4 + 16) == 0) {
+                                        return 0;
+                                    }
+                                    rattle_dealloc(load_address(r4));
+                                    return 0;
                                 }
-                                r12_4 = r0_06_2 + 1;
-                                if (r12_4 == r15_3_0_pr) {
+                                r33 = r3_6 - 1;
+                                bits_3 = load64(r3_7);
+                                r60 = r3_8 + 64;
+                                if (bits_3 != 0) {
+                                    r3_9 = bits_3;
+                                    r3_10 = r60;
+                                    r3_11 = r3_7 + 8;
+                                    r3_12 = r33;
                                     break;
                                 }
-                                r0_06_2 = r12_4;
+                                r3_6 = r33;
+                                r3_7 = r3_7 + 8;
+                                r3_8 = r60;
+                            }
+                        } else {
+                            r3_9 = r3_2;
+                            r3_10 = r3_3;
+                            r3_11 = r3_4;
+                            r3_12 = r3_5;
+                        }
+                        r27 = low_zeros(r3_9);
+                        index_7 = r3_10 + r27;
+                        r40 = (r3_9 - 1) & r3_9;
+                        slot_7 = shared_8 + (index_7 * SLOT_SIZE);
+                        if (load64(slot_7 + SLOT_REST_LEN) == 0) {
+                            key_5 = load_key(slot_7 + SLOT_KEY);
+                            value_5 = load64(slot_7 + SLOT_VALUE);
+                            has_first = load8(slot_7 + SLOT_HAS_FIRST);
+                            memset(slot_7, 0, 24);
+                            if (has_first == 1) {
+                                index_8 = (key_5 * MULTIPLIER) & r2_3;
+                                slot_8 = shared_8 + (index_8 * SLOT_SIZE);
+                                r11_2 = r1_2 + ((index_8 >> 3) & UINT64_C(2305843009213693944));
+                                store64(r11_2, load64(r11_2) | ((uint64_t)1 << (index_8 & 63)));
+                                store64(slot_8 + SLOT_HAS_FIRST, 1);
+                                store64(slot_8 + SLOT_KEY, key_5);
+                                store64(slot_8 + SLOT_VALUE, value_5);
+                                goto loop_2_backedge;
                             }
                         }
-                        if (r15_3 == 0) {
-                            break;
-                        }
-                        rattle_dealloc(r15_2);
-                        break;
-                    }
-                    r10_014 = r32_2;
-                    r2_8 = r2_8 + 1;
-                }
-            }
-            r4_8 = load_address(a0 + 56);
-            r6_5 = load64(a0 + 16);
-            if (r6_5 == 0) {
-                r6_6 = 0;
-                r6_7 = (char *)no_bytes;
-                r6_8 = 0;
-            } else {
-                r4_9 = load_address(a0 + 8);
-                r6_6 = load64(r4_9);
-                r6_7 = r4_9 + 8;
-                r6_8 = r6_5 - 1;
-            }
-            r21 = r8_2 == 0;
-            r28_2 = r8_2 - 1;
-            r317 = r28_2 == 0;
-            x17 = (r8_2 << 3) - 8;
-            r56 = r8 + (r28_2 << 3);
-            r8_4 = r6_6;
-            r8_5 = 0;
-            r8_6 = r6_7;
-            r8_7 = r6_8;
-            r6_0 = 0;
-            for (;;) {
-                if (r8_4 == 0) {
-                    r8_8 = r8_7;
-                    r8_9 = r8_6;
-                    r8_10 = r8_5;
-                    for (;;) {
-                        if (r8_8 == 0) {
-                            if (r6_0 == 0) {
-                                r13_3 = r2;
-                            } else {
-                                if (r6_0 >= UINT64_C(576460752303423488)) {
-                                    goto arm_8_2;
-                                }
-                                r0_12 = rattle_alloc(r6_0 << 4, 8);
-                                if ((r0_12.first & 1) == 0) {
-                                    goto arm_8_2;
-                                }
-                                r13_3 = (char *)(uintptr_t)r0_12.second;
-                            }
-                            if (!r12_2) {
-                                rattle_dealloc(r8);
-                            }
-                            store_address(r4, r13_3);
-                            store64(r4 + 8, 0);
-                            store64(r4 + 16, r6_0);
-                            r4_10 = load_address(a0 + 56);
-                            r6_9 = load64(a0 + 64);
-                            r6_10 = load64(a0 + 16);
-                            if (r6_10 == 0) {
-                                r6_11 = 0;
-                                r6_12 = (char *)no_bytes;
-                                r6_13 = 0;
-                            } else {
-                                r4_11 = load_address(a0 + 8);
-                                r6_11 = load64(r4_11);
-                                r6_12 = r4_11 + 8;
-                                r6_13 = r6_10 - 1;
-                            }
-                            r2_9 = r6_9 - 1;
-                            r3_3 = r6_11;
-                            r3_4 = 0;
-                            r3_5 = r6_12;
-                            r3_6 = r6_13;
-                            for (;;) {
-                                if (r3_3 == 0) {
-                                    r3_7 = r3_6;
-                                    r3_8 = r3_5;
-                                    r3_9 = r3_4;
-                                    for (;;) {
-                                        if (r3_7 == 0) {
-                                            r41 = load_address(a0 + 8);
-                                            r41_2 = load64(a0 + 24);
-                                            store64(a0, a1 - 1);
-                                            memcpy(a0 + 8, r22 + 8, 24);
-                                            if (r41_2 != 0) {
-                                                rattle_dealloc(r41);
-                                            }
-                                            if (load64(r4 + 16) == 0) {
-                                                r0_7 = 0;
-                                                goto return_4;
-                                            }
-                                            rattle_dealloc(load_address(r4));
-                                            r0_7 = 0;
-                                            goto return_4;
-                                        }
-                                        r33 = r3_7 - 1;
-                                        r54_2 = load64(r3_8);
-                                        r60 = r3_9 + 64;
-                                        if (r54_2 != 0) {
-                                            r3_10 = r54_2;
-                                            r3_11 = r60;
-                                            r3_12 = r3_8 + 8;
-                                            r3_13 = r33;
-                                            break;
-                                        }
-                                        r3_7 = r33;
-                                        r3_8 = r3_8 + 8;
-                                        r3_9 = r60;
-                                    }
-                                } else {
-                                    r3_10 = r3_3;
-                                    r3_11 = r3_4;
-                                    r3_12 = r3_5;
-                                    r3_13 = r3_6;
-                                }
-                                r27 = low_zeros(r3_10);
-                                r33_2 = r3_11 + r27;
-                                r40_2 = (r3_10 - 1) & r3_10;
-                                r27_2 = r4_10 + (r33_2 * 48);
-                                if (load64(r27_2 + 32) == 0) {
-                                    r0_13 = load_key(r27_2 + 8);
-                                    r0_14 = load64(r27_2 + 16);
-                                    r11_3 = load8(r27_2);
-                                    memset(r27_2, 0, 24);
-                                    if (r11_3 == 1) {
-                                        r10_2 = (r0_13 * UINT64_C(11400714819323198549)) & r2_9;
-                                        r31_2 = r4_10 + (r10_2 * 48);
-                                        r11_4 = r1_4 + ((r10_2 >> 3) & UINT64_C(2305843009213693944));
-                                        store64(r11_4, load64(r11_4) | ((uint64_t)1 << (r10_2 & 63)));
-                                        store64(r31_2, 1);
-                                        store64(r31_2 + 8, r0_13);
-                                        store64(r31_2 + 16, r0_14);
-                                        goto loop_2_backedge;
-                                    }
-                                }
-                                place_move_several(r22 + 8, r4_10, r6_9, r33_2, r4);
-                            loop_2_backedge:;
-                                r3_3 = r40_2;
-                                r3_4 = r3_11;
-                                r3_5 = r3_12;
-                                r3_6 = r3_13;
-                            }
-                        }
-                        r33_3 = r8_8 - 1;
-                        r54_3 = load64(r8_9);
-                        r60_2 = r8_10 + 64;
-                        if (r54_3 != 0) {
-                            r8_11 = r54_3;
-                            r8_12 = r60_2;
-                            r8_13 = r8_9 + 8;
-                            r8_14 = r33_3;
-                            break;
-                        }
-                        r8_8 = r33_3;
-                        r8_9 = r8_9 + 8;
-                        r8_10 = r60_2;
-                    }
-                } else {
-                    r8_11 = r8_4;
-                    r8_12 = r8_5;
-                    r8_13 = r8_6;
-                    r8_14 = r8_7;
-                }
-                r27_3 = low_zeros(r8_11);
-                r33_4 = r8_12 + r27_3;
-                r40_3 = (r8_11 - 1) & r8_11;
-                r54_4 = r4_8 + (r33_4 * 48);
-                r2_10 = load64(r54_4 + 32);
-                if (r2_10 > 2) {
-                    r76 = load64(a0) + 1;
-                    if (r21) {
-                        r6_14 = r2_10;
-                    } else {
-                        if (!r317) {
-                            memset(r8, 0, x17);
-                        }
-                        store64(r56, 0);
-                        r6_14 = load64(r54_4 + 32);
-                    }
-                    r4_12 = load_address(r54_4 + 24);
-                    if (load8(r54_4) == 1) {
-                        if (r76 == 0) {
-                            abort();
-                        }
-                        r20_4 = r8 + ((((load64(r54_4 + 8) * UINT64_C(11400714819323198549)) & ((r76 * r8_2) - 1)) / r76) << 3);
-                        store64(r20_4, load64(r20_4) + 1);
-                    }
-                    if (r6_14 != 0) {
-                        r2_11 = (r76 * r8_2) - 1;
-                        if (r76 == 0) {
-                            abort();
-                        }
-                        r4_04_2 = 0;
-                        for (;;) {
-                            r20_5 = r8 + ((((load64(r4_12 + (r4_04_2 << 4)) * UINT64_C(11400714819323198549)) & r2_11) / r76) << 3);
-                            store64(r20_5, load64(r20_5) + 1);
-                            r41_3 = r4_04_2 + 1;
-                            if (r41_3 == r6_14) {
-                                break;
-                            }
-                            r4_04_2 = r41_3;
-                        }
-                    }
-                    r89 = load64(a0) + 1;
-                    if (!r21) {
-                        r5_08 = false;
-                        r6_07 = 0;
-                        for (;;) {
-                            r38 = load64(r8 + (r6_07 << 3));
-                            r41_4 = r38 > 1;
-                            if (r41_4 ? r5_08 : false) {
-                                r64 = slot_reserve_behind(r4_8 + (((r6_07 * r89) + r33_4) * 48), r38 - 1);
-                                if ((r64 & 1) != 0) {
-                                    goto arm_8_2;
-                                }
-                                r5_1 = true;
-                            } else {
-                                r5_1 = r41_4 ? true : r5_08;
-                            }
-                            r73 = r6_07 + 1;
-                            if (r73 == r8_2) {
-                                break;
-                            }
-                            r5_08 = r5_1;
-                            r6_07 = r73;
-                        }
+                        place_move_several(r22 + 8, shared_8, shared_len_8, index_7, r4);
+                    loop_2_backedge:;
+                        r3_2 = r40;
+                        r3_3 = r3_10;
+                        r3_4 = r3_11;
+                        r3_5 = r3_12;
                     }
                 }
-                spec_select = greater(r6_0, r2_10);
-                r8_4 = r40_3;
-                r8_5 = r8_12;
-                r8_6 = r8_13;
-                r8_7 = r8_14;
-                r6_0 = spec_select;
-            }
-        arm_8_2:;
-            r2_12 = load64(a0 + 64);
-            r2_13 = load64(a0 + 72);
-            if (r2_12 > r2_5) {
-                r13_4 = load_address(a0 + 56);
-                memset(a0 + 64, 0, 16);
-                r0_06_3 = r2_5;
-                for (;;) {
-                    r9_3 = r13_4 + (r0_06_3 * 48);
-                    if (load64(r9_3 + 40) != 0) {
-                        rattle_dealloc(load_address(r9_3 + 24));
-                    }
-                    r12_5 = r0_06_3 + 1;
-                    if (r12_5 == r2_12) {
-                        store_address(a0 + 56, r13_4);
-                        store64(a0 + 64, r2_5);
-                        store64(a0 + 72, r2_13);
-                        r2_14 = r2_5;
-                        break;
-                    }
-                    r0_06_3 = r12_5;
+                r33_2 = r8_8 - 1;
+                bits_4 = load64(r8_9);
+                r60_2 = r8_10 + 64;
+                if (bits_4 != 0) {
+                    r8_11 = bits_4;
+                    r8_12 = r60_2;
+                    r8_13 = r8_9 + 8;
+                    r8_14 = r33_2;
+                    break;
                 }
-            } else {
-                r2_14 = r2_12;
-            }
-            if (r2_13 > r2_14) {
-                if (r2_14 == 0) {
-                    rattle_dealloc(load_address(a0 + 56));
-                    store_address(a0 + 56, r2);
-                    memset(a0 + 64, 0, 16);
-                } else {
-                    r12_6 = r2_14 * 48;
-                    r0_15 = rattle_realloc(load_address(a0 + 56), r12_6, r12_6, 8);
-                    if ((r0_15.first & 1) != 0) {
-                        store_address(a0 + 56, (char *)(uintptr_t)r0_15.second);
-                        store64(a0 + 72, r2_14);
-                    }
-                }
-            }
-            if (!r12_2) {
-                rattle_dealloc(r8);
-            }
-        arm_13:;
-            if (r1_5 == 0) {
-                r0_7 = 1;
-            } else {
-                rattle_dealloc(r1_4);
-                r0_7 = 1;
+                r8_8 = r33_2;
+                r8_9 = r8_9 + 8;
+                r8_10 = r60_2;
             }
         } else {
-            r0_7 = 1;
+            r8_11 = r8_4;
+            r8_12 = r8_5;
+            r8_13 = r8_6;
+            r8_14 = r8_7;
+        }
+        r27_2 = low_zeros(r8_11);
+        index_9 = r8_12 + r27_2;
+        r40_2 = (r8_11 - 1) & r8_11;
+        slot_9 = shared_7 + (index_9 * SLOT_SIZE);
+        rest_len_3 = load64(slot_9 + SLOT_REST_LEN);
+        if (rest_len_3 > 2) {
+            r76 = load64(map + INT_MAP_MASK) + 1;
+            if (r21) {
+                rest_len_4 = rest_len_3;
+            } else {
+                if (!r317) {
+                    memset(r8, 0, x17);
+                }
+                store64(r56, 0);
+                rest_len_4 = load64(slot_9 + SLOT_REST_LEN);
+            }
+            rest_3 = load_address(slot_9 + SLOT_REST);
+            if (load8(slot_9 + SLOT_HAS_FIRST) == 1) {
+                if (r76 == 0) {
+                    abort();
+                }
+                r20_3 = r8 + ((((load64(slot_9 + SLOT_KEY) * MULTIPLIER) & ((r76 * r8_2) - 1)) / r76) << 3);
+                store64(r20_3, load64(r20_3) + 1);
+            }
+            if (rest_len_4 != 0) {
+                r2_4 = (r76 * r8_2) - 1;
+                if (r76 == 0) {
+                    abort();
+                }
+                place_4 = 0;
+                for (;;) {
+                    r20_4 = r8 + ((((load64((rest_3 + (place_4 << 4)) + PAIR_KEY) * MULTIPLIER) & r2_4) / r76) << 3);
+                    store64(r20_4, load64(r20_4) + 1);
+                    next_place_2 = place_4 + 1;
+                    if (next_place_2 == rest_len_4) {
+                        break;
+                    }
+                    place_4 = next_place_2;
+                }
+            }
+            r89 = load64(map + INT_MAP_MASK) + 1;
+            if (!r21) {
+                r5_08 = false;
+                r6_07 = 0;
+                for (;;) {
+                    r38 = load64(r8 + (r6_07 << 3));
+                    r41 = r38 > 1;
+                    if (r41 ? r5_08 : false) {
+                        r64 = slot_reserve_behind(shared_7 + (((r6_07 * r89) + index_9) * SLOT_SIZE), r38 - 1);
+                        if ((r64 & 1) != 0) {
+                            goto arm_8_2;
+                        }
+                        r5_1 = true;
+                    } else {
+                        r5_1 = r41 ? true : r5_08;
+                    }
+                    r73 = r6_07 + 1;
+                    if (r73 == r8_2) {
+                        break;
+                    }
+                    r5_08 = r5_1;
+                    r6_07 = r73;
+                }
+            }
+        }
+        spec_select = greater(r6_0, rest_len_3);
+        r8_4 = r40_2;
+        r8_5 = r8_12;
+        r8_6 = r8_13;
+        r8_7 = r8_14;
+        r6_0 = spec_select;
+    }
+arm_8_2:;
+    shared_len_9 = load64(map + INT_MAP_SHARED_LEN);
+    shared_room_6 = load64(map + INT_MAP_SHARED_ROOM);
+    if (shared_len_9 > shared_len_4) {
+        shared_9 = load_address(map + INT_MAP_SHARED);
+        memset(map + INT_MAP_SHARED_LEN, 0, 16);
+        index_10 = shared_len_4;
+        for (;;) {
+            slot_10 = shared_9 + (index_10 * SLOT_SIZE);
+            if (load64(slot_10 + SLOT_REST_ROOM) != 0) {
+                rattle_dealloc(load_address(slot_10 + SLOT_REST));
+            }
+            next_index_5 = index_10 + 1;
+            if (next_index_5 == shared_len_9) {
+                store_address(map + INT_MAP_SHARED, shared_9);
+                store64(map + INT_MAP_SHARED_LEN, shared_len_4);
+                store64(map + INT_MAP_SHARED_ROOM, shared_room_6);
+                shared_len_10 = shared_len_4;
+                break;
+            }
+            index_10 = next_index_5;
         }
     } else {
-        r59 = grow_lone_grow_lone(a0 + 32, a0, a1);
-        r0_7 = r59;
+        shared_len_10 = shared_len_9;
     }
-return_4:;
-    return r0_7;
+    if (shared_room_6 > shared_len_10) {
+        if (shared_len_10 == 0) {
+            rattle_dealloc(load_address(map + INT_MAP_SHARED));
+            store_address(map + INT_MAP_SHARED, dangling);
+            memset(map + INT_MAP_SHARED_LEN, 0, 16);
+        } else {
+            r12_3 = shared_len_10 * 48;
+            block_4 = rattle_realloc(load_address(map + INT_MAP_SHARED), r12_3, r12_3, 8);
+            if ((block_4.first & 1) != 0) {
+                store_address(map + INT_MAP_SHARED, (char *)(uintptr_t)block_4.second);
+                store64(map + INT_MAP_SHARED_ROOM, shared_len_10);
+            }
+        }
+    }
+    if (!r12) {
+        rattle_dealloc(r8);
+    }
+arm_13:;
+    if (r1_3 == 0) {
+        return 1;
+    }
+    rattle_dealloc(r1_2);
+    return 1;
 }
 
+// Moves all pairs, in the order of the walk, to their slots among `capacity` slots.
 // intmap_table::table::slots::grow_lone::grow_lone, in crates/intmap_table/src/table/slots/grow_lone.rt
-static ALIGNED uint8_t grow_lone_grow_lone(char *a0, char *a1, uint64_t a2) {
-    uint8_t r1, r11, r11_3;
-    char *r6, *r0, *r4, *r15, *r6_5, *r4_2, *r3_3, *r3_6, *r17, *r3_10, *r44, *r11_2, *r66;
-    uint64_t r2_2, r0_2, r6_2, r15_36_0_pr, r6_3, r6_4, r6_6, r2_3, r3, r3_2, r3_4, r3_5, r3_7, r17_2, r33, r54, r60,
-        r3_8, r3_9, r3_11, r27, r0_3, r0_4, r10;
-    char *r2 = (char *)no_bytes;
+static ALIGNED uint8_t grow_lone_grow_lone(char *lone, char *directory, uint64_t capacity) {
+    uint8_t r1, has_pair, has_pair_2;
+    char *r6, *lone_2, *lone_3, *lone_4, *r6_3, *words, *r3_3, *r3_6, *words_2, *r3_10, *slot, *r11, *slot_2;
+    uint64_t lone_len, lone_room, r6_2, lone_room_2, words_len, bits, r6_4, r2, r3, r3_2, r3_4, r3_5, r3_7,
+        words_room, r33, bits_2, r60, r3_8, r3_9, r3_11, r27, key, value, index;
+    char *dangling = (char *)no_bytes;
     uint64_t r5_room[4];
     char *r5 = (char *)r5_room;
     memset(r5, 0, 32);
-    grow_reserve_slots_2(r5, a0, a2);
+    grow_reserve_slots_2(r5, lone, capacity);
     r1 = load8(r5);
-    if (r1 == 0) {
-        r6 = load_address(r5 + 8);
-        r2_2 = load64(a0 + 8);
-        r0 = load_address(a0);
-        r0_2 = load64(a0 + 16);
-        store_address(a0, r2);
-        memset(a0 + 8, 0, 16);
-        if (a2 == r2_2) {
-            store_address(a0, r0);
-            store64(a0 + 8, a2);
-            store64(a0 + 16, r0_2);
-            r6_2 = a2;
-            r4 = r0;
+    if (r1 != 0) {
+        return r1;
+    }
+    r6 = load_address(r5 + 8);
+    lone_len = load64(lone + VEC_LEN);
+    lone_2 = load_address(lone + VEC_ADDRESS);
+    lone_room = load64(lone + VEC_ROOM);
+    store_address(lone + VEC_ADDRESS, dangling);
+    memset(lone + VEC_LEN, 0, 16);
+    if (capacity == lone_len) {
+        store_address(lone + VEC_ADDRESS, lone_2);
+        store64(lone + VEC_LEN, capacity);
+        store64(lone + VEC_ROOM, lone_room);
+        r6_2 = capacity;
+        lone_3 = lone_2;
+    } else {
+        memset(lone_2 + (lone_len * LONE_SIZE), 0, (capacity - lone_len) * 24);
+        lone_4 = load_address(lone + VEC_ADDRESS);
+        lone_room_2 = load64(lone + VEC_ROOM);
+        store_address(lone + VEC_ADDRESS, lone_2);
+        store64(lone + VEC_LEN, capacity);
+        store64(lone + VEC_ROOM, lone_room);
+        if (lone_room_2 == 0) {
+            r6_2 = capacity;
+            lone_3 = lone_2;
         } else {
-            memset(r0 + (r2_2 * 24), 0, (a2 - r2_2) * 24);
-            r15 = load_address(a0);
-            r15_36_0_pr = load64(a0 + 16);
-            store_address(a0, r0);
-            store64(a0 + 8, a2);
-            store64(a0 + 16, r0_2);
-            if (r15_36_0_pr == 0) {
-                r6_2 = a2;
-                r4 = r0;
-            } else {
-                rattle_dealloc(r15);
-                r6_2 = load64(a0 + 8);
-                r4 = load_address(a0);
-            }
-        }
-        r6_3 = load64(a1 + 16);
-        if (r6_3 == 0) {
-            r6_4 = 0;
-            r6_5 = (char *)no_bytes;
-            r6_6 = 0;
-        } else {
-            r4_2 = load_address(a1 + 8);
-            r6_4 = load64(r4_2);
-            r6_5 = r4_2 + 8;
-            r6_6 = r6_3 - 1;
-        }
-        r2_3 = r6_2 - 1;
-        r3 = r6_4;
-        r3_2 = 0;
-        r3_3 = r6_5;
-        r3_4 = r6_6;
-        for (;;) {
-            if (r3 == 0) {
-                r3_5 = r3_4;
-                r3_6 = r3_3;
-                r3_7 = r3_2;
-                for (;;) {
-                    if (r3_5 == 0) {
-                        r17 = load_address(a1 + 8);
-                        r17_2 = load64(a1 + 24);
-                        store64(a1, a2 - 1);
-                        store_address(a1 + 8, r6);
-                        memcpy(a1 + 16, r5 + 16, 16);
-                        if (r17_2 == 0) {
-                            goto return_5;
-                        }
-                        rattle_dealloc(r17);
-                        goto return_5;
-                    }
-                    r33 = r3_5 - 1;
-                    r54 = load64(r3_6);
-                    r60 = r3_7 + 64;
-                    if (r54 != 0) {
-                        r3_8 = r54;
-                        r3_9 = r60;
-                        r3_10 = r3_6 + 8;
-                        r3_11 = r33;
-                        break;
-                    }
-                    r3_5 = r33;
-                    r3_6 = r3_6 + 8;
-                    r3_7 = r60;
-                }
-            } else {
-                r3_8 = r3;
-                r3_9 = r3_2;
-                r3_10 = r3_3;
-                r3_11 = r3_4;
-            }
-            r27 = low_zeros(r3_8);
-            r44 = r4 + ((r3_9 + r27) * 24);
-            r0_3 = load_key(r44 + 8);
-            r0_4 = load64(r44 + 16);
-            r11 = load8(r44);
-            memset(r44, 0, 24);
-            if (r11 != 1) {
-                abort();
-            }
-            r10 = (r0_3 * UINT64_C(11400714819323198549)) & r2_3;
-            r11_2 = r6 + ((r10 >> 3) & UINT64_C(2305843009213693944));
-            store64(r11_2, load64(r11_2) | ((uint64_t)1 << (r10 & 63)));
-            r66 = r4 + (r10 * 24);
-            r11_3 = load8(r66);
-            store64(r66, 1);
-            store64(r66 + 8, r0_3);
-            store64(r66 + 16, r0_4);
-            if (r11_3 != 0) {
-                abort();
-            }
-            r3 = (r3_8 - 1) & r3_8;
-            r3_2 = r3_9;
-            r3_3 = r3_10;
-            r3_4 = r3_11;
+            rattle_dealloc(lone_4);
+            r6_2 = load64(lone + VEC_LEN);
+            lone_3 = load_address(lone + VEC_ADDRESS);
         }
     }
-return_5:;
-    return r1;
+    words_len = load64(directory + INT_MAP_WORDS_LEN);
+    if (words_len == 0) {
+        bits = 0;
+        r6_3 = (char *)no_bytes;
+        r6_4 = 0;
+    } else {
+        words = load_address(directory + INT_MAP_WORDS);
+        bits = load64(words);
+        r6_3 = words + 8;
+        r6_4 = words_len - 1;
+    }
+    r2 = r6_2 - 1;
+    r3 = bits;
+    r3_2 = 0;
+    r3_3 = r6_3;
+    r3_4 = r6_4;
+    for (;;) {
+        if (r3 == 0) {
+            r3_5 = r3_4;
+            r3_6 = r3_3;
+            r3_7 = r3_2;
+            for (;;) {
+                if (r3_5 == 0) {
+                    words_2 = load_address(directory + INT_MAP_WORDS);
+                    words_room = load64(directory + INT_MAP_WORDS_ROOM);
+                    store64(directory + INT_MAP_MASK, capacity - 1);
+                    store_address(directory + INT_MAP_WORDS, r6);
+                    memcpy(directory + INT_MAP_WORDS_LEN, r5 + 16, 16);
+                    if (words_room == 0) {
+                        return r1;
+                    }
+                    rattle_dealloc(words_2);
+                    return r1;
+                }
+                r33 = r3_5 - 1;
+                bits_2 = load64(r3_6);
+                r60 = r3_7 + 64;
+                if (bits_2 != 0) {
+                    r3_8 = bits_2;
+                    r3_9 = r60;
+                    r3_10 = r3_6 + 8;
+                    r3_11 = r33;
+                    break;
+                }
+                r3_5 = r33;
+                r3_6 = r3_6 + 8;
+                r3_7 = r60;
+            }
+        } else {
+            r3_8 = r3;
+            r3_9 = r3_2;
+            r3_10 = r3_3;
+            r3_11 = r3_4;
+        }
+        r27 = low_zeros(r3_8);
+        slot = lone_3 + ((r3_9 + r27) * LONE_SIZE);
+        key = load_key(slot + LONE_KEY);
+        value = load64(slot + LONE_VALUE);
+        has_pair = load8(slot + LONE_HAS_PAIR);
+        memset(slot, 0, 24);
+        if (has_pair != 1) {
+            abort();
+        }
+        index = (key * MULTIPLIER) & r2;
+        r11 = r6 + ((index >> 3) & UINT64_C(2305843009213693944));
+        store64(r11, load64(r11) | ((uint64_t)1 << (index & 63)));
+        slot_2 = lone_3 + (index * LONE_SIZE);
+        has_pair_2 = load8(slot_2 + LONE_HAS_PAIR);
+        store64(slot_2 + LONE_HAS_PAIR, 1);
+        store64(slot_2 + LONE_KEY, key);
+        store64(slot_2 + LONE_VALUE, value);
+        if (has_pair_2 != 0) {
+            abort();
+        }
+        r3 = (r3_8 - 1) & r3_8;
+        r3_2 = r3_9;
+        r3_3 = r3_10;
+        r3_4 = r3_11;
+    }
 }
 
+// Allocates room for `capacity` slots, the largest block by far, and then the bits of all of them.
 // intmap_table::table::slots::grow::reserve_slots, in crates/intmap_table/src/table/slots/grow.rt
-static ALIGNED void grow_reserve_slots_2(char *a0, char *a1, uint64_t a2) {
-    uint64_t r2_2, r19, r2_3, r4_0, r9_2, r19_2, r3, r2_4, r12;
-    struct word_word r0, r0_2, r0_3, r0_4, r0_5;
+static ALIGNED void grow_reserve_slots_2(char *result, char *slots, uint64_t capacity) {
+    uint64_t lone_len, r19, lone_room, r4_0, r9_2, r19_2, r3, lone_len_2, r12;
+    struct word_word block, r0, block_2, block_3, block_4;
     char *r9, *r8;
-    char *r2 = (char *)no_bytes;
-    r2_2 = load64(a1 + 8);
-    r19 = a2 - r2_2;
-    r2_3 = load64(a1 + 16);
-    if (r19 > (r2_3 - r2_2)) {
-        if ((a2 < UINT64_C(384307168202282326)) & (r19 <= (r2_2 ^ UINT64_C(18446744073709551615)))) {
-            if (r2_3 == 0) {
-                r0 = rattle_alloc(a2 * 24, 8);
-                if ((r0.first & 1) == 0) {
+    char *dangling = (char *)no_bytes;
+    lone_len = load64(slots + VEC_LEN);
+    r19 = capacity - lone_len;
+    lone_room = load64(slots + VEC_ROOM);
+    if (r19 > (lone_room - lone_len)) {
+        if ((capacity < UINT64_C(384307168202282326)) & (r19 <= (lone_len ^ UINT64_C(18446744073709551615)))) {
+            if (lone_room == 0) {
+                block = rattle_alloc(capacity * 24, 8);
+                if ((block.first & 1) == 0) {
                     goto arm_2;
                 }
-                r0_2 = r0;
+                r0 = block;
             } else {
-                r0_3 = rattle_realloc(load_address(a1), r2_2 * 24, a2 * 24, 8);
-                if ((r0_3.first & 1) == 0) {
+                block_2 = rattle_realloc(load_address(slots + VEC_ADDRESS), lone_len * 24, capacity * 24, 8);
+                if ((block_2.first & 1) == 0) {
                     goto arm_2;
                 }
-                r0_2 = r0_3;
+                r0 = block_2;
             }
-            store_address(a1, (char *)(uintptr_t)r0_2.second);
-            store64(a1 + 16, a2);
+            store_address(slots + VEC_ADDRESS, (char *)(uintptr_t)r0.second);
+            store64(slots + VEC_ROOM, capacity);
             goto arm_1;
         }
     arm_2:;
-        store8(a0, 1);
-        memset(a0 + 8, 0, 24);
-        goto common_ret;
+        store8(result, 1);
+        memset(result + 8, 0, 24);
+        return;
     }
 arm_1:;
-    r4_0 = (a2 >> 6) + ((uint64_t)((a2 & 63) != 0));
-    if (a2 == 0) {
-        r9 = r2;
+    r4_0 = (capacity >> 6) + ((uint64_t)((capacity & 63) != 0));
+    if (capacity == 0) {
+        r9 = dangling;
         r9_2 = 0;
     } else {
         r19_2 = r4_0 << 3;
-        r0_4 = rattle_alloc(r19_2, 8);
-        if ((r0_4.first & 1) == 0) {
-            r2_4 = load64(a1 + 8);
-            if (load64(a1 + 16) > r2_4) {
-                if (r2_4 == 0) {
-                    rattle_dealloc(load_address(a1));
-                    store_address(a1, r2);
-                    memset(a1 + 8, 0, 16);
+        block_3 = rattle_alloc(r19_2, 8);
+        if ((block_3.first & 1) == 0) {
+            lone_len_2 = load64(slots + VEC_LEN);
+            if (load64(slots + VEC_ROOM) > lone_len_2) {
+                if (lone_len_2 == 0) {
+                    rattle_dealloc(load_address(slots + VEC_ADDRESS));
+                    store_address(slots + VEC_ADDRESS, dangling);
+                    memset(slots + VEC_LEN, 0, 16);
                 } else {
-                    r12 = r2_4 * 24;
-                    r0_5 = rattle_realloc(load_address(a1), r12, r12, 8);
-                    if ((r0_5.first & 1) != 0) {
-                        store_address(a1, (char *)(uintptr_t)r0_5.second);
-                        store64(a1 + 16, r2_4);
+                    r12 = lone_len_2 * 24;
+                    block_4 = rattle_realloc(load_address(slots + VEC_ADDRESS), r12, r12, 8);
+                    if ((block_4.first & 1) != 0) {
+                        store_address(slots + VEC_ADDRESS, (char *)(uintptr_t)block_4.second);
+                        store64(slots + VEC_ROOM, lone_len_2);
                     }
                 }
             }
-            store8(a0, 1);
-            memset(a0 + 8, 0, 24);
-            goto common_ret;
+            store8(result, 1);
+            memset(result + 8, 0, 24);
+            return;
         }
-        r8 = (char *)(uintptr_t)r0_4.second;
+        r8 = (char *)(uintptr_t)block_3.second;
         if (r4_0 == 1) {
             r3 = 0;
         } else {
@@ -2073,974 +2126,921 @@ arm_1:;
         r9 = r8;
         r9_2 = r3 + 1;
     }
-    store8(a0, 0);
-    store_address(a0 + 8, r9);
-    store64(a0 + 16, r9_2);
-    store64(a0 + 24, r4_0);
-common_ret:;
-    return;
+    store8(result, 0);
+    store_address(result + 8, r9);
+    store64(result + 16, r9_2);
+    store64(result + 24, r4_0);
 }
 
+// Makes room for `count` pairs behind the first one, and allocates for exactly those.
 // intmap_table::slot::Slot::reserve_behind, in crates/intmap_table/src/slot/room.rt
-static ALIGNED NOINLINE uint8_t slot_reserve_behind(char *a0, uint64_t a1) {
-    uint64_t r2, r2_2, r33;
-    uint8_t r0;
-    struct word_word r0_2, r0_3, r0_4;
-    r2 = load64(a0 + 32);
-    r2_2 = load64(a0 + 40);
-    if (a1 > (r2_2 - r2)) {
-        if (a1 > (r2 ^ UINT64_C(18446744073709551615))) {
-            r0 = 1;
-        } else {
-            r33 = r2 + a1;
-            if (r33 < UINT64_C(576460752303423488)) {
-                if (r2_2 == 0) {
-                    r0_2 = rattle_alloc(r33 << 4, 8);
-                    if ((r0_2.first & 1) == 0) {
-                        r0 = 1;
-                        goto after_Vec_reserve_exact;
-                    }
-                    r0_3 = r0_2;
-                } else {
-                    r0_4 = rattle_realloc(load_address(a0 + 24), r2 << 4, r33 << 4, 8);
-                    if ((r0_4.first & 1) == 0) {
-                        r0 = 1;
-                        goto after_Vec_reserve_exact;
-                    }
-                    r0_3 = r0_4;
-                }
-                store_address(a0 + 24, (char *)(uintptr_t)r0_3.second);
-                store64(a0 + 40, r33);
-                r0 = 0;
-            } else {
-                r0 = 1;
-            }
-        }
-    } else {
-        r0 = 0;
+static ALIGNED NOINLINE uint8_t slot_reserve_behind(char *slot, uint64_t count) {
+    uint64_t rest_len, rest_room, r33;
+    struct word_word block, r0, block_2;
+    rest_len = load64(slot + SLOT_REST_LEN);
+    rest_room = load64(slot + SLOT_REST_ROOM);
+    if (count <= (rest_room - rest_len)) {
+        return 0;
     }
-after_Vec_reserve_exact:;
-    return r0;
+    if (count > (rest_len ^ UINT64_C(18446744073709551615))) {
+        return 1;
+    }
+    r33 = rest_len + count;
+    if (r33 >= UINT64_C(576460752303423488)) {
+        return 1;
+    }
+    if (rest_room == 0) {
+        block = rattle_alloc(r33 << 4, 8);
+        if ((block.first & 1) == 0) {
+            return 1;
+        }
+        r0 = block;
+    } else {
+        block_2 = rattle_realloc(load_address(slot + SLOT_REST), rest_len << 4, r33 << 4, 8);
+        if ((block_2.first & 1) == 0) {
+            return 1;
+        }
+        r0 = block_2;
+    }
+    store_address(slot + SLOT_REST, (char *)(uintptr_t)r0.second);
+    store64(slot + SLOT_REST_ROOM, r33);
+    return 0;
 }
 
+// Moves the pairs of an old slot that holds several, in order, to the ends of their slots.
 // intmap_table::table::slots::place::move_several, in crates/intmap_table/src/table/slots/place.rt
-static ALIGNED NOINLINE void place_move_several(char *a0, char *a1, uint64_t a2, uint64_t a3, char *a4) {
-    char *r25, *r0, *r17, *r4, *r13, *r17_2, *r13_2, *r17_3, *r31_2, *r11_2, *r3, *r4_2, *r10_2, *r3_4, *r15, *r3_7,
-        *r3_9, *r21, *r31_3, *r11_4, *r3_14, *r4_4, *r10_4, *r3_17, *r15_2;
-    uint64_t r0_2, r0_3, r2_2, r12, r12_2, r6, r2_3, r7, r0_05, r18, r28, r31, r298, x1, r5_011, r6_010, r68, r0_4,
-        r0_5, r2_4, r10, r16, r20, r3_2, r3_3, r4_3, r9, r3_5, r3_6, r2_5, r3_8, r3_10, r3_11, r2_6, r11_3, r3_12,
-        r3_13, r10_3, r16_2, r20_2, r3_15, r3_16, r4_5, r9_2, r3_18, r3_19, r2_7;
+static ALIGNED NOINLINE void place_move_several(char *bits, char *slots, uint64_t slots_len, uint64_t index, char *buffer) {
+    char *slot, *rest, *pair, *address, *pair_2, *pair_3, *pair_4, *pair_5, *slot_2, *r11, *rest_2, *rest_3, *rest_4,
+        *rest_5, *pair_6, *rest_6, *rest_7, *pair_7, *slot_3, *r11_2, *rest_8, *rest_9, *rest_10, *pair_8, *pair_9;
+    uint64_t rest_len, rest_room, len, len_2, place, r6, rest_len_2, r7, place_2, r18, next_place, r31, r298, x1,
+        place_3, r6_010, place_4, key, value, r2, index_2, bits_2, r20, rest_len_3, rest_room_2, rest_len_4, place_5,
+        rest_len_5, rest_room_3, len_3, rest_room_4, rest_len_6, r3, len_4, place_6, key_2, value_2, index_3, bits_3,
+        r20_2, rest_len_7, rest_room_5, rest_len_8, place_7, r3_2, r3_3, len_5;
     bool r24;
-    uint8_t r11;
-    char *r2 = (char *)no_bytes;
+    uint8_t has_first;
+    char *dangling = (char *)no_bytes;
     uint64_t r8_room[2];
     char *r8 = (char *)r8_room;
     uint64_t r8_2_room[2];
     char *r8_2 = (char *)r8_2_room;
-    r25 = a1 + (a3 * 48);
-    r0 = load_address(r25 + 24);
-    r0_2 = load64(r25 + 32);
-    r0_3 = load64(r25 + 40);
-    store_address(r25 + 24, r2);
-    memset(r25 + 32, 0, 16);
-    r2_2 = load64(a4 + 8);
-    if (r0_2 > (load64(a4 + 16) - r2_2)) {
-        r24 = vec_grow_amortized(a4, r0_2);
-        r12 = load64(a4 + 8);
+    slot = slots + (index * SLOT_SIZE);
+    rest = load_address(slot + SLOT_REST);
+    rest_len = load64(slot + SLOT_REST_LEN);
+    rest_room = load64(slot + SLOT_REST_ROOM);
+    store_address(slot + SLOT_REST, dangling);
+    memset(slot + SLOT_REST_LEN, 0, 16);
+    len = load64(buffer + VEC_LEN);
+    if (rest_len > (load64(buffer + VEC_ROOM) - len)) {
+        r24 = vec_grow_amortized(buffer, rest_len);
+        len_2 = load64(buffer + VEC_LEN);
         if (!r24) {
-            r6 = r12;
-            r2_3 = r0_2;
+            r6 = len_2;
+            rest_len_2 = rest_len;
             goto after_Vec_append;
         }
-        r12_2 = r12;
+        place = len_2;
     } else {
-        if (r0_2 == 0) {
-            r6 = r2_2;
-            r2_3 = 0;
+        if (rest_len == 0) {
+            r6 = len;
+            rest_len_2 = 0;
             goto after_Vec_append;
         }
-        r12_2 = r2_2;
+        place = len;
     }
-    r17 = load_address(a4) + (r12_2 << 4);
-    r7 = r0_2 << 4;
-    if ((((uint64_t)(uintptr_t)r17) - ((uint64_t)(uintptr_t)r0)) < r7) {
-        r0_05 = 0;
+    pair = load_address(buffer + VEC_ADDRESS) + (place << 4);
+    r7 = rest_len << 4;
+    if ((((uint64_t)(uintptr_t)pair) - ((uint64_t)(uintptr_t)rest)) < r7) {
+        place_2 = 0;
         for (;;) {
-            r18 = r0_05 << 4;
-            memmove(r17 + r18, r0 + r18, 16);
-            r28 = r0_05 + 1;
-            if (r28 == r0_2) {
+            r18 = place_2 << 4;
+            memmove(pair + r18, rest + r18, 16);
+            next_place = place_2 + 1;
+            if (next_place == rest_len) {
                 break;
             }
-            r0_05 = r28;
+            place_2 = next_place;
         }
     } else {
-        memmove(r17, r0, r7);
+        memmove(pair, rest, r7);
     }
-    r31 = load64(a4 + 8) + r0_2;
-    store64(a4 + 8, r31);
+    r31 = load64(buffer + VEC_LEN) + rest_len;
+    store64(buffer + VEC_LEN, r31);
     r6 = r31;
-    r2_3 = 0;
+    rest_len_2 = 0;
 after_Vec_append:;
-    r4 = load_address(a4);
+    address = load_address(buffer + VEC_ADDRESS);
     if (r6 > 15) {
         r298 = r6 >> 1;
-        edits_mirror(r4, r4 + ((r6 - r298) << 4), r298);
+        edits_mirror(address, address + ((r6 - r298) << 4), r298);
     } else {
         if (r6 > 1) {
             x1 = (r6 - 2) >> 1;
-            r5_011 = 0;
+            place_3 = 0;
             r6_010 = r6;
             for (;;) {
-                r68 = r6_010 - 1;
-                if (r5_011 < r68) {
-                    r13 = r4 + (r5_011 << 4);
-                    r17_2 = r4 + (r68 << 4);
-                    memcpy(r8_2, r13, 16);
-                    memmove(r13, r17_2, 16);
-                    memcpy(r17_2, r8_2, 16);
+                place_4 = r6_010 - 1;
+                if (place_3 < place_4) {
+                    pair_2 = address + (place_3 << 4);
+                    pair_3 = address + (place_4 << 4);
+                    memcpy(r8_2, pair_2, 16);
+                    memmove(pair_2, pair_3, 16);
+                    memcpy(pair_3, r8_2, 16);
                 } else {
-                    if (r68 < r5_011) {
-                        r13_2 = r4 + (r68 << 4);
-                        r17_3 = r4 + (r5_011 << 4);
-                        memcpy(r8, r13_2, 16);
-                        memmove(r13_2, r17_3, 16);
-                        memcpy(r17_3, r8, 16);
+                    if (place_4 < place_3) {
+                        pair_4 = address + (place_4 << 4);
+                        pair_5 = address + (place_3 << 4);
+                        memcpy(r8, pair_4, 16);
+                        memmove(pair_4, pair_5, 16);
+                        memcpy(pair_5, r8, 16);
                     }
                 }
-                if (r5_011 == x1) {
+                if (place_3 == x1) {
                     break;
                 }
-                r5_011 = r5_011 + 1;
-                r6_010 = r68;
+                place_3 = place_3 + 1;
+                r6_010 = place_4;
             }
         }
     }
-    r0_4 = load_key(r25 + 8);
-    r0_5 = load64(r25 + 16);
-    r11 = load8(r25);
-    memset(r25, 0, 24);
-    if (r11 != 1) {
+    key = load_key(slot + SLOT_KEY);
+    value = load64(slot + SLOT_VALUE);
+    has_first = load8(slot + SLOT_HAS_FIRST);
+    memset(slot, 0, 24);
+    if (has_first != 1) {
         abort();
     }
-    r2_4 = a2 - 1;
-    r10 = (r0_4 * UINT64_C(11400714819323198549)) & r2_4;
-    r31_2 = a1 + (r10 * 48);
-    r11_2 = load_address(a0) + ((r10 >> 3) & UINT64_C(2305843009213693944));
-    r16 = load64(r11_2);
-    r20 = (uint64_t)1 << (r10 & 63);
-    store64(r11_2, r16 | r20);
-    if ((r16 & r20) == 0) {
-        store64(r31_2, 1);
-        store64(r31_2 + 8, r0_4);
-        store64(r31_2 + 16, r0_5);
-        r3 = r0;
-        r3_2 = r2_3;
-        r3_3 = r0_3;
+    r2 = slots_len - 1;
+    index_2 = (key * MULTIPLIER) & r2;
+    slot_2 = slots + (index_2 * SLOT_SIZE);
+    r11 = load_address(bits + BITS_WORDS) + ((index_2 >> 3) & UINT64_C(2305843009213693944));
+    bits_2 = load64(r11);
+    r20 = (uint64_t)1 << (index_2 & 63);
+    store64(r11, bits_2 | r20);
+    if ((bits_2 & r20) == 0) {
+        store64(slot_2 + SLOT_HAS_FIRST, 1);
+        store64(slot_2 + SLOT_KEY, key);
+        store64(slot_2 + SLOT_VALUE, value);
+        rest_2 = rest;
+        rest_len_3 = rest_len_2;
+        rest_room_2 = rest_room;
     } else {
-        if (load64(r31_2 + 40) == 0) {
-            r4_2 = load_address(r31_2 + 24);
-            r4_3 = load64(r31_2 + 32);
-            store_address(r31_2 + 24, r0);
-            store64(r31_2 + 40, r0_3);
-            r10_2 = r0;
-            r9 = r2_3;
-            r3_4 = r4_2;
-            r3_5 = r4_3;
-            r3_6 = 0;
+        if (load64(slot_2 + SLOT_REST_ROOM) == 0) {
+            rest_3 = load_address(slot_2 + SLOT_REST);
+            rest_len_4 = load64(slot_2 + SLOT_REST_LEN);
+            store_address(slot_2 + SLOT_REST, rest);
+            store64(slot_2 + SLOT_REST_ROOM, rest_room);
+            rest_4 = rest;
+            place_5 = rest_len_2;
+            rest_5 = rest_3;
+            rest_len_5 = rest_len_4;
+            rest_room_3 = 0;
         } else {
-            r10_2 = load_address(r31_2 + 24);
-            r9 = load64(r31_2 + 32);
-            r3_4 = r0;
-            r3_5 = r2_3;
-            r3_6 = r0_3;
+            rest_4 = load_address(slot_2 + SLOT_REST);
+            place_5 = load64(slot_2 + SLOT_REST_LEN);
+            rest_5 = rest;
+            rest_len_5 = rest_len_2;
+            rest_room_3 = rest_room;
         }
-        r15 = r10_2 + (r9 << 4);
-        store64(r15, r0_4);
-        store64(r15 + 8, r0_5);
-        store64(r31_2 + 32, r9 + 1);
-        r3 = r3_4;
-        r3_2 = r3_5;
-        r3_3 = r3_6;
+        pair_6 = rest_4 + (place_5 << 4);
+        store64(pair_6 + PAIR_KEY, key);
+        store64(pair_6 + PAIR_VALUE, value);
+        store64(slot_2 + SLOT_REST_LEN, place_5 + 1);
+        rest_2 = rest_5;
+        rest_len_3 = rest_len_5;
+        rest_room_2 = rest_room_3;
     }
-    r2_5 = load64(a4 + 8);
-    if (r2_5 == 0) {
-        r3_7 = r3;
-        r3_8 = r3_3;
+    len_3 = load64(buffer + VEC_LEN);
+    if (len_3 == 0) {
+        rest_6 = rest_2;
+        rest_room_4 = rest_room_2;
     } else {
-        r3_9 = r3;
-        r3_10 = r3_2;
-        r3_11 = r3_3;
-        r2_6 = r2_5;
+        rest_7 = rest_2;
+        rest_len_6 = rest_len_3;
+        r3 = rest_room_2;
+        len_4 = len_3;
         for (;;) {
-            r11_3 = r2_6 - 1;
-            store64(a4 + 8, r11_3);
-            r21 = load_address(a4) + (r11_3 << 4);
-            r3_12 = load_key(r21);
-            r3_13 = load64(r21 + 8);
-            r10_3 = (r3_12 * UINT64_C(11400714819323198549)) & r2_4;
-            r31_3 = a1 + (r10_3 * 48);
-            r11_4 = load_address(a0) + ((r10_3 >> 3) & UINT64_C(2305843009213693944));
-            r16_2 = load64(r11_4);
-            r20_2 = (uint64_t)1 << (r10_3 & 63);
-            store64(r11_4, r20_2 | r16_2);
-            if ((r20_2 & r16_2) == 0) {
-                store64(r31_3, 1);
-                store64(r31_3 + 8, r3_12);
-                store64(r31_3 + 16, r3_13);
-                r3_14 = r3_9;
-                r3_15 = r3_10;
-                r3_16 = r3_11;
+            place_6 = len_4 - 1;
+            store64(buffer + VEC_LEN, place_6);
+            pair_7 = load_address(buffer + VEC_ADDRESS) + (place_6 << 4);
+            key_2 = load_key(pair_7 + PAIR_KEY);
+            value_2 = load64(pair_7 + PAIR_VALUE);
+            index_3 = (key_2 * MULTIPLIER) & r2;
+            slot_3 = slots + (index_3 * SLOT_SIZE);
+            r11_2 = load_address(bits + BITS_WORDS) + ((index_3 >> 3) & UINT64_C(2305843009213693944));
+            bits_3 = load64(r11_2);
+            r20_2 = (uint64_t)1 << (index_3 & 63);
+            store64(r11_2, r20_2 | bits_3);
+            if ((r20_2 & bits_3) == 0) {
+                store64(slot_3 + SLOT_HAS_FIRST, 1);
+                store64(slot_3 + SLOT_KEY, key_2);
+                store64(slot_3 + SLOT_VALUE, value_2);
+                rest_8 = rest_7;
+                rest_len_7 = rest_len_6;
+                rest_room_5 = r3;
             } else {
-                if (load64(r31_3 + 40) == 0) {
-                    r4_4 = load_address(r31_3 + 24);
-                    r4_5 = load64(r31_3 + 32);
-                    store_address(r31_3 + 24, r3_9);
-                    store64(r31_3 + 40, r3_11);
-                    r10_4 = r3_9;
-                    r9_2 = r3_10;
-                    r3_17 = r4_4;
-                    r3_18 = r4_5;
-                    r3_19 = 0;
+                if (load64(slot_3 + SLOT_REST_ROOM) == 0) {
+                    rest_9 = load_address(slot_3 + SLOT_REST);
+                    rest_len_8 = load64(slot_3 + SLOT_REST_LEN);
+                    store_address(slot_3 + SLOT_REST, rest_7);
+                    store64(slot_3 + SLOT_REST_ROOM, r3);
+                    rest_10 = rest_7;
+                    place_7 = rest_len_6;
+                    pair_8 = rest_9;
+                    r3_2 = rest_len_8;
+                    r3_3 = 0;
                 } else {
-                    r10_4 = load_address(r31_3 + 24);
-                    r9_2 = load64(r31_3 + 32);
-                    r3_17 = r3_9;
-                    r3_18 = r3_10;
-                    r3_19 = r3_11;
+                    rest_10 = load_address(slot_3 + SLOT_REST);
+                    place_7 = load64(slot_3 + SLOT_REST_LEN);
+                    pair_8 = rest_7;
+                    r3_2 = rest_len_6;
+                    r3_3 = r3;
                 }
-                r15_2 = r10_4 + (r9_2 << 4);
-                store64(r15_2, r3_12);
-                store64(r15_2 + 8, r3_13);
-                store64(r31_3 + 32, r9_2 + 1);
-                r3_14 = r3_17;
-                r3_15 = r3_18;
-                r3_16 = r3_19;
+                pair_9 = rest_10 + (place_7 << 4);
+                store64(pair_9 + PAIR_KEY, key_2);
+                store64(pair_9 + PAIR_VALUE, value_2);
+                store64(slot_3 + SLOT_REST_LEN, place_7 + 1);
+                rest_8 = pair_8;
+                rest_len_7 = r3_2;
+                rest_room_5 = r3_3;
             }
-            r2_7 = load64(a4 + 8);
-            if (r2_7 == 0) {
-                r3_7 = r3_14;
-                r3_8 = r3_16;
+            len_5 = load64(buffer + VEC_LEN);
+            if (len_5 == 0) {
+                rest_6 = rest_8;
+                rest_room_4 = rest_room_5;
                 break;
             }
-            r3_9 = r3_14;
-            r3_10 = r3_15;
-            r3_11 = r3_16;
-            r2_6 = r2_7;
+            rest_7 = rest_8;
+            rest_len_6 = rest_len_7;
+            r3 = rest_room_5;
+            len_4 = len_5;
         }
     }
-    if (r3_8 != 0) {
-        rattle_dealloc(r3_7);
+    if (rest_room_4 == 0) {
+        return;
     }
-    return;
+    rattle_dealloc(rest_6);
 }
 
 // std_alloc::vec::Vec::grow_amortized, in Rattle's library std_alloc
-static COLD bool vec_grow_amortized(char *a0, uint64_t a1) {
-    uint64_t r2, r2_2, a2_a1, x0, common_ret_op_2;
-    bool common_ret_op;
-    struct word_word r0, r0_2, r0_3;
-    r2 = load64(a0 + 8);
-    if (a1 > (r2 ^ UINT64_C(18446744073709551615))) {
-        common_ret_op = false;
-    } else {
-        r2_2 = load64(a0 + 16);
-        a2_a1 = greater(r2 + a1, 4);
-        x0 = greater(a2_a1, r2_2 << 1);
-        common_ret_op_2 = (r2_2 < UINT64_C(4611686018427387904)) ? x0 : a2_a1;
-        if (common_ret_op_2 < UINT64_C(576460752303423488)) {
-            if (r2_2 == 0) {
-                r0 = rattle_alloc(x0 << 4, 8);
-                if ((r0.first & 1) == 0) {
-                    common_ret_op = false;
-                    goto common_ret;
-                }
-                r0_2 = r0;
-            } else {
-                r0_3 = rattle_realloc(load_address(a0), r2 << 4, common_ret_op_2 << 4, 8);
-                if ((r0_3.first & 1) == 0) {
-                    common_ret_op = false;
-                    goto common_ret;
-                }
-                r0_2 = r0_3;
-            }
-            store_address(a0, (char *)(uintptr_t)r0_2.second);
-            store64(a0 + 16, common_ret_op_2);
-            common_ret_op = true;
-        } else {
-            common_ret_op = false;
-        }
+static COLD bool vec_grow_amortized(char *vec, uint64_t a1) {
+    uint64_t len, room, a2_a1, x0, common_ret_op;
+    struct word_word block, r0, block_2;
+    len = load64(vec + VEC_LEN);
+    if (a1 > (len ^ UINT64_C(18446744073709551615))) {
+        return false;
     }
-common_ret:;
-    return common_ret_op;
+    room = load64(vec + VEC_ROOM);
+    a2_a1 = greater(len + a1, 4);
+    x0 = greater(a2_a1, room << 1);
+    common_ret_op = (room < UINT64_C(4611686018427387904)) ? x0 : a2_a1;
+    if (common_ret_op >= UINT64_C(576460752303423488)) {
+        return false;
+    }
+    if (room == 0) {
+        block = rattle_alloc(x0 << 4, 8);
+        if ((block.first & 1) == 0) {
+            return false;
+        }
+        r0 = block;
+    } else {
+        block_2 = rattle_realloc(load_address(vec + VEC_ADDRESS), len << 4, common_ret_op << 4, 8);
+        if ((block_2.first & 1) == 0) {
+            return false;
+        }
+        r0 = block_2;
+    }
+    store_address(vec + VEC_ADDRESS, (char *)(uintptr_t)r0.second);
+    store64(vec + VEC_ROOM, common_ret_op);
+    return true;
 }
 
 // core::slice::edits::mirror, in Rattle's library core
-static ALIGNED NOINLINE void edits_mirror(char *a0, char *a3, uint64_t a5) {
-    uint64_t r4_04, r41;
-    char *r26, *r36;
+static ALIGNED NOINLINE void edits_mirror(char *pair, char *pair_2, uint64_t a5) {
+    uint64_t place, next_place;
+    char *pair_3, *pair_4;
     uint64_t r4_room[2];
     char *r4 = (char *)r4_room;
-    r4_04 = 0;
+    place = 0;
     for (;;) {
-        r26 = a0 + (r4_04 << 4);
-        r36 = a3 + ((a5 + (r4_04 ^ UINT64_C(18446744073709551615))) << 4);
-        memcpy(r4, r26, 16);
-        memmove(r26, r36, 16);
-        memcpy(r36, r4, 16);
-        r41 = r4_04 + 1;
-        if (r41 == a5) {
+        pair_3 = pair + (place << 4);
+        pair_4 = pair_2 + ((a5 + (place ^ UINT64_C(18446744073709551615))) << 4);
+        memcpy(r4, pair_3, 16);
+        memmove(pair_3, pair_4, 16);
+        memcpy(pair_4, r4, 16);
+        next_place = place + 1;
+        if (next_place == a5) {
             return;
         }
-        r4_04 = r41;
+        place = next_place;
     }
 }
 
+// Puts a second pair into a slot, after it has made all slots shared.
 // intmap_table::table::slots::Slots::push_second, in crates/intmap_table/src/table/slots/forms.rt
-static ALIGNED NOINLINE struct byte_word slots_push_second(char *a0, uint64_t a1, uint64_t a2, uint64_t a3) {
-    struct word_word r0, r0_2;
-    char *r8, *r8_2, *r0_3, *r25, *r20, *r17_2, *r9, *r9_2, *r15;
-    uint64_t r3, r0_4, r0_5, r14, r2_2, r17, r27, r17_3, r17_4, r0_06, r12, r0_6, r9_3;
-    uint8_t r0_7;
-    char *r2 = (char *)no_bytes;
+static ALIGNED NOINLINE struct byte_word slots_push_second(char *map, uint64_t index, uint64_t key, uint64_t value) {
+    struct word_word block, block_2;
+    char *r8, *r8_2, *lone, *slot, *r20, *shared, *slot_2, *slot_3, *pair;
+    uint64_t lone_len, lone_len_2, lone_room, index_2, r2, r17, r27, shared_len, shared_room, index_3, next_index,
+        rest_len;
+    char *dangling = (char *)no_bytes;
     uint64_t r11_3_room[2];
     char *r11_3 = (char *)r11_3_room;
-    r0 = rattle_alloc(16, 8);
-    if ((r0.first & 1) != 0) {
-        r8 = (char *)(uintptr_t)r0.second;
-        r3 = load64(a0 + 40);
-        if (r3 != 0) {
-            if (r3 < UINT64_C(192153584101141163)) {
-                r0_2 = rattle_alloc(r3 * 48, 8);
-                if ((r0_2.first & 1) != 0) {
-                    r8_2 = (char *)(uintptr_t)r0_2.second;
-                    r0_3 = load_address(a0 + 32);
-                    r0_4 = load64(a0 + 40);
-                    r0_5 = load64(a0 + 48);
-                    store_address(a0 + 32, r2);
-                    memset(a0 + 40, 0, 16);
-                    if (r0_4 != 0) {
-                        r14 = 0;
-                        r2_2 = r0_4;
-                        for (;;) {
-                            r17 = r2_2 - 1;
-                            r25 = r0_3 + (r14 * 24);
-                            r27 = (uint64_t)load8(r25);
-                            memcpy(r11_3, r25 + 8, 16);
-                            r20 = r8_2 + (r14 * 48);
-                            store64(r20, r27);
-                            memcpy(r20 + 8, r11_3, 16);
-                            store_address(r20 + 24, r2);
-                            memset(r20 + 32, 0, 16);
-                            if (r17 == 0) {
-                                break;
-                            }
-                            r14 = r14 + 1;
-                            r2_2 = r17;
+    block = rattle_alloc(16, 8);
+    if ((block.first & 1) == 0) {
+        return made_byte_word(1, value);
+    }
+    r8 = (char *)(uintptr_t)block.second;
+    lone_len = load64(map + INT_MAP_LONE_LEN);
+    if (lone_len != 0) {
+        if (lone_len < UINT64_C(192153584101141163)) {
+            block_2 = rattle_alloc(lone_len * 48, 8);
+            if ((block_2.first & 1) != 0) {
+                r8_2 = (char *)(uintptr_t)block_2.second;
+                lone = load_address(map + INT_MAP_LONE);
+                lone_len_2 = load64(map + INT_MAP_LONE_LEN);
+                lone_room = load64(map + INT_MAP_LONE_ROOM);
+                store_address(map + INT_MAP_LONE, dangling);
+                memset(map + INT_MAP_LONE_LEN, 0, 16);
+                if (lone_len_2 != 0) {
+                    index_2 = 0;
+                    r2 = lone_len_2;
+                    for (;;) {
+                        r17 = r2 - 1;
+                        slot = lone + (index_2 * LONE_SIZE);
+                        r27 = (uint64_t)load8(slot + LONE_HAS_PAIR);
+                        memcpy(r11_3, slot + LONE_KEY, 16);
+                        r20 = r8_2 + (index_2 * 48);
+                        store64(r20, r27);
+                        memcpy(r20 + 8, r11_3, 16);
+                        store_address(r20 + 24, dangling);
+                        memset(r20 + 32, 0, 16);
+                        if (r17 == 0) {
+                            break;
                         }
+                        index_2 = index_2 + 1;
+                        r2 = r17;
                     }
-                    if (r0_5 != 0) {
-                        rattle_dealloc(r0_3);
-                    }
-                    r17_2 = load_address(a0 + 56);
-                    r17_3 = load64(a0 + 64);
-                    r17_4 = load64(a0 + 72);
-                    store_address(a0 + 56, r8_2);
-                    store64(a0 + 64, r0_4);
-                    store64(a0 + 72, r3);
-                    if (r17_3 != 0) {
-                        r0_06 = 0;
-                        for (;;) {
-                            r9 = r17_2 + (r0_06 * 48);
-                            if (load64(r9 + 40) != 0) {
-                                rattle_dealloc(load_address(r9 + 24));
-                            }
-                            r12 = r0_06 + 1;
-                            if (r12 == r17_3) {
-                                break;
-                            }
-                            r0_06 = r12;
+                }
+                if (lone_room != 0) {
+                    rattle_dealloc(lone);
+                }
+                shared = load_address(map + INT_MAP_SHARED);
+                shared_len = load64(map + INT_MAP_SHARED_LEN);
+                shared_room = load64(map + INT_MAP_SHARED_ROOM);
+                store_address(map + INT_MAP_SHARED, r8_2);
+                store64(map + INT_MAP_SHARED_LEN, lone_len_2);
+                store64(map + INT_MAP_SHARED_ROOM, lone_len);
+                if (shared_len != 0) {
+                    index_3 = 0;
+                    for (;;) {
+                        slot_2 = shared + (index_3 * SLOT_SIZE);
+                        if (load64(slot_2 + SLOT_REST_ROOM) != 0) {
+                            rattle_dealloc(load_address(slot_2 + SLOT_REST));
                         }
+                        next_index = index_3 + 1;
+                        if (next_index == shared_len) {
+                            break;
+                        }
+                        index_3 = next_index;
                     }
-                    if (r17_4 == 0) {
-                        goto join_8;
-                    }
-                    rattle_dealloc(r17_2);
+                }
+                if (shared_room == 0) {
                     goto join_8;
                 }
+                rattle_dealloc(shared);
+                goto join_8;
             }
-            rattle_dealloc(r8);
-            r0_6 = a3;
-            r0_7 = 1;
-            goto return_5;
         }
-    join_8:;
-        r9_2 = load_address(a0 + 56) + (a1 * 48);
-        if (load64(r9_2 + 40) == 0) {
-            store_address(r9_2 + 24, r8);
-            store64(r9_2 + 40, 1);
-            store64(r8, a2);
-            store64(r8 + 8, a3);
-            store64(r9_2 + 32, 1);
-            r0_6 = 1;
-            r0_7 = 0;
-        } else {
-            r9_3 = load64(r9_2 + 32);
-            r15 = load_address(r9_2 + 24) + (r9_3 << 4);
-            store64(r15, a2);
-            store64(r15 + 8, a3);
-            store64(r9_2 + 32, r9_3 + 1);
-            rattle_dealloc(r8);
-            r0_6 = 1;
-            r0_7 = 0;
-        }
-    } else {
-        r0_6 = a3;
-        r0_7 = 1;
+        rattle_dealloc(r8);
+        return made_byte_word(1, value);
     }
-return_5:;
-    return made_byte_word(r0_7, r0_6);
+join_8:;
+    slot_3 = load_address(map + INT_MAP_SHARED) + (index * SLOT_SIZE);
+    if (load64(slot_3 + SLOT_REST_ROOM) == 0) {
+        store_address(slot_3 + SLOT_REST, r8);
+        store64(slot_3 + SLOT_REST_ROOM, 1);
+        store64(r8, key);
+        store64(r8 + 8, value);
+        store64(slot_3 + SLOT_REST_LEN, 1);
+        return made_byte_word(0, 1);
+    }
+    rest_len = load64(slot_3 + SLOT_REST_LEN);
+    pair = load_address(slot_3 + SLOT_REST) + (rest_len << 4);
+    store64(pair + PAIR_KEY, key);
+    store64(pair + PAIR_VALUE, value);
+    store64(slot_3 + SLOT_REST_LEN, rest_len + 1);
+    rattle_dealloc(r8);
+    return made_byte_word(0, 1);
 }
 
+// Adds a pair behind others, and returns its place.
 // intmap_table::slot::Slot::push, in crates/intmap_table/src/slot/pairs.rt
-static ALIGNED NOINLINE struct byte_word slot_push(char *a0, uint64_t a1, uint64_t a2) {
-    uint64_t r3, r2, r0_2, r9, r18;
-    struct word_word r0;
-    uint8_t r0_3;
+static ALIGNED NOINLINE struct byte_word slot_push(char *slot, uint64_t key, uint64_t value) {
+    uint64_t rest_len, rest_room, rest_len_2, next_place;
+    struct word_word block;
     bool r24;
-    char *r15;
-    r3 = load64(a0 + 32);
-    r2 = load64(a0 + 40);
-    if (r3 == 0) {
-        if (r2 == 0) {
-            r0 = rattle_alloc(16, 8);
-            if ((r0.first & 1) == 0) {
-                r0_2 = a2;
-                r0_3 = 1;
-                goto return_7;
+    char *pair;
+    rest_len = load64(slot + SLOT_REST_LEN);
+    rest_room = load64(slot + SLOT_REST_ROOM);
+    if (rest_len == 0) {
+        if (rest_room == 0) {
+            block = rattle_alloc(16, 8);
+            if ((block.first & 1) == 0) {
+                return made_byte_word(1, value);
             }
-            store_address(a0 + 24, (char *)(uintptr_t)r0.second);
-            store64(a0 + 40, 1);
+            store_address(slot + SLOT_REST, (char *)(uintptr_t)block.second);
+            store64(slot + SLOT_REST_ROOM, 1);
         }
     } else {
-        if (r2 == r3) {
-            r24 = vec_grow_amortized(a0 + 24, 1);
+        if (rest_room == rest_len) {
+            r24 = vec_grow_amortized(slot + SLOT_REST, 1);
             if (!r24) {
-                r0_2 = a2;
-                r0_3 = 1;
-                goto return_7;
+                return made_byte_word(1, value);
             }
         }
     }
-    r9 = load64(a0 + 32);
-    r15 = load_address(a0 + 24) + (r9 << 4);
-    store64(r15, a1);
-    store64(r15 + 8, a2);
-    r18 = r9 + 1;
-    store64(a0 + 32, r18);
-    r0_2 = r18;
-    r0_3 = 0;
-return_7:;
-    return made_byte_word(r0_3, r0_2);
+    rest_len_2 = load64(slot + SLOT_REST_LEN);
+    pair = load_address(slot + SLOT_REST) + (rest_len_2 << 4);
+    store64(pair + PAIR_KEY, key);
+    store64(pair + PAIR_VALUE, value);
+    next_place = rest_len_2 + 1;
+    store64(slot + SLOT_REST_LEN, next_place);
+    return made_byte_word(0, next_place);
 }
 
+// Writes the address of the value of the key, or null if the key is absent.
 // intmap_place, in crates/intmap_c/src/place.rt
-static ALWAYS_INLINE void do_intmap_place(char *map, uint64_t key, char *at) {
-    char *r11, *r11_2, *r4, *r11_3, *r4_2;
-    uint64_t r10, r6, r3_0, r21, r36;
+static ALWAYS_INLINE void do_intmap_place(char *word, uint64_t key, char *at) {
+    char *map, *slot, *value_at, *slot_2, *rest;
+    uint64_t index, rest_len, place, r21, next_place;
     store_address(at, NULL);
-    r11 = load_address(map);
-    if (r11 != NULL) {
-        r10 = load64(r11) & (key * UINT64_C(11400714819323198549));
-        if (r10 < load64(r11 + 40)) {
-            r11_2 = load_address(r11 + 32) + (r10 * 24);
-            if (load8(r11_2) != 1) {
-                goto after_place_intmap_place;
-            }
-            if (load64(r11_2 + 8) != key) {
-                goto after_place_intmap_place;
-            }
-            r4 = r11_2 + 16;
+    map = load_address(word);
+    if (map == NULL) {
+        return;
+    }
+    index = load64(map + INT_MAP_MASK) & (key * MULTIPLIER);
+    if (index < load64(map + INT_MAP_LONE_LEN)) {
+        slot = load_address(map + INT_MAP_LONE) + (index * LONE_SIZE);
+        if (load8(slot + LONE_HAS_PAIR) != 1) {
+            return;
+        }
+        if (load64(slot + LONE_KEY) != key) {
+            return;
+        }
+        value_at = slot + LONE_VALUE;
+    } else {
+        slot_2 = load_address(map + INT_MAP_SHARED) + (index * SLOT_SIZE);
+        if (load8(slot_2 + SLOT_HAS_FIRST) != 1) {
+            return;
+        }
+        if (load64(slot_2 + SLOT_KEY) == key) {
+            value_at = slot_2 + SLOT_VALUE;
         } else {
-            r11_3 = load_address(r11 + 56) + (r10 * 48);
-            if (load8(r11_3) != 1) {
-                goto after_place_intmap_place;
+            rest = load_address(slot_2 + SLOT_REST);
+            rest_len = load64(slot_2 + SLOT_REST_LEN);
+            if (rest_len == 0) {
+                return;
             }
-            if (load64(r11_3 + 8) == key) {
-                r4 = r11_3 + 16;
-            } else {
-                r4_2 = load_address(r11_3 + 24);
-                r6 = load64(r11_3 + 32);
-                if (r6 == 0) {
-                    goto after_place_intmap_place;
+            place = 0;
+            for (;;) {
+                r21 = place << 4;
+                if (load64((rest + r21) + PAIR_KEY) == key) {
+                    value_at = (rest + r21) + PAIR_VALUE;
+                    break;
                 }
-                r3_0 = 0;
-                for (;;) {
-                    r21 = r3_0 << 4;
-                    if (load64(r4_2 + r21) == key) {
-                        r4 = (r4_2 + r21) + 8;
-                        break;
-                    }
-                    r36 = r3_0 + 1;
-                    if (r36 == r6) {
-                        goto after_place_intmap_place;
-                    }
-                    r3_0 = r36;
+                next_place = place + 1;
+                if (next_place == rest_len) {
+                    return;
                 }
+                place = next_place;
             }
         }
-        store_address(at, r4);
     }
-after_place_intmap_place:;
-    return;
+    store_address(at, value_at);
 }
 
+// The version of the code, which is 1.0.0: 10000 times the first number, 100 times the second, and the third.
 // intmap_version, in crates/intmap_c/src/version.rt
 static ALWAYS_INLINE uint32_t do_intmap_version(void) {
     return 10000;
 }
 
+// The number of slots, which is 4 if there is no map yet.
 // intmap_capacity, in crates/intmap_c/src/read.rt
-static ALWAYS_INLINE uint64_t do_intmap_capacity(char *map) {
-    char *r4;
-    uint64_t r4_0;
-    r4 = load_address(map);
-    if (r4 == NULL) {
-        r4_0 = 4;
-    } else {
-        r4_0 = load64(r4 + 64) + load64(r4 + 40);
+static ALWAYS_INLINE uint64_t do_intmap_capacity(char *word) {
+    char *map;
+    map = load_address(word);
+    if (map == NULL) {
+        return 4;
     }
-    return r4_0;
+    return load64(map + INT_MAP_SHARED_LEN) + load64(map + INT_MAP_LONE_LEN);
 }
 
+// Whether the key is present.
 // intmap_contains_key, in crates/intmap_c/src/read.rt
-static ALWAYS_INLINE bool do_intmap_contains_key(char *map, uint64_t key) {
-    char *r4, *r11, *r11_2, *r4_2;
-    bool r4_0, r11_3;
-    uint64_t r10, r6, r3_0, r36;
-    r4 = load_address(map);
-    if (r4 == NULL) {
-        r4_0 = false;
-    } else {
-        r10 = load64(r4) & (key * UINT64_C(11400714819323198549));
-        if (r10 < load64(r4 + 40)) {
-            r11 = load_address(r4 + 32) + (r10 * 24);
-            if (load8(r11) == 1) {
-                r4_0 = load64(r11 + 8) == key;
-            } else {
-                r4_0 = false;
-            }
-        } else {
-            r11_2 = load_address(r4 + 56) + (r10 * 48);
-            if (load8(r11_2) == 1) {
-                if (load64(r11_2 + 8) == key) {
-                    r4_0 = true;
-                } else {
-                    r4_2 = load_address(r11_2 + 24);
-                    r6 = load64(r11_2 + 32);
-                    if (r6 == 0) {
-                        r4_0 = false;
-                    } else {
-                        r3_0 = 0;
-                        for (;;) {
-                            r11_3 = load64(r4_2 + (r3_0 << 4)) == key;
-                            r36 = r3_0 + 1;
-                            if (r11_3 ? true : (r36 == r6)) {
-                                r4_0 = r11_3;
-                                break;
-                            }
-                            r3_0 = r36;
-                        }
-                    }
-                }
-            } else {
-                r4_0 = false;
-            }
-        }
+static ALWAYS_INLINE bool do_intmap_contains_key(char *word, uint64_t key) {
+    char *map, *slot, *slot_2, *rest;
+    uint64_t index, rest_len, place, next_place;
+    bool r11;
+    map = load_address(word);
+    if (map == NULL) {
+        return false;
     }
-    return r4_0;
+    index = load64(map + INT_MAP_MASK) & (key * MULTIPLIER);
+    if (index < load64(map + INT_MAP_LONE_LEN)) {
+        slot = load_address(map + INT_MAP_LONE) + (index * LONE_SIZE);
+        if (load8(slot + LONE_HAS_PAIR) == 1) {
+            return load64(slot + LONE_KEY) == key;
+        }
+        return false;
+    }
+    slot_2 = load_address(map + INT_MAP_SHARED) + (index * SLOT_SIZE);
+    if (load8(slot_2 + SLOT_HAS_FIRST) != 1) {
+        return false;
+    }
+    if (load64(slot_2 + SLOT_KEY) == key) {
+        return true;
+    }
+    rest = load_address(slot_2 + SLOT_REST);
+    rest_len = load64(slot_2 + SLOT_REST_LEN);
+    if (rest_len == 0) {
+        return false;
+    }
+    place = 0;
+    for (;;) {
+        r11 = load64((rest + (place << 4)) + PAIR_KEY) == key;
+        next_place = place + 1;
+        if (r11 ? true : (next_place == rest_len)) {
+            return r11;
+        }
+        place = next_place;
+    }
 }
 
+// Whether the same keys have the same values in both maps.
 // intmap_equal, in crates/intmap_c/src/read.rt
-static ALWAYS_INLINE bool do_intmap_equal(char *map, char *other) {
-    char *r5, *r8, *r6_3, *r4, *r1, *r1_5, *r1_8, *r1_12, *r1_15, *r11, *r11_2, *r11_6, *r1_17, *r1_21, *r0, *r1_23,
-        *r1_26, *r11_8, *r0_2, *r11_9, *common_ret_op, *r4_2;
-    bool r12, r9_0_shrunk;
-    uint64_t r3, r6, r6_2, r6_4, r1_2, r1_3, r1_4, r1_6, r1_7, r1_9, r1_10, r1_11, r1_13, r33, r54, r60, r1_14,
-        r1_16, r17, r27, r33_2, r40, r11_3, r11_5, r1_18, r1_19, r1_20, r1_22, r1_24, r1_25, r1_27, r11_7, r37,
-        r10_2, r6_5, r3_0, r21, r36;
-    uint8_t r3_2, r11_4, r3_3;
-    char *r10 = (char *)no_bytes;
-    r5 = load_address(map);
-    r8 = load_address(other);
-    r12 = r8 == NULL;
-    if (r5 == NULL) {
+static ALWAYS_INLINE bool do_intmap_equal(char *word, char *other) {
+    char *map, *map_2, *r6, *words, *pair, *r1_4, *r1_7, *r1_11, *r1_14, *slot, *pair_2, *slot_2, *pair_4, *r1_19,
+        *pair_5, *pair_6, *r1_23, *slot_3, *value_at, *slot_4, *pair_7, *rest;
+    bool r12;
+    uint64_t len, words_len, bits, r6_2, r1, r1_2, r1_3, r1_5, r1_6, r1_8, r1_9, r1_10, r1_12, r33, bits_2, r60,
+        r1_13, r1_15, r17, r27, index, r40, rest_len, pair_3, r1_16, r1_17, r1_18, r1_20, r1_21, r1_22, r1_24, r11_2,
+        key, index_2, rest_len_2, place, r21, next_place;
+    uint8_t has_first, r11, has_pair;
+    char *dangling = (char *)no_bytes;
+    map = load_address(word);
+    map_2 = load_address(other);
+    r12 = map_2 == NULL;
+    if (map == NULL) {
         if (r12) {
-            r9_0_shrunk = true;
-        } else {
-            r9_0_shrunk = load64(r8 + 80) == 0;
+            return true;
         }
-    } else {
-        r3 = load64(r5 + 80);
-        if (r12) {
-            r9_0_shrunk = r3 == 0;
-        } else {
-            if (r3 == load64(r8 + 80)) {
-                r6 = load64(r5 + 16);
-                if (r6 == 0) {
-                    r6_2 = 0;
-                    r6_3 = (char *)no_bytes;
-                    r6_4 = 0;
-                } else {
-                    r4 = load_address(r5 + 8);
-                    r6_2 = load64(r4);
-                    r6_3 = r4 + 8;
-                    r6_4 = r6 - 1;
-                }
-                r1 = r10;
-                r1_2 = 0;
-                r1_3 = r6_2;
-                r1_4 = 0;
-                r1_5 = r6_3;
-                r1_6 = r6_4;
-                for (;;) {
-                    if (r1_2 == 0) {
-                        r1_7 = r1_6;
-                        r1_8 = r1_5;
-                        r1_9 = r1_4;
-                        r1_10 = r1_3;
-                        for (;;) {
-                            if (r1_10 == 0) {
-                                r1_11 = r1_9;
-                                r1_12 = r1_8;
-                                r1_13 = r1_7;
-                                for (;;) {
-                                    if (r1_13 == 0) {
-                                        r9_0_shrunk = true;
-                                        goto after_read_intmap_equal;
-                                    }
-                                    r33 = r1_13 - 1;
-                                    r54 = load64(r1_12);
-                                    r60 = r1_11 + 64;
-                                    if (r54 != 0) {
-                                        r1_14 = r60;
-                                        r1_15 = r1_12 + 8;
-                                        r1_16 = r33;
-                                        r17 = r54;
-                                        break;
-                                    }
-                                    r1_11 = r60;
-                                    r1_12 = r1_12 + 8;
-                                    r1_13 = r33;
-                                }
-                            } else {
-                                r1_14 = r1_9;
-                                r1_15 = r1_8;
-                                r1_16 = r1_7;
-                                r17 = r1_10;
-                            }
-                            r27 = low_zeros(r17);
-                            r33_2 = r27 + r1_14;
-                            r40 = (r17 - 1) & r17;
-                            if (load64(r5 + 40) == 0) {
-                                r11 = load_address(r5 + 56) + (r33_2 * 48);
-                                r3_2 = load8(r11);
-                                r11_2 = load_address(r11 + 24);
-                                r11_3 = load64(r11 + 32);
-                                r11_4 = r3_2;
-                                r11_5 = (r3_2 == 1) ? ((uint64_t)(uintptr_t)(r11 + 8)) : 0;
-                            } else {
-                                r11_6 = load_address(r5 + 32) + (r33_2 * 24);
-                                r3_3 = load8(r11_6);
-                                r11_2 = r10;
-                                r11_3 = 0;
-                                r11_4 = r3_3;
-                                r11_5 = (r3_3 == 1) ? ((uint64_t)(uintptr_t)(r11_6 + 8)) : 0;
-                            }
-                            if (r11_4 == 1) {
-                                r1_17 = r11_2;
-                                r1_18 = r11_3;
-                                r1_19 = r40;
-                                r1_20 = r1_14;
-                                r1_21 = r1_15;
-                                r1_22 = r1_16;
-                                r0 = (char *)(uintptr_t)r11_5;
-                                goto arm_6;
-                            }
-                            if (r11_3 != 0) {
-                                r1_23 = r11_2;
-                                r1_24 = r40;
-                                r1_25 = r1_14;
-                                r1_26 = r1_15;
-                                r1_27 = r1_16;
-                                r11_7 = r11_3;
-                                break;
-                            }
-                            r1_7 = r1_16;
-                            r1_8 = r1_15;
-                            r1_9 = r1_14;
-                            r1_10 = r40;
-                        }
-                    } else {
-                        r1_23 = r1;
-                        r1_24 = r1_3;
-                        r1_25 = r1_4;
-                        r1_26 = r1_5;
-                        r1_27 = r1_6;
-                        r11_7 = r1_2;
-                    }
-                    r1_17 = r1_23 + 16;
-                    r1_18 = r11_7 - 1;
-                    r1_19 = r1_24;
-                    r1_20 = r1_25;
-                    r1_21 = r1_26;
-                    r1_22 = r1_27;
-                    r0 = r1_23;
-                arm_6:;
-                    r37 = load_key(r0);
-                    r10_2 = load64(r8) & (r37 * UINT64_C(11400714819323198549));
-                    if (r10_2 < load64(r8 + 40)) {
-                        r11_8 = load_address(r8 + 32) + (r10_2 * 24);
-                        if (load8(r11_8) != 1) {
-                            r9_0_shrunk = false;
-                            break;
-                        }
-                        if (load64(r11_8 + 8) != r37) {
-                            r9_0_shrunk = false;
-                            break;
-                        }
-                        r0_2 = r11_8 + 16;
-                    } else {
-                        r11_9 = load_address(r8 + 56) + (r10_2 * 48);
-                        if (load8(r11_9) != 1) {
-                            r9_0_shrunk = false;
-                            break;
-                        }
-                        if (load64(r11_9 + 8) == r37) {
-                            common_ret_op = r11_9 + 8;
-                        } else {
-                            r4_2 = load_address(r11_9 + 24);
-                            r6_5 = load64(r11_9 + 32);
-                            if (r6_5 == 0) {
-                                r9_0_shrunk = false;
-                                break;
-                            }
-                            r3_0 = 0;
-                            for (;;) {
-                                r21 = r3_0 << 4;
-                                if (load64(r4_2 + r21) == r37) {
-                                    common_ret_op = r4_2 + r21;
-                                    break;
-                                }
-                                r36 = r3_0 + 1;
-                                if (r36 == r6_5) {
-                                    r9_0_shrunk = false;
-                                    goto after_read_intmap_equal;
-                                }
-                                r3_0 = r36;
-                            }
-                        }
-                        r0_2 = common_ret_op + 8;
-                    }
-                    if (load64(r0 + 8) != load64(r0_2)) {
-                        r9_0_shrunk = false;
-                        break;
-                    }
-                    r1 = r1_17;
-                    r1_2 = r1_18;
-                    r1_3 = r1_19;
-                    r1_4 = r1_20;
-                    r1_5 = r1_21;
-                    r1_6 = r1_22;
-                }
-            } else {
-                r9_0_shrunk = false;
-            }
-        }
+        return load64(map_2 + INT_MAP_LEN) == 0;
     }
-after_read_intmap_equal:;
-    return r9_0_shrunk;
-}
-
-// intmap_filled_slots, in crates/intmap_c/src/read.rt
-static ALWAYS_INLINE uint64_t do_intmap_filled_slots(char *map) {
-    char *r4, *r4_2;
-    uint64_t r4_0, r6, r1_06, r3_05, r38, r44, r46;
-    r4 = load_address(map);
-    if (r4 == NULL) {
-        r4_0 = 0;
+    len = load64(map + INT_MAP_LEN);
+    if (r12) {
+        return len == 0;
+    }
+    if (len != load64(map_2 + INT_MAP_LEN)) {
+        return false;
+    }
+    words_len = load64(map + INT_MAP_WORDS_LEN);
+    if (words_len == 0) {
+        bits = 0;
+        r6 = (char *)no_bytes;
+        r6_2 = 0;
     } else {
-        r4_2 = load_address(r4 + 8);
-        r6 = load64(r4 + 16);
-        if (r6 == 0) {
-            r4_0 = 0;
-        } else {
-            r1_06 = 0;
-            r3_05 = 0;
+        words = load_address(map + INT_MAP_WORDS);
+        bits = load64(words);
+        r6 = words + 8;
+        r6_2 = words_len - 1;
+    }
+    pair = dangling;
+    r1 = 0;
+    r1_2 = bits;
+    r1_3 = 0;
+    r1_4 = r6;
+    r1_5 = r6_2;
+    for (;;) {
+        if (r1 == 0) {
+            r1_6 = r1_5;
+            r1_7 = r1_4;
+            r1_8 = r1_3;
+            r1_9 = r1_2;
             for (;;) {
-                r38 = ones_in(load64(r4_2 + (r3_05 << 3)));
-                r44 = r38 + r1_06;
-                r46 = r3_05 + 1;
-                if (r46 == r6) {
-                    r4_0 = r44;
+                if (r1_9 == 0) {
+                    r1_10 = r1_8;
+                    r1_11 = r1_7;
+                    r1_12 = r1_6;
+                    for (;;) {
+                        if (r1_12 == 0) {
+                            return true;
+                        }
+                        r33 = r1_12 - 1;
+                        bits_2 = load64(r1_11);
+                        r60 = r1_10 + 64;
+                        if (bits_2 != 0) {
+                            r1_13 = r60;
+                            r1_14 = r1_11 + 8;
+                            r1_15 = r33;
+                            r17 = bits_2;
+                            break;
+                        }
+                        r1_10 = r60;
+                        r1_11 = r1_11 + 8;
+                        r1_12 = r33;
+                    }
+                } else {
+                    r1_13 = r1_8;
+                    r1_14 = r1_7;
+                    r1_15 = r1_6;
+                    r17 = r1_9;
+                }
+                r27 = low_zeros(r17);
+                index = r27 + r1_13;
+                r40 = (r17 - 1) & r17;
+                if (load64(map + INT_MAP_LONE_LEN) == 0) {
+                    slot = load_address(map + INT_MAP_SHARED) + (index * SLOT_SIZE);
+                    has_first = load8(slot + SLOT_HAS_FIRST);
+                    pair_2 = load_address(slot + SLOT_REST);
+                    rest_len = load64(slot + SLOT_REST_LEN);
+                    r11 = has_first;
+                    pair_3 = (has_first == 1) ? ((uint64_t)(uintptr_t)(slot + SLOT_KEY)) : 0;
+                } else {
+                    slot_2 = load_address(map + INT_MAP_LONE) + (index * LONE_SIZE);
+                    has_pair = load8(slot_2 + LONE_HAS_PAIR);
+                    pair_2 = dangling;
+                    rest_len = 0;
+                    r11 = has_pair;
+                    pair_3 = (has_pair == 1) ? ((uint64_t)(uintptr_t)(slot_2 + LONE_KEY)) : 0;
+                }
+                if (r11 == 1) {
+                    pair_4 = pair_2;
+                    r1_16 = rest_len;
+                    r1_17 = r40;
+                    r1_18 = r1_13;
+                    r1_19 = r1_14;
+                    r1_20 = r1_15;
+                    pair_5 = (char *)(uintptr_t)pair_3;
+                    goto arm_6;
+                }
+                if (rest_len != 0) {
+                    pair_6 = pair_2;
+                    r1_21 = r40;
+                    r1_22 = r1_13;
+                    r1_23 = r1_14;
+                    r1_24 = r1_15;
+                    r11_2 = rest_len;
                     break;
                 }
-                r1_06 = r44;
-                r3_05 = r46;
+                r1_6 = r1_15;
+                r1_7 = r1_14;
+                r1_8 = r1_13;
+                r1_9 = r40;
             }
-        }
-    }
-    return r4_0;
-}
-
-// intmap_len, in crates/intmap_c/src/read.rt
-static ALWAYS_INLINE uint64_t do_intmap_len(char *map) {
-    char *r4;
-    uint64_t r4_0;
-    r4 = load_address(map);
-    if (r4 == NULL) {
-        r4_0 = 0;
-    } else {
-        r4_0 = load64(r4 + 80);
-    }
-    return r4_0;
-}
-
-// intmap_load_factor, in crates/intmap_c/src/read.rt
-static ALWAYS_INLINE uint64_t do_intmap_load_factor(char *map) {
-    char *r4;
-    uint64_t r4_0;
-    r4 = load_address(map);
-    if (r4 == NULL) {
-        r4_0 = 909;
-    } else {
-        r4_0 = load64(r4 + 96);
-    }
-    return r4_0;
-}
-
-// intmap_get, in crates/intmap_c/src/read.rt
-static ALWAYS_INLINE struct word_word do_intmap_get(char *map, uint64_t key) {
-    char *r4, *r11, *r0, *r11_2, *common_ret_op, *r4_2;
-    struct word_half r18;
-    uint64_t r10, x3, r6, r3_0, r21, r36, r0_2_8_ext;
-    uint32_t spec_select1;
-    r4 = load_address(map);
-    if (r4 == NULL) {
-        r18 = empty_word_half();
-    } else {
-        r10 = load64(r4) & (key * UINT64_C(11400714819323198549));
-        if (r10 < load64(r4 + 40)) {
-            r11 = load_address(r4 + 32) + (r10 * 24);
-            if (load8(r11) != 1) {
-                spec_select1 = 0;
-                x3 = 0;
-                goto after_Option_ref_T_copied;
-            }
-            if (load64(r11 + 8) != key) {
-                spec_select1 = 0;
-                x3 = 0;
-                goto after_Option_ref_T_copied;
-            }
-            r0 = r11 + 16;
         } else {
-            r11_2 = load_address(r4 + 56) + (r10 * 48);
-            if (load8(r11_2) != 1) {
-                spec_select1 = 0;
-                x3 = 0;
-                goto after_Option_ref_T_copied;
+            pair_6 = pair;
+            r1_21 = r1_2;
+            r1_22 = r1_3;
+            r1_23 = r1_4;
+            r1_24 = r1_5;
+            r11_2 = r1;
+        }
+        pair_4 = pair_6 + 16;
+        r1_16 = r11_2 - 1;
+        r1_17 = r1_21;
+        r1_18 = r1_22;
+        r1_19 = r1_23;
+        r1_20 = r1_24;
+        pair_5 = pair_6;
+    arm_6:;
+        key = load_key(pair_5 + PAIR_KEY);
+        index_2 = load64(map_2 + INT_MAP_MASK) & (key * MULTIPLIER);
+        if (index_2 < load64(map_2 + INT_MAP_LONE_LEN)) {
+            slot_3 = load_address(map_2 + INT_MAP_LONE) + (index_2 * LONE_SIZE);
+            if (load8(slot_3 + LONE_HAS_PAIR) != 1) {
+                return false;
             }
-            if (load64(r11_2 + 8) == key) {
-                common_ret_op = r11_2 + 8;
+            if (load64(slot_3 + LONE_KEY) != key) {
+                return false;
+            }
+            value_at = slot_3 + LONE_VALUE;
+        } else {
+            slot_4 = load_address(map_2 + INT_MAP_SHARED) + (index_2 * SLOT_SIZE);
+            if (load8(slot_4 + SLOT_HAS_FIRST) != 1) {
+                return false;
+            }
+            if (load64(slot_4 + SLOT_KEY) == key) {
+                pair_7 = slot_4 + SLOT_KEY;
             } else {
-                r4_2 = load_address(r11_2 + 24);
-                r6 = load64(r11_2 + 32);
-                if (r6 == 0) {
-                    spec_select1 = 0;
-                    x3 = 0;
-                    goto after_Option_ref_T_copied;
+                rest = load_address(slot_4 + SLOT_REST);
+                rest_len_2 = load64(slot_4 + SLOT_REST_LEN);
+                if (rest_len_2 == 0) {
+                    return false;
                 }
-                r3_0 = 0;
+                place = 0;
                 for (;;) {
-                    r21 = r3_0 << 4;
-                    if (load64(r4_2 + r21) == key) {
-                        common_ret_op = r4_2 + r21;
+                    r21 = place << 4;
+                    if (load64((rest + r21) + PAIR_KEY) == key) {
+                        pair_7 = rest + r21;
                         break;
                     }
-                    r36 = r3_0 + 1;
-                    if (r36 == r6) {
-                        spec_select1 = 0;
-                        x3 = 0;
-                        goto after_Option_ref_T_copied;
+                    next_place = place + 1;
+                    if (next_place == rest_len_2) {
+                        return false;
                     }
-                    r3_0 = r36;
+                    place = next_place;
                 }
             }
-            r0 = common_ret_op + 8;
+            value_at = pair_7 + PAIR_VALUE;
+        }
+        if (load64(pair_5 + PAIR_VALUE) != load64(value_at)) {
+            return false;
+        }
+        pair = pair_4;
+        r1 = r1_16;
+        r1_2 = r1_17;
+        r1_3 = r1_18;
+        r1_4 = r1_19;
+        r1_5 = r1_20;
+    }
+}
+
+// The number of slots that hold a pair.
+// intmap_filled_slots, in crates/intmap_c/src/read.rt
+static ALWAYS_INLINE uint64_t do_intmap_filled_slots(char *word) {
+    char *map, *words;
+    uint64_t words_len, r1_06, r3_05, r38, r44, r46;
+    map = load_address(word);
+    if (map == NULL) {
+        return 0;
+    }
+    words = load_address(map + INT_MAP_WORDS);
+    words_len = load64(map + INT_MAP_WORDS_LEN);
+    if (words_len == 0) {
+        return 0;
+    }
+    r1_06 = 0;
+    r3_05 = 0;
+    for (;;) {
+        r38 = ones_in(load64(words + (r3_05 << 3)));
+        r44 = r38 + r1_06;
+        r46 = r3_05 + 1;
+        if (r46 == words_len) {
+            return r44;
+        }
+        r1_06 = r44;
+        r3_05 = r46;
+    }
+}
+
+// The number of pairs.
+// intmap_len, in crates/intmap_c/src/read.rt
+static ALWAYS_INLINE uint64_t do_intmap_len(char *word) {
+    char *map;
+    map = load_address(word);
+    if (map == NULL) {
+        return 0;
+    }
+    return load64(map + INT_MAP_LEN);
+}
+
+// The load factor in thousandths, which is 909 if there is no map yet.
+// intmap_load_factor, in crates/intmap_c/src/read.rt
+static ALWAYS_INLINE uint64_t do_intmap_load_factor(char *word) {
+    char *map;
+    map = load_address(word);
+    if (map == NULL) {
+        return 909;
+    }
+    return load64(map + INT_MAP_FACTOR);
+}
+
+// The value of the key.
+// intmap_get, in crates/intmap_c/src/read.rt
+static ALWAYS_INLINE struct word_word do_intmap_get(char *word, uint64_t key) {
+    char *map, *slot, *value_at, *slot_2, *pair, *rest;
+    struct word_half r18;
+    uint64_t index, value, rest_len, place, r21, next_place, r0_2_8_ext;
+    uint32_t spec_select1;
+    map = load_address(word);
+    if (map == NULL) {
+        r18 = empty_word_half();
+    } else {
+        index = load64(map + INT_MAP_MASK) & (key * MULTIPLIER);
+        if (index < load64(map + INT_MAP_LONE_LEN)) {
+            slot = load_address(map + INT_MAP_LONE) + (index * LONE_SIZE);
+            if (load8(slot + LONE_HAS_PAIR) != 1) {
+                spec_select1 = 0;
+                value = 0;
+                goto after_Option_ref_T_copied;
+            }
+            if (load64(slot + LONE_KEY) != key) {
+                spec_select1 = 0;
+                value = 0;
+                goto after_Option_ref_T_copied;
+            }
+            value_at = slot + LONE_VALUE;
+        } else {
+            slot_2 = load_address(map + INT_MAP_SHARED) + (index * SLOT_SIZE);
+            if (load8(slot_2 + SLOT_HAS_FIRST) != 1) {
+                spec_select1 = 0;
+                value = 0;
+                goto after_Option_ref_T_copied;
+            }
+            if (load64(slot_2 + SLOT_KEY) == key) {
+                pair = slot_2 + SLOT_KEY;
+            } else {
+                rest = load_address(slot_2 + SLOT_REST);
+                rest_len = load64(slot_2 + SLOT_REST_LEN);
+                if (rest_len == 0) {
+                    spec_select1 = 0;
+                    value = 0;
+                    goto after_Option_ref_T_copied;
+                }
+                place = 0;
+                for (;;) {
+                    r21 = place << 4;
+                    if (load64((rest + r21) + PAIR_KEY) == key) {
+                        pair = rest + r21;
+                        break;
+                    }
+                    next_place = place + 1;
+                    if (next_place == rest_len) {
+                        spec_select1 = 0;
+                        value = 0;
+                        goto after_Option_ref_T_copied;
+                    }
+                    place = next_place;
+                }
+            }
+            value_at = pair + PAIR_VALUE;
         }
         spec_select1 = 1;
-        x3 = load64(r0);
+        value = load64(value_at);
     after_Option_ref_T_copied:;
-        r18 = made_word_half(x3, spec_select1);
+        r18 = made_word_half(value, spec_select1);
     }
     r0_2_8_ext = (uint64_t)r18.second;
     return made_word_word(r18.first, r0_2_8_ext);
 }
 
+// The first pair of the walk from the cursor on, behind which the cursor moves.
 // intmap_step, in crates/intmap_c/src/read.rt
-static ALWAYS_INLINE char *do_intmap_step(char *found, char *map, char *at) {
-    char *r5, *r11, *r4, *r11_2, *r8, *r8_2, *r11_3, *common_ret_op_ph94;
-    uint64_t r6, r6_2, r7, r9, common_ret_op, r36, r29, r3_0, r1910, r2, r39, r1_0, r46, r59, r2_0, r1_0_2, r63, r69;
-    uint32_t r6_3;
-    r5 = load_address(map);
-    if (r5 == NULL) {
+static ALWAYS_INLINE char *do_intmap_step(char *result, char *word, char *at) {
+    char *map, *slot_2, *words, *slot_3, *pair, *value_at, *slot_4, *pair_2;
+    uint64_t key, value, slot, place, common_ret_op, index, place_2, r3_0, r1910, words_len, r39, r1_0, r46, bits,
+        r2_0, r1_0_2, r63, r69;
+    uint32_t r6;
+    map = load_address(word);
+    if (map == NULL) {
+        key = 0;
+        value = 0;
         r6 = 0;
-        r6_2 = 0;
-        r6_3 = 0;
     } else {
-        r7 = load64(at);
-        r9 = load64(at + 8);
-        if (r7 <= load64(r5)) {
-            if (r7 < load64(r5 + 40)) {
-                common_ret_op = (uint64_t)(load8(load_address(r5 + 32) + (r7 * 24)) != 0);
+        slot = load64(at + CURSOR_SLOT);
+        place = load64(at + CURSOR_PLACE);
+        if (slot <= load64(map + INT_MAP_MASK)) {
+            if (slot < load64(map + INT_MAP_LONE_LEN)) {
+                common_ret_op = (uint64_t)(load8((load_address(map + INT_MAP_LONE) + (slot * LONE_SIZE)) + LONE_HAS_PAIR) != 0);
             } else {
-                r11 = load_address(r5 + 56) + (r7 * 48);
-                if (load8(r11) == 0) {
+                slot_2 = load_address(map + INT_MAP_SHARED) + (slot * SLOT_SIZE);
+                if (load8(slot_2 + SLOT_HAS_FIRST) == 0) {
                     goto join_3_2;
                 }
-                common_ret_op = load64(r11 + 32) + 1;
+                common_ret_op = load64(slot_2 + SLOT_REST_LEN) + 1;
             }
-            if (r9 < common_ret_op) {
-                r36 = r7;
-                r29 = r9;
+            if (place < common_ret_op) {
+                index = slot;
+                place_2 = place;
                 goto join_3_4;
             }
         }
     join_3_2:;
-        r3_0 = sum_or_most(r7, 1);
+        r3_0 = sum_or_most(slot, 1);
         r1910 = r3_0 >> 6;
-        r2 = load64(r5 + 16);
-        if (r2 <= r1910) {
+        words_len = load64(map + INT_MAP_WORDS_LEN);
+        if (words_len <= r1910) {
+            key = 0;
+            value = 0;
             r6 = 0;
-            r6_2 = 0;
-            r6_3 = 0;
             goto after_read_intmap_step;
         }
-        r4 = load_address(r5 + 8);
-        r39 = load64(r4 + (r1910 << 3)) & (UINT64_C(18446744073709551615) << (r3_0 & 63));
+        words = load_address(map + INT_MAP_WORDS);
+        r39 = load64(words + (r1910 << 3)) & (UINT64_C(18446744073709551615) << (r3_0 & 63));
         if (r39 == 0) {
             r1_0 = r1910;
             for (;;) {
                 r46 = r1_0 + 1;
-                if (r46 == r2) {
+                if (r46 == words_len) {
+                    key = 0;
+                    value = 0;
                     r6 = 0;
-                    r6_2 = 0;
-                    r6_3 = 0;
                     goto after_read_intmap_step;
                 }
-                r59 = load64(r4 + (r46 << 3));
-                if (r59 != 0) {
-                    r2_0 = r59;
+                bits = load64(words + (r46 << 3));
+                if (bits != 0) {
+                    r2_0 = bits;
                     r1_0_2 = r46;
                     break;
                 }
@@ -3052,258 +3052,261 @@ static ALWAYS_INLINE char *do_intmap_step(char *found, char *map, char *at) {
         }
         r63 = low_zeros(r2_0);
         r69 = (r1_0_2 << 6) | r63;
-        store64(at, r69);
-        r36 = r69;
-        r29 = 0;
+        store64(at + CURSOR_SLOT, r69);
+        index = r69;
+        place_2 = 0;
     join_3_4:;
-        store64(at + 8, r29 + 1);
-        if (r36 < load64(r5 + 40)) {
-            r11_2 = load_address(r5 + 32) + (r36 * 24);
-            if (load8(r11_2) != 1) {
+        store64(at + CURSOR_PLACE, place_2 + 1);
+        if (index < load64(map + INT_MAP_LONE_LEN)) {
+            slot_3 = load_address(map + INT_MAP_LONE) + (index * LONE_SIZE);
+            if (load8(slot_3 + LONE_HAS_PAIR) != 1) {
                 abort();
             }
-            r8 = r11_2 + 8;
-            r8_2 = r11_2 + 16;
+            pair = slot_3 + LONE_KEY;
+            value_at = slot_3 + LONE_VALUE;
         } else {
-            r11_3 = load_address(r5 + 56) + (r36 * 48);
-            if (r29 == 0) {
-                if (load8(r11_3) != 1) {
+            slot_4 = load_address(map + INT_MAP_SHARED) + (index * SLOT_SIZE);
+            if (place_2 == 0) {
+                if (load8(slot_4 + SLOT_HAS_FIRST) != 1) {
                     abort();
                 }
-                common_ret_op_ph94 = r11_3 + 8;
+                pair_2 = slot_4 + SLOT_KEY;
             } else {
-                common_ret_op_ph94 = (load_address(r11_3 + 24) + (r29 << 4)) - 16;
+                pair_2 = (load_address(slot_4 + SLOT_REST) + (place_2 << 4)) - 16;
             }
-            r8 = common_ret_op_ph94;
-            r8_2 = common_ret_op_ph94 + 8;
+            pair = pair_2;
+            value_at = pair_2 + PAIR_VALUE;
         }
-        r6 = load64(r8);
-        r6_2 = load64(r8_2);
-        r6_3 = 1;
+        key = load64(pair + PAIR_KEY);
+        value = load64(value_at);
+        r6 = 1;
     }
 after_read_intmap_step:;
-    store64(found, r6);
-    store64(found + 8, r6_2);
-    store32(found + 16, r6_3);
-    store32(found + 20, 0);
-    return found;
+    store64(result + FOUND_PAIR_KEY, key);
+    store64(result + FOUND_PAIR_VALUE, value);
+    store32(result + FOUND_PAIR_STATUS, r6);
+    store32(result + 20, 0);
+    return result;
 }
 
+// Adds to the value of a present key, modulo 2^64, and returns the value before.
 // intmap_add_present, in crates/intmap_c/src/pairs.rt
-static ALWAYS_INLINE struct word_word do_intmap_add_present(char *map, uint64_t key, uint64_t more) {
-    uint64_t r3, r10, r6, r3_0, r21, r36, r19, r0_2_8_ext;
-    char *x0, *r11, *r4, *r11_2, *r4_2;
+static ALWAYS_INLINE struct word_word do_intmap_add_present(char *handle, uint64_t key, uint64_t more) {
+    uint64_t map_address, index, rest_len, place, r21, next_place, value, r0_2_8_ext;
+    char *map, *slot, *value_at, *slot_2, *rest;
     struct word_half r23, r29;
-    r3 = load64(map);
-    store64(map, 0);
-    x0 = (char *)(uintptr_t)r3;
-    if (r3 == 0) {
+    map_address = load64(handle);
+    store64(handle, 0);
+    map = (char *)(uintptr_t)map_address;
+    if (map_address == 0) {
         r23 = empty_word_half();
     } else {
-        r10 = load64(x0) & (key * UINT64_C(11400714819323198549));
-        if (r10 < load64(x0 + 40)) {
-            r11 = load_address(x0 + 32) + (r10 * 24);
-            if (load8(r11) != 1) {
+        index = load64(map + INT_MAP_MASK) & (key * MULTIPLIER);
+        if (index < load64(map + INT_MAP_LONE_LEN)) {
+            slot = load_address(map + INT_MAP_LONE) + (index * LONE_SIZE);
+            if (load8(slot + LONE_HAS_PAIR) != 1) {
                 r29 = empty_word_half();
                 goto after_pairs_add_present;
             }
-            if (load64(r11 + 8) != key) {
+            if (load64(slot + LONE_KEY) != key) {
                 r29 = empty_word_half();
                 goto after_pairs_add_present;
             }
-            r4 = r11 + 16;
+            value_at = slot + LONE_VALUE;
         } else {
-            r11_2 = load_address(x0 + 56) + (r10 * 48);
-            if (load8(r11_2) != 1) {
+            slot_2 = load_address(map + INT_MAP_SHARED) + (index * SLOT_SIZE);
+            if (load8(slot_2 + SLOT_HAS_FIRST) != 1) {
                 r29 = empty_word_half();
                 goto after_pairs_add_present;
             }
-            if (load64(r11_2 + 8) == key) {
-                r4 = r11_2 + 16;
+            if (load64(slot_2 + SLOT_KEY) == key) {
+                value_at = slot_2 + SLOT_VALUE;
             } else {
-                r4_2 = load_address(r11_2 + 24);
-                r6 = load64(r11_2 + 32);
-                if (r6 == 0) {
+                rest = load_address(slot_2 + SLOT_REST);
+                rest_len = load64(slot_2 + SLOT_REST_LEN);
+                if (rest_len == 0) {
                     r29 = empty_word_half();
                     goto after_pairs_add_present;
                 }
-                r3_0 = 0;
+                place = 0;
                 for (;;) {
-                    r21 = r3_0 << 4;
-                    if (load64(r4_2 + r21) == key) {
-                        r4 = (r4_2 + r21) + 8;
+                    r21 = place << 4;
+                    if (load64((rest + r21) + PAIR_KEY) == key) {
+                        value_at = (rest + r21) + PAIR_VALUE;
                         break;
                     }
-                    r36 = r3_0 + 1;
-                    if (r36 == r6) {
+                    next_place = place + 1;
+                    if (next_place == rest_len) {
                         r29 = empty_word_half();
                         goto after_pairs_add_present;
                     }
-                    r3_0 = r36;
+                    place = next_place;
                 }
             }
         }
-        r19 = load64(r4);
-        store64(r4, r19 + more);
-        r29 = made_word_half(r19, 1);
+        value = load64(value_at);
+        store64(value_at, value + more);
+        r29 = made_word_half(value, 1);
     after_pairs_add_present:;
-        store64(map, r3);
+        store64(handle, map_address);
         r23 = r29;
     }
     r0_2_8_ext = (uint64_t)r23.second;
     return made_word_word(r23.first, r0_2_8_ext);
 }
 
+// Removes all pairs.
 // intmap_clear, in crates/intmap_c/src/walk.rt
-static ALWAYS_INLINE void do_intmap_clear(char *map) {
-    uint64_t r3, r6, r6_2, r6_4, r1, r1_2, r1_4, r1_5, r1_7, r6_5, r28, r33, r54, r60, r1_8, r1_9, r1_11, r27, r33_2,
-        r40;
-    char *x0, *r6_3, *r4, *r1_3, *r1_6, *r4_2, *r1_10, *r9;
-    r3 = load64(map);
-    store64(map, 0);
-    x0 = (char *)(uintptr_t)r3;
-    if (r3 != 0) {
-        r6 = load64(x0 + 16);
-        if (r6 == 0) {
-            r6_2 = 0;
-            r6_3 = (char *)no_bytes;
-            r6_4 = 0;
-        } else {
-            r4 = load_address(x0 + 8);
-            r6_2 = load64(r4);
-            r6_3 = r4 + 8;
-            r6_4 = r6 - 1;
-        }
-        r1 = r6_2;
-        r1_2 = 0;
-        r1_3 = r6_3;
-        r1_4 = r6_4;
-        for (;;) {
-            if (r1 == 0) {
-                r1_5 = r1_4;
-                r1_6 = r1_3;
-                r1_7 = r1_2;
-                for (;;) {
-                    if (r1_5 == 0) {
-                        r4_2 = load_address(x0 + 8);
-                        r6_5 = load64(x0 + 16);
-                        if (r6_5 != 0) {
-                            r28 = r6_5 - 1;
-                            if (r28 != 0) {
-                                memset(r4_2, 0, (r6_5 << 3) - 8);
-                            }
-                            store64(r4_2 + (r28 << 3), 0);
-                        }
-                        store64(x0 + 80, 0);
-                        store64(map, r3);
-                        goto after_walk_intmap_clear;
-                    }
-                    r33 = r1_5 - 1;
-                    r54 = load64(r1_6);
-                    r60 = r1_7 + 64;
-                    if (r54 != 0) {
-                        r1_8 = r54;
-                        r1_9 = r60;
-                        r1_10 = r1_6 + 8;
-                        r1_11 = r33;
-                        break;
-                    }
-                    r1_5 = r33;
-                    r1_6 = r1_6 + 8;
-                    r1_7 = r60;
-                }
-            } else {
-                r1_8 = r1;
-                r1_9 = r1_2;
-                r1_10 = r1_3;
-                r1_11 = r1_4;
-            }
-            r27 = low_zeros(r1_8);
-            r33_2 = r1_9 + r27;
-            r40 = (r1_8 - 1) & r1_8;
-            if (r33_2 < load64(x0 + 40)) {
-                memset(load_address(x0 + 32) + (r33_2 * 24), 0, 24);
-            } else {
-                r9 = load_address(x0 + 56) + (r33_2 * 48);
-                memset(r9, 0, 24);
-                if (load64(r9 + 32) != 0) {
-                    store64(r9 + 32, 0);
-                }
-            }
-            r1 = r40;
-            r1_2 = r1_9;
-            r1_3 = r1_10;
-            r1_4 = r1_11;
-        }
+static ALWAYS_INLINE void do_intmap_clear(char *handle) {
+    uint64_t map_address, words_len, bits, r6_2, r1, r1_2, r1_4, r1_5, r1_7, words_len_2, r28, r33, bits_2, r60,
+        r1_8, r1_9, r1_11, r27, index, r40;
+    char *map, *r6, *words, *r1_3, *r1_6, *words_2, *r1_10, *slot;
+    map_address = load64(handle);
+    store64(handle, 0);
+    map = (char *)(uintptr_t)map_address;
+    if (map_address == 0) {
+        return;
     }
-after_walk_intmap_clear:;
-    return;
+    words_len = load64(map + INT_MAP_WORDS_LEN);
+    if (words_len == 0) {
+        bits = 0;
+        r6 = (char *)no_bytes;
+        r6_2 = 0;
+    } else {
+        words = load_address(map + INT_MAP_WORDS);
+        bits = load64(words);
+        r6 = words + 8;
+        r6_2 = words_len - 1;
+    }
+    r1 = bits;
+    r1_2 = 0;
+    r1_3 = r6;
+    r1_4 = r6_2;
+    for (;;) {
+        if (r1 == 0) {
+            r1_5 = r1_4;
+            r1_6 = r1_3;
+            r1_7 = r1_2;
+            for (;;) {
+                if (r1_5 == 0) {
+                    words_2 = load_address(map + INT_MAP_WORDS);
+                    words_len_2 = load64(map + INT_MAP_WORDS_LEN);
+                    if (words_len_2 != 0) {
+                        r28 = words_len_2 - 1;
+                        if (r28 != 0) {
+                            memset(words_2, 0, (words_len_2 << 3) - 8);
+                        }
+                        store64(words_2 + (r28 << 3), 0);
+                    }
+                    store64(map + INT_MAP_LEN, 0);
+                    store64(handle, map_address);
+                    return;
+                }
+                r33 = r1_5 - 1;
+                bits_2 = load64(r1_6);
+                r60 = r1_7 + 64;
+                if (bits_2 != 0) {
+                    r1_8 = bits_2;
+                    r1_9 = r60;
+                    r1_10 = r1_6 + 8;
+                    r1_11 = r33;
+                    break;
+                }
+                r1_5 = r33;
+                r1_6 = r1_6 + 8;
+                r1_7 = r60;
+            }
+        } else {
+            r1_8 = r1;
+            r1_9 = r1_2;
+            r1_10 = r1_3;
+            r1_11 = r1_4;
+        }
+        r27 = low_zeros(r1_8);
+        index = r1_9 + r27;
+        r40 = (r1_8 - 1) & r1_8;
+        if (index < load64(map + INT_MAP_LONE_LEN)) {
+            memset(load_address(map + INT_MAP_LONE) + (index * LONE_SIZE), 0, 24);
+        } else {
+            slot = load_address(map + INT_MAP_SHARED) + (index * SLOT_SIZE);
+            memset(slot, 0, 24);
+            if (load64(slot + SLOT_REST_LEN) != 0) {
+                store64(slot + SLOT_REST_LEN, 0);
+            }
+        }
+        r1 = r40;
+        r1_2 = r1_9;
+        r1_3 = r1_10;
+        r1_4 = r1_11;
+    }
 }
 
+// Removes the first pair of the walk from the cursor on and returns it.
 // intmap_cut, in crates/intmap_c/src/walk.rt
-static ALWAYS_INLINE char *do_intmap_cut(char *found, char *map, char *at) {
-    uint64_t r3, r6, r6_2, r7, r9, r8, r6_4, r3051, r2_2, r3_2, r305061, r10, r16, r6_5, r1, r1_2, r28, r20, r3_0,
-        r0_05, r19, r29, r0_05_2, r13_2, r23, r36, r20_2, exit, r0_05_3, r19_2, r29_2, x9, r20_lcssa60, r3_0_lcssa59,
-        r3_3, r3_4, r305060, r1_3_0_pn47, r1_0_0_pn46, r3_0_2, r1910, r2_3, r39, r1_0, r46, x25, x26, r59, r2_0,
-        r1_0_2, r63, r69, exit_2, r0, r0_2, r16_2, r1_3, r1_4, r28_2, r3_0_3, r0_05_4, r13_4, r23_2, r36_2, r20_3,
-        exit_3, x18, r20_lcssa60_2, r3_0_lcssa59_2, r0_05_5, r13_5, r23_3, r4_3, r4_4, r0_3, r0_4;
-    char *x0, *r4, *r5, *r11_2, *r5_2, *r9_2, *r13, *r9_3, *x6, *x8, *x10, *r4_2, *r5_3, *r9_4, *r13_3, *x15, *x17,
-        *x20, *r11_4, *r9_5, *r11_5;
-    uint32_t r6_3, r8_2;
-    uint8_t r2, r11, r11_3;
-    r3 = load64(map);
-    store64(map, 0);
-    x0 = (char *)(uintptr_t)r3;
-    if (r3 == 0) {
+static ALWAYS_INLINE char *do_intmap_cut(char *result, char *handle, char *at) {
+    uint64_t map_address, key, value, slot, place, r8, r6_2, r3051, rest_len, rest_len_2, r305061, place_2,
+        rest_room, r6_3, key_2, value_2, r28, r20, place_3, r0_05, r19, r29, place_4, r13, next_place, place_5,
+        r20_2, exit, r0_05_2, r19_2, r29_2, x9, r20_lcssa60, place_6, key_3, value_3, r305060, value_4, key_4, r3_0,
+        r1910, words_len, r39, r1_0, r46, key_5, value_5, bits, r2_0, r1_0_2, r63, index, exit_2, key_6, value_6,
+        rest_room_2, key_7, value_7, r28_2, place_7, place_8, r13_2, next_place_2, place_9, r20_3, exit_3, x18,
+        r20_lcssa60_2, place_10, place_11, r13_3, next_place_3, key_8, value_8, key_9, value_9;
+    char *map, *lone, *lone_2, *slot_2, *r5, *slot_3, *rest, *pair, *pair_2, *pair_3, *pair_4, *words, *lone_3,
+        *slot_4, *rest_2, *pair_5, *pair_6, *pair_7, *r11, *slot_5, *r11_2;
+    uint32_t r6, r8_2;
+    uint8_t has_pair, has_pair_2, has_first;
+    map_address = load64(handle);
+    store64(handle, 0);
+    map = (char *)(uintptr_t)map_address;
+    if (map_address == 0) {
+        key = 0;
+        value = 0;
         r6 = 0;
-        r6_2 = 0;
-        r6_3 = 0;
     } else {
-        r7 = load64(at);
-        r9 = load64(at + 8);
-        if (r7 <= load64(x0)) {
-            if (r7 < load64(x0 + 40)) {
-                r4 = load_address(x0 + 32);
-                r8 = r7 * 24;
-                r2 = load8(r4 + r8);
-                if ((r9 == 0) & (r2 != 0)) {
-                    r11 = r2;
-                    r6_4 = r8;
-                    r5 = r4;
-                    r3051 = r7;
+        slot = load64(at + CURSOR_SLOT);
+        place = load64(at + CURSOR_PLACE);
+        if (slot <= load64(map + INT_MAP_MASK)) {
+            if (slot < load64(map + INT_MAP_LONE_LEN)) {
+                lone = load_address(map + INT_MAP_LONE);
+                r8 = slot * LONE_SIZE;
+                has_pair = load8((lone + r8) + LONE_HAS_PAIR);
+                if ((place == 0) & (has_pair != 0)) {
+                    has_pair_2 = has_pair;
+                    r6_2 = r8;
+                    lone_2 = lone;
+                    r3051 = slot;
                     goto then_1_4;
                 }
             } else {
-                r11_2 = load_address(x0 + 56) + (r7 * 48);
-                if (load8(r11_2) != 0) {
-                    r2_2 = load64(r11_2 + 32);
-                    if (r9 < (r2_2 + 1)) {
-                        if (r9 == 0) {
-                            r3_2 = r2_2;
-                            r5_2 = r11_2 + 24;
-                            r9_2 = r11_2;
-                            r305061 = r7;
+                slot_2 = load_address(map + INT_MAP_SHARED) + (slot * SLOT_SIZE);
+                if (load8(slot_2 + SLOT_HAS_FIRST) != 0) {
+                    rest_len = load64(slot_2 + SLOT_REST_LEN);
+                    if (place < (rest_len + 1)) {
+                        if (place == 0) {
+                            rest_len_2 = rest_len;
+                            r5 = slot_2 + SLOT_REST;
+                            slot_3 = slot_2;
+                            r305061 = slot;
                             goto join_3_5;
                         }
-                        r10 = r9 - 1;
-                        r13 = load_address(r11_2 + 24);
-                        r16 = load64(r11_2 + 40);
-                        memset(r11_2 + 32, 0, 16);
-                        r6_5 = r10 << 4;
-                        r9_3 = r13 + r6_5;
-                        r1 = load64(r9_3);
-                        r1_2 = load64(r9_3 + 8);
-                        r28 = r2_2 - 1;
-                        r20 = r2_2 - r9;
+                        place_2 = place - 1;
+                        rest = load_address(slot_2 + SLOT_REST);
+                        rest_room = load64(slot_2 + SLOT_REST_ROOM);
+                        memset(slot_2 + SLOT_REST_LEN, 0, 16);
+                        r6_3 = place_2 << 4;
+                        pair = rest + r6_3;
+                        key_2 = load64(pair + PAIR_KEY);
+                        value_2 = load64(pair + PAIR_VALUE);
+                        r28 = rest_len - 1;
+                        r20 = rest_len - place;
                         if (r20 > 128) {
-                            r3_0 = r10;
+                            place_3 = place_2;
                             for (;;) {
-                                x6 = r13 + (r3_0 << 4);
-                                if (r3_0 == UINT64_C(18446744073709551615)) {
+                                pair_2 = rest + (place_3 << 4);
+                                if (place_3 == UINT64_C(18446744073709551615)) {
                                     r0_05 = 0;
                                     for (;;) {
                                         r19 = (uint64_t)2032 - (r0_05 << 4);
-                                        memcpy(x6 + r19, (x6 + 16) + r19, 16);
+                                        memcpy(pair_2 + r19, (pair_2 + 16) + r19, 16);
                                         r29 = r0_05 + 1;
                                         if (r29 == 128) {
                                             break;
@@ -3311,94 +3314,94 @@ static ALWAYS_INLINE char *do_intmap_cut(char *found, char *map, char *at) {
                                         r0_05 = r29;
                                     }
                                 } else {
-                                    r0_05_2 = 0;
+                                    place_4 = 0;
                                     for (;;) {
-                                        r13_2 = r0_05_2 << 4;
-                                        memcpy(x6 + r13_2, (x6 + 16) + r13_2, 16);
-                                        r23 = r0_05_2 + 1;
-                                        if (r23 == 128) {
+                                        r13 = place_4 << 4;
+                                        memcpy(pair_2 + r13, (pair_2 + 16) + r13, 16);
+                                        next_place = place_4 + 1;
+                                        if (next_place == 128) {
                                             break;
                                         }
-                                        r0_05_2 = r23;
+                                        place_4 = next_place;
                                     }
                                 }
-                                r36 = r3_0 + 128;
-                                r20_2 = r28 - r36;
+                                place_5 = place_3 + 128;
+                                r20_2 = r28 - place_5;
                                 if (r20_2 <= 128) {
-                                    exit = r36 << 4;
-                                    x8 = r13 + exit;
-                                    if (r36 != UINT64_C(18446744073709551615)) {
+                                    exit = place_5 << 4;
+                                    pair_3 = rest + exit;
+                                    if (place_5 != UINT64_C(18446744073709551615)) {
                                         x9 = exit;
                                         r20_lcssa60 = r20_2;
-                                        r3_0_lcssa59 = r36;
+                                        place_6 = place_5;
                                         break;
                                     }
-                                    if (r2_2 == 0) {
+                                    if (rest_len == 0) {
                                         goto after_Slot_remove_at;
                                     }
-                                    r0_05_3 = 0;
+                                    r0_05_2 = 0;
                                     for (;;) {
-                                        r19_2 = (r20_2 + (r0_05_3 ^ UINT64_C(18446744073709551615))) << 4;
-                                        memcpy(x8 + r19_2, (x8 + 16) + r19_2, 16);
-                                        r29_2 = r0_05_3 + 1;
+                                        r19_2 = (r20_2 + (r0_05_2 ^ UINT64_C(18446744073709551615))) << 4;
+                                        memcpy(pair_3 + r19_2, (pair_3 + 16) + r19_2, 16);
+                                        r29_2 = r0_05_2 + 1;
                                         if (r29_2 == r20_2) {
                                             goto after_Slot_remove_at;
                                         }
-                                        r0_05_3 = r29_2;
+                                        r0_05_2 = r29_2;
                                     }
                                 }
-                                r3_0 = r36;
+                                place_3 = place_5;
                             }
                         } else {
-                            x9 = r6_5;
+                            x9 = r6_3;
                             r20_lcssa60 = r20;
-                            r3_0_lcssa59 = r10;
+                            place_6 = place_2;
                         }
-                        if (r28 != r3_0_lcssa59) {
-                            x10 = r13 + x9;
-                            memmove(x10, x10 + 16, r20_lcssa60 << 4);
+                        if (r28 != place_6) {
+                            pair_4 = rest + x9;
+                            memmove(pair_4, pair_4 + 16, r20_lcssa60 << 4);
                         }
                     after_Slot_remove_at:;
-                        store_address(r11_2 + 24, r13);
-                        store64(r11_2 + 32, r28);
-                        store64(r11_2 + 40, r16);
-                        if ((load8(r11_2) & 1) != 0) {
-                            r3_3 = r1;
-                            r3_4 = r1_2;
+                        store_address(slot_2 + SLOT_REST, rest);
+                        store64(slot_2 + SLOT_REST_LEN, r28);
+                        store64(slot_2 + SLOT_REST_ROOM, rest_room);
+                        if ((load8(slot_2 + SLOT_HAS_FIRST) & 1) != 0) {
+                            key_3 = key_2;
+                            value_3 = value_2;
                             goto x24;
                         }
-                        r305060 = r7;
-                        r1_3_0_pn47 = r1_2;
-                        r1_0_0_pn46 = r1;
+                        r305060 = slot;
+                        value_4 = value_2;
+                        key_4 = key_2;
                         goto then_1_3;
                     }
                 }
             }
         }
-        r3_0_2 = sum_or_most(r7, 1);
-        r1910 = r3_0_2 >> 6;
-        r2_3 = load64(x0 + 16);
-        if (r2_3 <= r1910) {
-            x25 = 0;
+        r3_0 = sum_or_most(slot, 1);
+        r1910 = r3_0 >> 6;
+        words_len = load64(map + INT_MAP_WORDS_LEN);
+        if (words_len <= r1910) {
+            key_5 = 0;
             r8_2 = 0;
-            x26 = 0;
+            value_5 = 0;
             goto after_walk_cut;
         }
-        r4_2 = load_address(x0 + 8);
-        r39 = load64(r4_2 + (r1910 << 3)) & (UINT64_C(18446744073709551615) << (r3_0_2 & 63));
+        words = load_address(map + INT_MAP_WORDS);
+        r39 = load64(words + (r1910 << 3)) & (UINT64_C(18446744073709551615) << (r3_0 & 63));
         if (r39 == 0) {
             r1_0 = r1910;
             for (;;) {
                 r46 = r1_0 + 1;
-                if (r46 == r2_3) {
-                    x25 = 0;
+                if (r46 == words_len) {
+                    key_5 = 0;
                     r8_2 = 0;
-                    x26 = 0;
+                    value_5 = 0;
                     goto after_walk_cut;
                 }
-                r59 = load64(r4_2 + (r46 << 3));
-                if (r59 != 0) {
-                    r2_0 = r59;
+                bits = load64(words + (r46 << 3));
+                if (bits != 0) {
+                    r2_0 = bits;
                     r1_0_2 = r46;
                     break;
                 }
@@ -3409,357 +3412,361 @@ static ALWAYS_INLINE char *do_intmap_cut(char *found, char *map, char *at) {
             r1_0_2 = r1910;
         }
         r63 = low_zeros(r2_0);
-        r69 = (r1_0_2 << 6) | r63;
-        store64(at, r69);
-        store64(at + 8, 0);
-        if (r69 < load64(x0 + 40)) {
-            r5_3 = load_address(x0 + 32);
-            exit_2 = r69 * 24;
-            r11 = load8(r5_3 + exit_2);
-            r6_4 = exit_2;
-            r5 = r5_3;
-            r3051 = r69;
+        index = (r1_0_2 << 6) | r63;
+        store64(at + CURSOR_SLOT, index);
+        store64(at + CURSOR_PLACE, 0);
+        if (index < load64(map + INT_MAP_LONE_LEN)) {
+            lone_3 = load_address(map + INT_MAP_LONE);
+            exit_2 = index * LONE_SIZE;
+            has_pair_2 = load8((lone_3 + exit_2) + LONE_HAS_PAIR);
+            r6_2 = exit_2;
+            lone_2 = lone_3;
+            r3051 = index;
             goto then_1_4;
         }
-        r9_4 = load_address(x0 + 56) + (r69 * 48);
-        r3_2 = load64(r9_4 + 32);
-        r5_2 = r9_4 + 24;
-        r9_2 = r9_4;
-        r305061 = r69;
+        slot_4 = load_address(map + INT_MAP_SHARED) + (index * SLOT_SIZE);
+        rest_len_2 = load64(slot_4 + SLOT_REST_LEN);
+        r5 = slot_4 + SLOT_REST;
+        slot_3 = slot_4;
+        r305061 = index;
     join_3_5:;
-        if (r3_2 == 0) {
-            r11_3 = load8(r9_2);
-            r0 = load64(r9_2 + 8);
-            r0_2 = load64(r9_2 + 16);
-            memset(r9_2, 0, 24);
-            if (r11_3 == 1) {
+        if (rest_len_2 == 0) {
+            has_first = load8(slot_3 + SLOT_HAS_FIRST);
+            key_6 = load64(slot_3 + SLOT_KEY);
+            value_6 = load64(slot_3 + SLOT_VALUE);
+            memset(slot_3, 0, 24);
+            if (has_first == 1) {
                 r305060 = r305061;
-                r1_3_0_pn47 = r0_2;
-                r1_0_0_pn46 = r0;
+                value_4 = value_6;
+                key_4 = key_6;
                 goto then_1_3;
             }
         }
-        r13_3 = load_address(r5_2);
-        r16_2 = load64(r9_2 + 40);
-        memset(r9_2 + 32, 0, 16);
-        r1_3 = load64(r13_3);
-        r1_4 = load64(r13_3 + 8);
-        r28_2 = r3_2 - 1;
+        rest_2 = load_address(r5 + VEC_ADDRESS);
+        rest_room_2 = load64(slot_3 + SLOT_REST_ROOM);
+        memset(slot_3 + SLOT_REST_LEN, 0, 16);
+        key_7 = load64(rest_2 + PAIR_KEY);
+        value_7 = load64(rest_2 + PAIR_VALUE);
+        r28_2 = rest_len_2 - 1;
         if (r28_2 > 128) {
-            r3_0_3 = 0;
+            place_7 = 0;
             for (;;) {
-                x15 = r13_3 + (r3_0_3 << 4);
-                r0_05_4 = 0;
+                pair_5 = rest_2 + (place_7 << 4);
+                place_8 = 0;
                 for (;;) {
-                    r13_4 = r0_05_4 << 4;
-                    memcpy(x15 + r13_4, (x15 + 16) + r13_4, 16);
-                    r23_2 = r0_05_4 + 1;
-                    if (r23_2 == 128) {
-                        r36_2 = r3_0_3 + 128;
-                        r20_3 = r28_2 - r36_2;
+                    r13_2 = place_8 << 4;
+                    memcpy(pair_5 + r13_2, (pair_5 + 16) + r13_2, 16);
+                    next_place_2 = place_8 + 1;
+                    if (next_place_2 == 128) {
+                        place_9 = place_7 + 128;
+                        r20_3 = r28_2 - place_9;
                         if (r20_3 > 128) {
-                            r3_0_3 = r36_2;
+                            place_7 = place_9;
                             break;
                         }
-                        exit_3 = r36_2 << 4;
-                        x17 = r13_3 + exit_3;
+                        exit_3 = place_9 << 4;
+                        pair_6 = rest_2 + exit_3;
                         x18 = exit_3;
                         r20_lcssa60_2 = r20_3;
-                        r3_0_lcssa59_2 = r36_2;
+                        place_10 = place_9;
                         goto then_2_2;
                     }
-                    r0_05_4 = r23_2;
+                    place_8 = next_place_2;
                 }
             }
         }
-        x17 = r13_3;
+        pair_6 = rest_2;
         x18 = 0;
         r20_lcssa60_2 = r28_2;
-        r3_0_lcssa59_2 = 0;
+        place_10 = 0;
     then_2_2:;
-        if (r28_2 != r3_0_lcssa59_2) {
-            x20 = r13_3 + x18;
-            r0_05_5 = 0;
+        if (r28_2 != place_10) {
+            pair_7 = rest_2 + x18;
+            place_11 = 0;
             for (;;) {
-                r13_5 = r0_05_5 << 4;
-                memcpy(x20 + r13_5, (x17 + 16) + r13_5, 16);
-                r23_3 = r0_05_5 + 1;
-                if (r23_3 == r20_lcssa60_2) {
+                r13_3 = place_11 << 4;
+                memcpy(pair_7 + r13_3, (pair_6 + 16) + r13_3, 16);
+                next_place_3 = place_11 + 1;
+                if (next_place_3 == r20_lcssa60_2) {
                     break;
                 }
-                r0_05_5 = r23_3;
+                place_11 = next_place_3;
             }
         }
-        store_address(r5_2, r13_3);
-        store64(r9_2 + 32, r28_2);
-        store64(r9_2 + 40, r16_2);
-        if (load8(r9_2) != 1) {
+        store_address(r5 + VEC_ADDRESS, rest_2);
+        store64(slot_3 + SLOT_REST_LEN, r28_2);
+        store64(slot_3 + SLOT_REST_ROOM, rest_room_2);
+        if (load8(slot_3 + SLOT_HAS_FIRST) != 1) {
             abort();
         }
-        r4_3 = load64(r9_2 + 8);
-        r4_4 = load64(r9_2 + 16);
-        store64(r9_2 + 8, r1_3);
-        store64(r9_2 + 16, r1_4);
-        r3_3 = r4_3;
-        r3_4 = r4_4;
+        key_8 = load64(slot_3 + SLOT_KEY);
+        value_8 = load64(slot_3 + SLOT_VALUE);
+        store64(slot_3 + SLOT_KEY, key_7);
+        store64(slot_3 + SLOT_VALUE, value_7);
+        key_3 = key_8;
+        value_3 = value_8;
         goto x24;
     then_1_3:;
-        r11_4 = load_address(x0 + 8) + ((r305060 >> 3) & UINT64_C(2305843009213693944));
-        store64(r11_4, load64(r11_4) & (((uint64_t)1 << (r305060 & 63)) ^ UINT64_C(18446744073709551615)));
-        r3_3 = r1_0_0_pn46;
-        r3_4 = r1_3_0_pn47;
+        r11 = load_address(map + INT_MAP_WORDS) + ((r305060 >> 3) & UINT64_C(2305843009213693944));
+        store64(r11, load64(r11) & (((uint64_t)1 << (r305060 & 63)) ^ UINT64_C(18446744073709551615)));
+        key_3 = key_4;
+        value_3 = value_4;
         goto x24;
     then_1_4:;
-        r9_5 = r5 + r6_4;
-        r0_3 = load64(r9_5 + 8);
-        r0_4 = load64(r9_5 + 16);
-        memset(r9_5, 0, 24);
-        if (r11 != 1) {
+        slot_5 = lone_2 + r6_2;
+        key_9 = load64(slot_5 + LONE_KEY);
+        value_9 = load64(slot_5 + LONE_VALUE);
+        memset(slot_5, 0, 24);
+        if (has_pair_2 != 1) {
             abort();
         }
-        r11_5 = load_address(x0 + 8) + ((r3051 >> 3) & UINT64_C(2305843009213693944));
-        store64(r11_5, load64(r11_5) & (((uint64_t)1 << (r3051 & 63)) ^ UINT64_C(18446744073709551615)));
-        r3_3 = r0_3;
-        r3_4 = r0_4;
+        r11_2 = load_address(map + INT_MAP_WORDS) + ((r3051 >> 3) & UINT64_C(2305843009213693944));
+        store64(r11_2, load64(r11_2) & (((uint64_t)1 << (r3051 & 63)) ^ UINT64_C(18446744073709551615)));
+        key_3 = key_9;
+        value_3 = value_9;
     x24:;
-        store64(x0 + 80, load64(x0 + 80) - 1);
-        x25 = r3_3;
+        store64(map + INT_MAP_LEN, load64(map + INT_MAP_LEN) - 1);
+        key_5 = key_3;
         r8_2 = 1;
-        x26 = r3_4;
+        value_5 = value_3;
     after_walk_cut:;
-        store64(map, r3);
-        r6 = x25;
-        r6_2 = x26;
-        r6_3 = r8_2;
+        store64(handle, map_address);
+        key = key_5;
+        value = value_5;
+        r6 = r8_2;
     }
-    store64(found, r6);
-    store64(found + 8, r6_2);
-    store32(found + 16, r6_3);
-    store32(found + 20, 0);
-    return found;
+    store64(result + FOUND_PAIR_KEY, key);
+    store64(result + FOUND_PAIR_VALUE, value);
+    store32(result + FOUND_PAIR_STATUS, r6);
+    store32(result + 20, 0);
+    return result;
 }
 
+// Frees the map of the handle, which then has none.
 // intmap_free, in crates/intmap_c/src/make.rt
-static ALWAYS_INLINE void do_intmap_free(char *map) {
-    uint64_t r3;
-    r3 = load64(map);
-    store64(map, 0);
-    mem_drop((uint8_t)(r3 != 0), (char *)(uintptr_t)r3);
-    return;
+static ALWAYS_INLINE void do_intmap_free(char *handle) {
+    uint64_t map_address;
+    map_address = load64(handle);
+    store64(handle, 0);
+    mem_drop((uint8_t)(map_address != 0), (char *)(uintptr_t)map_address);
 }
 
+// Removes the pair of the key, and returns its value.
 // intmap_remove, in crates/intmap_c/src/pairs.rt
-static ALWAYS_INLINE struct word_word do_intmap_remove(char *map, uint64_t key) {
-    uint64_t r3, r10, r8, r9, r0, r0_2, spec_select, r3_2, r8_2, r9_2, r0_3, r28, r2, r4, r6, r3_0, r45, r28_2, r2_2,
-        r4_3, r0_2_8_ext;
-    char *x0, *r11, *r11_2, *r23_2, *r4_2, *r23_3, *x5;
+static ALWAYS_INLINE struct word_word do_intmap_remove(char *handle, uint64_t key) {
+    uint64_t map_address, index, r8, bits, value, value_2, value_3, rest_len, r8_2, bits_2, value_4, place, value_5,
+        value_6, rest_len_2, place_2, next_place, place_3, value_7, value_8, r0_2_8_ext;
+    char *map, *slot, *slot_2, *pair, *rest, *pair_2, *pair_3;
     struct word_half r23;
     uint32_t r0_0_0_0_pn127;
-    r3 = load64(map);
-    store64(map, 0);
-    x0 = (char *)(uintptr_t)r3;
-    if (r3 == 0) {
+    map_address = load64(handle);
+    store64(handle, 0);
+    map = (char *)(uintptr_t)map_address;
+    if (map_address == 0) {
         r23 = empty_word_half();
     } else {
-        r10 = load64(x0) & (key * UINT64_C(11400714819323198549));
-        if (r10 < load64(x0 + 40)) {
-            r11 = load_address(x0 + 32) + (r10 * 24);
-            if (load8(r11) != 1) {
+        index = load64(map + INT_MAP_MASK) & (key * MULTIPLIER);
+        if (index < load64(map + INT_MAP_LONE_LEN)) {
+            slot = load_address(map + INT_MAP_LONE) + (index * LONE_SIZE);
+            if (load8(slot + LONE_HAS_PAIR) != 1) {
                 r0_0_0_0_pn127 = 0;
-                spec_select = 0;
+                value_3 = 0;
                 goto after_pairs_remove;
             }
-            if (load64(r11 + 8) != key) {
+            if (load64(slot + LONE_KEY) != key) {
                 r0_0_0_0_pn127 = 0;
-                spec_select = 0;
+                value_3 = 0;
                 goto after_pairs_remove;
             }
-            r8 = (r10 >> 3) & UINT64_C(2305843009213693944);
-            r9 = load64(load_address(x0 + 8) + r8);
-            r0 = load64(r11 + 16);
-            memset(r11, 0, 24);
-            store64(load_address(x0 + 8) + r8, r9 & (((uint64_t)1 << (r10 & 63)) ^ UINT64_C(18446744073709551615)));
-            r0_2 = r0;
+            r8 = (index >> 3) & UINT64_C(2305843009213693944);
+            bits = load64(load_address(map + INT_MAP_WORDS) + r8);
+            value = load64(slot + LONE_VALUE);
+            memset(slot, 0, 24);
+            store64(load_address(map + INT_MAP_WORDS) + r8, bits & (((uint64_t)1 << (index & 63)) ^ UINT64_C(18446744073709551615)));
+            value_2 = value;
         } else {
-            r11_2 = load_address(x0 + 56) + (r10 * 48);
-            if (load8(r11_2) != 1) {
+            slot_2 = load_address(map + INT_MAP_SHARED) + (index * SLOT_SIZE);
+            if (load8(slot_2 + SLOT_HAS_FIRST) != 1) {
                 r0_0_0_0_pn127 = 0;
-                spec_select = 0;
+                value_3 = 0;
                 goto after_pairs_remove;
             }
-            if (load64(r11_2 + 8) == key) {
-                r3_2 = load64(r11_2 + 32);
-                if (r3_2 == 0) {
-                    r8_2 = (r10 >> 3) & UINT64_C(2305843009213693944);
-                    r9_2 = load64(load_address(x0 + 8) + r8_2);
-                    r0_3 = load64(r11_2 + 16);
-                    memset(r11_2, 0, 24);
-                    store64(load_address(x0 + 8) + r8_2, r9_2 & (((uint64_t)1 << (r10 & 63)) ^ UINT64_C(18446744073709551615)));
-                    r0_2 = r0_3;
+            if (load64(slot_2 + SLOT_KEY) == key) {
+                rest_len = load64(slot_2 + SLOT_REST_LEN);
+                if (rest_len == 0) {
+                    r8_2 = (index >> 3) & UINT64_C(2305843009213693944);
+                    bits_2 = load64(load_address(map + INT_MAP_WORDS) + r8_2);
+                    value_4 = load64(slot_2 + SLOT_VALUE);
+                    memset(slot_2, 0, 24);
+                    store64(load_address(map + INT_MAP_WORDS) + r8_2, bits_2 & (((uint64_t)1 << (index & 63)) ^ UINT64_C(18446744073709551615)));
+                    value_2 = value_4;
                 } else {
-                    r28 = r3_2 - 1;
-                    store64(r11_2 + 32, r28);
-                    r23_2 = load_address(r11_2 + 24) + (r28 << 4);
-                    r2 = load64(r23_2 + 8);
-                    r4 = load64(r11_2 + 16);
-                    store64(r11_2 + 8, load64(r23_2));
-                    store64(r11_2 + 16, r2);
-                    r0_2 = r4;
+                    place = rest_len - 1;
+                    store64(slot_2 + SLOT_REST_LEN, place);
+                    pair = load_address(slot_2 + SLOT_REST) + (place << 4);
+                    value_5 = load64(pair + PAIR_VALUE);
+                    value_6 = load64(slot_2 + SLOT_VALUE);
+                    store64(slot_2 + SLOT_KEY, load64(pair + PAIR_KEY));
+                    store64(slot_2 + SLOT_VALUE, value_5);
+                    value_2 = value_6;
                 }
             } else {
-                r4_2 = load_address(r11_2 + 24);
-                r6 = load64(r11_2 + 32);
-                if (r6 == 0) {
+                rest = load_address(slot_2 + SLOT_REST);
+                rest_len_2 = load64(slot_2 + SLOT_REST_LEN);
+                if (rest_len_2 == 0) {
                     r0_0_0_0_pn127 = 0;
-                    spec_select = 0;
+                    value_3 = 0;
                     goto after_pairs_remove;
                 }
-                r3_0 = 0;
+                place_2 = 0;
                 for (;;) {
-                    r45 = r3_0 + 1;
-                    if (load64(r4_2 + (r3_0 << 4)) == key) {
-                        r28_2 = r6 - 1;
-                        store64(r11_2 + 32, r28_2);
-                        r23_3 = r4_2 + (r28_2 << 4);
-                        r2_2 = load64(r23_3 + 8);
-                        if (r45 == r6) {
-                            r0_2 = r2_2;
+                    next_place = place_2 + 1;
+                    if (load64((rest + (place_2 << 4)) + PAIR_KEY) == key) {
+                        place_3 = rest_len_2 - 1;
+                        store64(slot_2 + SLOT_REST_LEN, place_3);
+                        pair_2 = rest + (place_3 << 4);
+                        value_7 = load64(pair_2 + PAIR_VALUE);
+                        if (next_place == rest_len_2) {
+                            value_2 = value_7;
                             break;
                         }
-                        x5 = r4_2 + (r45 << 4);
-                        r4_3 = load64(x5 - 8);
-                        store64(x5 - 16, load64(r23_3));
-                        store64(x5 - 8, r2_2);
-                        r0_2 = r4_3;
+                        pair_3 = rest + (next_place << 4);
+                        value_8 = load64(pair_3 - 8);
+                        store64(pair_3 - 16, load64(pair_2 + PAIR_KEY));
+                        store64(pair_3 - 8, value_7);
+                        value_2 = value_8;
                         break;
                     }
-                    if (r45 == r6) {
+                    if (next_place == rest_len_2) {
                         r0_0_0_0_pn127 = 0;
-                        spec_select = 0;
+                        value_3 = 0;
                         goto after_pairs_remove;
                     }
-                    r3_0 = r45;
+                    place_2 = next_place;
                 }
             }
         }
-        store64(x0 + 80, load64(x0 + 80) - 1);
+        store64(map + INT_MAP_LEN, load64(map + INT_MAP_LEN) - 1);
         r0_0_0_0_pn127 = 1;
-        spec_select = r0_2;
+        value_3 = value_2;
     after_pairs_remove:;
-        store64(map, r3);
-        r23 = made_word_half(spec_select, r0_0_0_0_pn127);
+        store64(handle, map_address);
+        r23 = made_word_half(value_3, r0_0_0_0_pn127);
     }
     r0_2_8_ext = (uint64_t)r23.second;
     return made_word_word(r23.first, r0_2_8_ext);
 }
 
+// Replaces the value of a present key, whose pair keeps its place, and returns the value before.
 // intmap_replace, in crates/intmap_c/src/pairs.rt
-static ALWAYS_INLINE struct word_word do_intmap_replace(char *map, uint64_t key, uint64_t value) {
-    uint64_t r3, r10, r6, r3_0, r21, r36, r6_2, r0_2_8_ext;
-    char *x0, *r11, *r4, *r11_2, *r4_2;
+static ALWAYS_INLINE struct word_word do_intmap_replace(char *handle, uint64_t key, uint64_t value) {
+    uint64_t map_address, index, rest_len, place, r21, next_place, value_2, r0_2_8_ext;
+    char *map, *slot, *value_at, *slot_2, *rest;
     struct word_half r23, r26;
-    r3 = load64(map);
-    store64(map, 0);
-    x0 = (char *)(uintptr_t)r3;
-    if (r3 == 0) {
+    map_address = load64(handle);
+    store64(handle, 0);
+    map = (char *)(uintptr_t)map_address;
+    if (map_address == 0) {
         r23 = empty_word_half();
     } else {
-        r10 = load64(x0) & (key * UINT64_C(11400714819323198549));
-        if (r10 < load64(x0 + 40)) {
-            r11 = load_address(x0 + 32) + (r10 * 24);
-            if (load8(r11) != 1) {
+        index = load64(map + INT_MAP_MASK) & (key * MULTIPLIER);
+        if (index < load64(map + INT_MAP_LONE_LEN)) {
+            slot = load_address(map + INT_MAP_LONE) + (index * LONE_SIZE);
+            if (load8(slot + LONE_HAS_PAIR) != 1) {
                 r26 = empty_word_half();
                 goto after_pairs_replace;
             }
-            if (load64(r11 + 8) != key) {
+            if (load64(slot + LONE_KEY) != key) {
                 r26 = empty_word_half();
                 goto after_pairs_replace;
             }
-            r4 = r11 + 16;
+            value_at = slot + LONE_VALUE;
         } else {
-            r11_2 = load_address(x0 + 56) + (r10 * 48);
-            if (load8(r11_2) != 1) {
+            slot_2 = load_address(map + INT_MAP_SHARED) + (index * SLOT_SIZE);
+            if (load8(slot_2 + SLOT_HAS_FIRST) != 1) {
                 r26 = empty_word_half();
                 goto after_pairs_replace;
             }
-            if (load64(r11_2 + 8) == key) {
-                r4 = r11_2 + 16;
+            if (load64(slot_2 + SLOT_KEY) == key) {
+                value_at = slot_2 + SLOT_VALUE;
             } else {
-                r4_2 = load_address(r11_2 + 24);
-                r6 = load64(r11_2 + 32);
-                if (r6 == 0) {
+                rest = load_address(slot_2 + SLOT_REST);
+                rest_len = load64(slot_2 + SLOT_REST_LEN);
+                if (rest_len == 0) {
                     r26 = empty_word_half();
                     goto after_pairs_replace;
                 }
-                r3_0 = 0;
+                place = 0;
                 for (;;) {
-                    r21 = r3_0 << 4;
-                    if (load64(r4_2 + r21) == key) {
-                        r4 = (r4_2 + r21) + 8;
+                    r21 = place << 4;
+                    if (load64((rest + r21) + PAIR_KEY) == key) {
+                        value_at = (rest + r21) + PAIR_VALUE;
                         break;
                     }
-                    r36 = r3_0 + 1;
-                    if (r36 == r6) {
+                    next_place = place + 1;
+                    if (next_place == rest_len) {
                         r26 = empty_word_half();
                         goto after_pairs_replace;
                     }
-                    r3_0 = r36;
+                    place = next_place;
                 }
             }
         }
-        r6_2 = load64(r4);
-        store64(r4, value);
-        r26 = made_word_half(r6_2, 1);
+        value_2 = load64(value_at);
+        store64(value_at, value);
+        r26 = made_word_half(value_2, 1);
     after_pairs_replace:;
-        store64(map, r3);
+        store64(handle, map_address);
         r23 = r26;
     }
     r0_2_8_ext = (uint64_t)r23.second;
     return made_word_word(r23.first, r0_2_8_ext);
 }
 
+// Makes a map in `to` with the same pairs in the same order, as many slots and the same load factor.
 // intmap_clone, in crates/intmap_c/src/read.rt
-static ALWAYS_INLINE uint32_t do_intmap_clone(char *map, char *to) {
-    char *r6, *r25, *r32, *r4, *r9_45_0_ph34, *r8, *r39, *r4_2, *r137, *r18_2, *r4_3, *r181, *r4_4, *r17, *r8_2,
-        *r52, *r15, *r9_4, *r20;
-    uint64_t r3, r2_2, r2_3, r6_2, r7_pre_phi33, r19, r0_05, r18, r30, r6_3, r12_0445, r134, r6_4, r6_5, r160, r6_6,
-        r17_0448, r178, r9_2, r9_3, r6_7, r7_052, r49, r2_4, r66, r0_06, r12_4, r210, r211, r21, r23, r25_2;
+static ALWAYS_INLINE uint32_t do_intmap_clone(char *word, char *to) {
+    char *map, *r25, *r32, *words, *r9_45_0_ph34, *r8, *r39, *lone, *slot, *r18_2, *shared, *slot_2, *rest, *r17,
+        *r8_2, *pair, *r15, *r9_2, *r20;
+    uint64_t map_address, lone_len, shared_len, words_len, r7_pre_phi33, r19, r0_05, r18, r30, lone_len_2, index,
+        r134, key, value, next_index, shared_len_2, index_2, r178, key_2, value_2, rest_len, place, r49, value_3,
+        next_place, r0_06, r12_4, next_index_2, mask, len, threshold, factor;
     uint32_t r5_0, r30_2;
     bool r12, r12_2, r12_3;
-    struct word_word r0, r0_2, r0_3, r0_4;
-    uint8_t r16, r32_2;
-    char *r2 = (char *)no_bytes;
+    struct word_word block, block_2, block_3, block_4;
+    uint8_t has_pair, has_first;
+    char *dangling = (char *)no_bytes;
     uint64_t r9_room[14];
     char *r9 = (char *)r9_room;
-    r6 = load_address(map);
+    map = load_address(word);
     memset(r9, 0, 112);
-    if (r6 == NULL) {
-        r3 = load64(to);
+    if (map == NULL) {
+        map_address = load64(to);
         store64(to, 0);
-        mem_drop((uint8_t)(r3 != 0), (char *)(uintptr_t)r3);
+        mem_drop((uint8_t)(map_address != 0), (char *)(uintptr_t)map_address);
         r5_0 = 0;
     } else {
-        r2_2 = load64(r6 + 40);
-        r12 = r2_2 == 0;
+        lone_len = load64(map + INT_MAP_LONE_LEN);
+        r12 = lone_len == 0;
         if (r12) {
-            r25 = r2;
+            r25 = dangling;
         } else {
-            if (r2_2 >= UINT64_C(384307168202282326)) {
+            if (lone_len >= UINT64_C(384307168202282326)) {
                 goto arm_2_2;
             }
-            r0 = rattle_alloc(r2_2 * 24, 8);
-            if ((r0.first & 1) == 0) {
+            block = rattle_alloc(lone_len * 24, 8);
+            if ((block.first & 1) == 0) {
                 goto arm_2_2;
             }
-            r25 = (char *)(uintptr_t)r0.second;
+            r25 = (char *)(uintptr_t)block.second;
         }
-        r2_3 = load64(r6 + 64);
-        r12_2 = r2_3 == 0;
+        shared_len = load64(map + INT_MAP_SHARED_LEN);
+        r12_2 = shared_len == 0;
         if (!r12_2) {
-            if (r2_3 < UINT64_C(192153584101141163)) {
-                r0_2 = rattle_alloc(r2_3 * 48, 8);
-                if ((r0_2.first & 1) != 0) {
-                    r32 = (char *)(uintptr_t)r0_2.second;
+            if (shared_len < UINT64_C(192153584101141163)) {
+                block_2 = rattle_alloc(shared_len * 48, 8);
+                if ((block_2.first & 1) != 0) {
+                    r32 = (char *)(uintptr_t)block_2.second;
                     goto arm_5;
                 }
             }
@@ -3769,18 +3776,18 @@ static ALWAYS_INLINE uint32_t do_intmap_clone(char *map, char *to) {
             rattle_dealloc(r25);
             goto arm_2_2;
         }
-        r32 = r2;
+        r32 = dangling;
     arm_5:;
-        r4 = load_address(r6 + 8);
-        r6_2 = load64(r6 + 16);
-        r12_3 = r6_2 == 0;
+        words = load_address(map + INT_MAP_WORDS);
+        words_len = load64(map + INT_MAP_WORDS_LEN);
+        r12_3 = words_len == 0;
         if (!r12_3) {
-            if (r6_2 < UINT64_C(1152921504606846976)) {
-                r19 = r6_2 << 3;
-                r0_3 = rattle_alloc(r19, 8);
-                if ((r0_3.first & 1) != 0) {
-                    r8 = (char *)(uintptr_t)r0_3.second;
-                    if ((r0_3.second - ((uint64_t)(uintptr_t)r4)) >= r19) {
+            if (words_len < UINT64_C(1152921504606846976)) {
+                r19 = words_len << 3;
+                block_3 = rattle_alloc(r19, 8);
+                if ((block_3.first & 1) != 0) {
+                    r8 = (char *)(uintptr_t)block_3.second;
+                    if ((block_3.second - ((uint64_t)(uintptr_t)words)) >= r19) {
                         r9_45_0_ph34 = r8;
                         r7_pre_phi33 = r19;
                         goto apart_2;
@@ -3788,9 +3795,9 @@ static ALWAYS_INLINE uint32_t do_intmap_clone(char *map, char *to) {
                     r0_05 = 0;
                     for (;;) {
                         r18 = r0_05 << 3;
-                        store64(r8 + r18, load64(r4 + r18));
+                        store64(r8 + r18, load64(words + r18));
                         r30 = r0_05 + 1;
-                        if (r30 == r6_2) {
+                        if (r30 == words_len) {
                             r39 = r8;
                             goto arm_8;
                         }
@@ -3807,89 +3814,89 @@ static ALWAYS_INLINE uint32_t do_intmap_clone(char *map, char *to) {
             rattle_dealloc(r25);
             goto arm_2_2;
         }
-        r9_45_0_ph34 = r2;
+        r9_45_0_ph34 = dangling;
         r7_pre_phi33 = 0;
     apart_2:;
-        memmove(r9_45_0_ph34, r4, r7_pre_phi33);
+        memmove(r9_45_0_ph34, words, r7_pre_phi33);
         r39 = r9_45_0_ph34;
     arm_8:;
-        r4_2 = load_address(r6 + 32);
-        r6_3 = load64(r6 + 40);
-        if (r6_3 != 0) {
-            r12_0445 = 0;
+        lone = load_address(map + INT_MAP_LONE);
+        lone_len_2 = load64(map + INT_MAP_LONE_LEN);
+        if (lone_len_2 != 0) {
+            index = 0;
             for (;;) {
-                r134 = r12_0445 * 24;
-                r137 = r4_2 + r134;
-                r16 = load8(r137);
-                if (r16 == 1) {
-                    r6_4 = load64(r137 + 8);
-                    r6_5 = load64(r137 + 16);
+                r134 = index * LONE_SIZE;
+                slot = lone + r134;
+                has_pair = load8(slot + LONE_HAS_PAIR);
+                if (has_pair == 1) {
+                    key = load64(slot + LONE_KEY);
+                    value = load64(slot + LONE_VALUE);
                 } else {
-                    r6_4 = 0;
-                    r6_5 = 0;
+                    key = 0;
+                    value = 0;
                 }
                 r18_2 = r25 + r134;
-                store64(r18_2, (uint64_t)r16);
-                store64(r18_2 + 8, r6_4);
-                store64(r18_2 + 16, r6_5);
-                r160 = r12_0445 + 1;
-                if (r160 == r6_3) {
+                store64(r18_2, (uint64_t)has_pair);
+                store64(r18_2 + 8, key);
+                store64(r18_2 + 16, value);
+                next_index = index + 1;
+                if (next_index == lone_len_2) {
                     break;
                 }
-                r12_0445 = r160;
+                index = next_index;
             }
         }
-        r4_3 = load_address(r6 + 56);
-        r6_6 = load64(r6 + 64);
-        if (r6_6 != 0) {
-            r17_0448 = 0;
+        shared = load_address(map + INT_MAP_SHARED);
+        shared_len_2 = load64(map + INT_MAP_SHARED_LEN);
+        if (shared_len_2 != 0) {
+            index_2 = 0;
             for (;;) {
-                r178 = r17_0448 * 48;
-                r181 = r4_3 + r178;
-                r32_2 = load8(r181);
-                if (r32_2 == 1) {
-                    r9_2 = load64(r181 + 8);
-                    r9_3 = load64(r181 + 16);
+                r178 = index_2 * SLOT_SIZE;
+                slot_2 = shared + r178;
+                has_first = load8(slot_2 + SLOT_HAS_FIRST);
+                if (has_first == 1) {
+                    key_2 = load64(slot_2 + SLOT_KEY);
+                    value_2 = load64(slot_2 + SLOT_VALUE);
                 } else {
-                    r9_2 = 0;
-                    r9_3 = 0;
+                    key_2 = 0;
+                    value_2 = 0;
                 }
-                r4_4 = load_address(r181 + 24);
-                r6_7 = load64(r181 + 32);
-                if (r6_7 != 0) {
-                    if (r6_7 < UINT64_C(576460752303423488)) {
-                        r0_4 = rattle_alloc(r6_7 << 4, 8);
-                        if ((r0_4.first & 1) != 0) {
-                            r8_2 = (char *)(uintptr_t)r0_4.second;
-                            r7_052 = 0;
+                rest = load_address(slot_2 + SLOT_REST);
+                rest_len = load64(slot_2 + SLOT_REST_LEN);
+                if (rest_len != 0) {
+                    if (rest_len < UINT64_C(576460752303423488)) {
+                        block_4 = rattle_alloc(rest_len << 4, 8);
+                        if ((block_4.first & 1) != 0) {
+                            r8_2 = (char *)(uintptr_t)block_4.second;
+                            place = 0;
                             for (;;) {
-                                r49 = r7_052 << 4;
-                                r52 = r4_4 + r49;
+                                r49 = place << 4;
+                                pair = rest + r49;
                                 r15 = r8_2 + r49;
-                                r2_4 = load64(r52 + 8);
-                                store64(r15, load64(r52));
-                                store64(r15 + 8, r2_4);
-                                r66 = r7_052 + 1;
-                                if (r66 == r6_7) {
+                                value_3 = load64(pair + PAIR_VALUE);
+                                store64(r15, load64(pair + PAIR_KEY));
+                                store64(r15 + 8, value_3);
+                                next_place = place + 1;
+                                if (next_place == rest_len) {
                                     r17 = r8_2;
                                     goto arm_26;
                                 }
-                                r7_052 = r66;
+                                place = next_place;
                             }
                         }
                     }
                     if (!r12_3) {
                         rattle_dealloc(r39);
                     }
-                    if (r17_0448 != 0) {
+                    if (index_2 != 0) {
                         r0_06 = 0;
                         for (;;) {
-                            r9_4 = r32 + (r0_06 * 48);
-                            if (load64(r9_4 + 40) != 0) {
-                                rattle_dealloc(load_address(r9_4 + 24));
+                            r9_2 = r32 + (r0_06 * 48);
+                            if (load64(r9_2 + 40) != 0) {
+                                rattle_dealloc(load_address(r9_2 + 24));
                             }
                             r12_4 = r0_06 + 1;
-                            if (r12_4 == r17_0448) {
+                            if (r12_4 == index_2) {
                                 break;
                             }
                             r0_06 = r12_4;
@@ -3904,41 +3911,41 @@ static ALWAYS_INLINE uint32_t do_intmap_clone(char *map, char *to) {
                     rattle_dealloc(r25);
                     goto arm_2_2;
                 }
-                r17 = r2;
+                r17 = dangling;
             arm_26:;
                 r20 = r32 + r178;
-                store64(r20, (uint64_t)r32_2);
-                store64(r20 + 8, r9_2);
-                store64(r20 + 16, r9_3);
+                store64(r20, (uint64_t)has_first);
+                store64(r20 + 8, key_2);
+                store64(r20 + 16, value_2);
                 store_address(r20 + 24, r17);
-                store64(r20 + 32, r6_7);
-                store64(r20 + 40, r6_7);
-                r210 = r17_0448 + 1;
-                if (r210 == r6_6) {
+                store64(r20 + 32, rest_len);
+                store64(r20 + 40, rest_len);
+                next_index_2 = index_2 + 1;
+                if (next_index_2 == shared_len_2) {
                     break;
                 }
-                r17_0448 = r210;
+                index_2 = next_index_2;
             }
         }
-        r211 = load64(r6);
-        r21 = load64(r6 + 80);
-        r23 = load64(r6 + 88);
-        r25_2 = load64(r6 + 96);
+        mask = load64(map + INT_MAP_MASK);
+        len = load64(map + INT_MAP_LEN);
+        threshold = load64(map + INT_MAP_THRESHOLD);
+        factor = load64(map + INT_MAP_FACTOR);
         store8(r9, 0);
         store8(r9 + 1, 0);
-        store64(r9 + 8, r211);
+        store64(r9 + 8, mask);
         store_address(r9 + 16, r39);
-        store64(r9 + 24, r6_2);
-        store64(r9 + 32, r6_2);
+        store64(r9 + 24, words_len);
+        store64(r9 + 32, words_len);
         store_address(r9 + 40, r25);
-        store64(r9 + 48, r6_3);
-        store64(r9 + 56, r2_2);
+        store64(r9 + 48, lone_len_2);
+        store64(r9 + 56, lone_len);
         store_address(r9 + 64, r32);
-        store64(r9 + 72, r6_6);
-        store64(r9 + 80, r2_3);
-        store64(r9 + 88, r21);
-        store64(r9 + 96, r23);
-        store64(r9 + 104, r25_2);
+        store64(r9 + 72, shared_len_2);
+        store64(r9 + 80, shared_len);
+        store64(r9 + 88, len);
+        store64(r9 + 96, threshold);
+        store64(r9 + 104, factor);
         goto after_IntMap_clone;
     arm_2_2:;
         store8(r9, 1);
@@ -3951,8 +3958,9 @@ static ALWAYS_INLINE uint32_t do_intmap_clone(char *map, char *to) {
     return r5_0;
 }
 
+// Makes an empty map, with a load factor of 909 thousandths.
 // intmap_with_capacity, in crates/intmap_c/src/make.rt
-static ALWAYS_INLINE uint32_t do_intmap_with_capacity(char *map, uint64_t capacity) {
+static ALWAYS_INLINE uint32_t do_intmap_with_capacity(char *handle, uint64_t capacity) {
     uint8_t sink1, sink, x0, x1;
     uint64_t a0_a1, r13;
     uint32_t r5;
@@ -3978,517 +3986,558 @@ static ALWAYS_INLINE uint32_t do_intmap_with_capacity(char *map, uint64_t capaci
     }
     store8(r3, sink1);
     store8(r3 + 1, sink);
-    r5 = make_keep(map, r3);
+    r5 = make_keep(handle, r3);
     return r5;
 }
 
+// Adds to the value of a present key as `intmap_add_present` does, or inserts an absent key with `more`.
 // intmap_add_or_insert, in crates/intmap_c/src/pairs.rt
-static ALWAYS_INLINE struct word_word do_intmap_add_or_insert(char *map, uint64_t key, uint64_t more) {
-    struct byte_address r13;
-    uint64_t r6, r19, x1, r10, r6_2, r3_0, r21, r36, r28, x13, r44, r40, r8, r8_2, r16_2, r20, r2931;
+static ALWAYS_INLINE struct word_word do_intmap_add_or_insert(char *handle, uint64_t key, uint64_t more) {
+    uint64_t map_address, value, r19, map_address_2, index, rest_len, place, r21, next_place, len, x15, r44, r40,
+        value_2, r8, bits, r20, value_3;
+    struct byte_address r15;
+    char *map, *slot, *value_at, *slot_2, *rest, *r11, *slot_3, *slot_4, *r11_2;
     bool r16;
-    char *r11, *r2931_in, *r11_2, *r4, *r11_3, *r9, *r9_2, *r11_5;
     struct byte_word r53, r53_2, r86;
-    uint8_t r11_4;
+    uint8_t has_pair;
     uint64_t r12_room[4];
     char *r12 = (char *)r12_room;
-    r13 = handle_take_or_make(map);
-    if (r13.first == 0) {
-        r6 = 0;
-        r19 = UINT64_C(4294967295);
+    map_address = load64(handle);
+    store64(handle, 0);
+    if (map_address == 0) {
+        r15 = handle_make_first();
+        if (r15.first == 0) {
+            value = 0;
+            r19 = UINT64_C(4294967295);
+            goto after_pairs_intmap_add_or_insert;
+        }
+        map = r15.second;
     } else {
-        x1 = (uint64_t)(uintptr_t)r13.second;
-        r10 = load64(r13.second) & (key * UINT64_C(11400714819323198549));
-        r16 = r10 < load64(r13.second + 40);
-        if (r16) {
-            r11 = load_address(r13.second + 32) + (r10 * 24);
-            if (load8(r11) == 1) {
-                if (load64(r11 + 8) == key) {
-                    r2931_in = r11 + 16;
-                    goto after_OccupiedEntry_insert;
-                }
-            }
-        } else {
-            r11_2 = load_address(r13.second + 56) + (r10 * 48);
-            if (load8(r11_2) == 1) {
-                if (load64(r11_2 + 8) == key) {
-                    r2931_in = r11_2 + 16;
-                    goto after_OccupiedEntry_insert;
-                }
-                r4 = load_address(r11_2 + 24);
-                r6_2 = load64(r11_2 + 32);
-                if (r6_2 != 0) {
-                    r3_0 = 0;
-                    for (;;) {
-                        r21 = r3_0 << 4;
-                        if (load64(r4 + r21) == key) {
-                            r2931_in = (r4 + r21) + 8;
-                            goto after_OccupiedEntry_insert;
-                        }
-                        r36 = r3_0 + 1;
-                        if (r36 == r6_2) {
-                            break;
-                        }
-                        r3_0 = r36;
-                    }
-                }
-            }
-        }
-        memset(r12, 0, 32);
-        r28 = load64(r13.second + 80);
-        if (r28 == UINT64_C(18446744073709551615)) {
-            x13 = UINT64_C(4294967294);
-        } else {
-            r44 = r28 + 1;
-            if (!(((r44 & 4) != 0) & (load64(r13.second + 88) <= r28))) {
-                if (r16) {
-                    r8_2 = r10 * 24;
-                    if ((load8(load_address(r13.second + 32) + r8_2) & 1) == 0) {
-                        r11_3 = load_address(r13.second + 8) + ((r10 >> 3) & UINT64_C(2305843009213693944));
-                        store64(r11_3, load64(r11_3) | ((uint64_t)1 << (r10 & 63)));
-                        r9 = load_address(r13.second + 32) + r8_2;
-                        r11_4 = load8(r9);
-                        store64(r9, 1);
-                        store64(r9 + 8, key);
-                        store64(r9 + 16, more);
-                        if (r11_4 == 0) {
-                            goto after_IntMap_add_2;
-                        }
-                        abort();
-                    }
-                    r53 = slots_push_second(r13.second, r10, key, more);
-                    r53_2 = r53;
-                } else {
-                    r9_2 = load_address(r13.second + 56) + (r10 * 48);
-                    r11_5 = load_address(r13.second + 8) + ((r10 >> 3) & UINT64_C(2305843009213693944));
-                    r16_2 = load64(r11_5);
-                    r20 = (uint64_t)1 << (r10 & 63);
-                    store64(r11_5, r16_2 | r20);
-                    if ((r16_2 & r20) == 0) {
-                        store64(r9_2, 1);
-                        store64(r9_2 + 8, key);
-                        store64(r9_2 + 16, more);
-                        goto after_IntMap_add_2;
-                    }
-                    r86 = slot_push(r9_2, key, more);
-                    r53_2 = r86;
-                }
-                if (r53_2.first != 0) {
-                    r40 = UINT64_C(4294967295);
-                    r8 = 0;
-                    goto after_pairs_add_or_insert;
-                }
-            after_IntMap_add_2:;
-                store64(r13.second + 80, r44);
-                r40 = 0;
-                r8 = 0;
-                goto after_pairs_add_or_insert;
-            }
-            intmap_add_growing(r12, r13.second, r44, r10, key, more);
-            if (load8(r12) == 0) {
-                r40 = 0;
-                r8 = 0;
-                goto after_pairs_add_or_insert;
-            }
-            x13 = ((load64(r12 + 16) & 255) == 0) ? UINT64_C(4294967295) : UINT64_C(4294967294);
-        }
-        r40 = x13;
-        r8 = 0;
-        goto after_pairs_add_or_insert;
-    after_OccupiedEntry_insert:;
-        r2931 = load64(r2931_in);
-        store64(r2931_in, r2931 + more);
-        r40 = 1;
-        r8 = r2931;
-    after_pairs_add_or_insert:;
-        store64(map, x1);
-        r6 = r8;
-        r19 = r40;
+        map = (char *)(uintptr_t)map_address;
     }
-    return made_word_word(r6, r19);
-}
-
-// intmap_insert, in crates/intmap_c/src/pairs.rt
-static ALWAYS_INLINE struct word_word do_intmap_insert(char *map, uint64_t key, uint64_t value) {
-    struct byte_address r13;
-    uint64_t r6, r19, x1, r10, r4, r5, spec_select1, r11_3, r4_2, r4_3, r4_4, r4_5, r4_6, r6_2, r3_0, r45, r15, r20,
-        r2, r12_2, r9, r0, r4_8, r9_2, r28, x16, r44, r8, r16_2, r20_2;
-    bool r16;
-    char *r11, *r11_2, *x6, *r4_7, *r23, *r10_2, *x4, *r15_2, *r11_4, *r9_3, *r9_4, *r11_6;
-    struct byte_word r53, r53_2, r86;
-    uint8_t r11_5;
-    uint64_t r12_room[4];
-    char *r12 = (char *)r12_room;
-    r13 = handle_take_or_make(map);
-    if (r13.first == 0) {
-        r6 = 0;
-        r19 = UINT64_C(4294967295);
+    map_address_2 = (uint64_t)(uintptr_t)map;
+    index = load64(map + INT_MAP_MASK) & (key * MULTIPLIER);
+    r16 = index < load64(map + INT_MAP_LONE_LEN);
+    if (r16) {
+        slot = load_address(map + INT_MAP_LONE) + (index * LONE_SIZE);
+        if (load8(slot + LONE_HAS_PAIR) == 1) {
+            if (load64(slot + LONE_KEY) == key) {
+                value_at = slot + LONE_VALUE;
+                goto after_OccupiedEntry_insert;
+            }
+        }
     } else {
-        x1 = (uint64_t)(uintptr_t)r13.second;
-        r10 = load64(r13.second) & (key * UINT64_C(11400714819323198549));
-        r16 = r10 < load64(r13.second + 40);
-        if (r16) {
-            r11 = load_address(r13.second + 32) + (r10 * 24);
-            if (load8(r11) == 1) {
-                if (load64(r11 + 8) == key) {
-                    r4 = load64(r11 + 16);
-                    store64(r11 + 16, value);
-                    r5 = r4;
-                    spec_select1 = 1;
-                    goto after_pairs_insert;
-                }
+        slot_2 = load_address(map + INT_MAP_SHARED) + (index * SLOT_SIZE);
+        if (load8(slot_2 + SLOT_HAS_FIRST) == 1) {
+            if (load64(slot_2 + SLOT_KEY) == key) {
+                value_at = slot_2 + SLOT_VALUE;
+                goto after_OccupiedEntry_insert;
             }
-        } else {
-            r11_2 = load_address(r13.second + 56) + (r10 * 48);
-            if (load8(r11_2) == 1) {
-                if (load64(r11_2 + 8) == key) {
-                    r11_3 = load64(r11_2 + 32);
-                    if (r11_3 == 0) {
-                        r4_2 = value;
-                        r4_3 = key;
-                    } else {
-                        x6 = load_address(r11_2 + 24) + (r11_3 << 4);
-                        r4_4 = load64(x6 - 16);
-                        r4_5 = load64(x6 - 8);
-                        store64(x6 - 16, key);
-                        store64(x6 - 8, value);
-                        if (load8(r11_2) != 1) {
-                            abort();
-                        }
-                        r4_2 = r4_5;
-                        r4_3 = r4_4;
+            rest = load_address(slot_2 + SLOT_REST);
+            rest_len = load64(slot_2 + SLOT_REST_LEN);
+            if (rest_len != 0) {
+                place = 0;
+                for (;;) {
+                    r21 = place << 4;
+                    if (load64((rest + r21) + PAIR_KEY) == key) {
+                        value_at = (rest + r21) + PAIR_VALUE;
+                        goto after_OccupiedEntry_insert;
                     }
-                    r4_6 = load64(r11_2 + 16);
-                    store64(r11_2 + 8, r4_3);
-                    store64(r11_2 + 16, r4_2);
-                    r5 = r4_6;
-                    spec_select1 = 1;
-                    goto after_pairs_insert;
-                }
-                r4_7 = load_address(r11_2 + 24);
-                r6_2 = load64(r11_2 + 32);
-                if (r6_2 != 0) {
-                    r3_0 = 0;
-                    for (;;) {
-                        r45 = r3_0 + 1;
-                        if (load64(r4_7 + (r3_0 << 4)) == key) {
-                            r15 = r6_2 - 1;
-                            store64(r11_2 + 32, r15);
-                            r20 = r15 << 4;
-                            r23 = r4_7 + r20;
-                            r2 = load64(r23 + 8);
-                            if (r45 == r6_2) {
-                                r12_2 = r20;
-                                r10_2 = r4_7;
-                                r9 = r6_2;
-                                r0 = r2;
-                            } else {
-                                x4 = r4_7 + (r45 << 4);
-                                r4_8 = load64(x4 - 8);
-                                store64(x4 - 16, load64(r23));
-                                store64(x4 - 8, r2);
-                                r9_2 = load64(r11_2 + 32);
-                                r12_2 = r9_2 << 4;
-                                r10_2 = load_address(r11_2 + 24);
-                                r9 = r9_2 + 1;
-                                r0 = r4_8;
-                            }
-                            r15_2 = r10_2 + r12_2;
-                            store64(r15_2, key);
-                            store64(r15_2 + 8, value);
-                            store64(r11_2 + 32, r9);
-                            r5 = r0;
-                            spec_select1 = 1;
-                            goto after_pairs_insert;
-                        }
-                        if (r45 == r6_2) {
-                            break;
-                        }
-                        r3_0 = r45;
-                    }
-                }
-            }
-        }
-        memset(r12, 0, 32);
-        r28 = load64(r13.second + 80);
-        if (r28 == UINT64_C(18446744073709551615)) {
-            x16 = UINT64_C(4294967294);
-        } else {
-            r44 = r28 + 1;
-            if (!(((r44 & 4) != 0) & (load64(r13.second + 88) <= r28))) {
-                if (r16) {
-                    r8 = r10 * 24;
-                    if ((load8(load_address(r13.second + 32) + r8) & 1) == 0) {
-                        r11_4 = load_address(r13.second + 8) + ((r10 >> 3) & UINT64_C(2305843009213693944));
-                        store64(r11_4, load64(r11_4) | ((uint64_t)1 << (r10 & 63)));
-                        r9_3 = load_address(r13.second + 32) + r8;
-                        r11_5 = load8(r9_3);
-                        store64(r9_3, 1);
-                        store64(r9_3 + 8, key);
-                        store64(r9_3 + 16, value);
-                        if (r11_5 == 0) {
-                            goto after_IntMap_add_2;
-                        }
-                        abort();
-                    }
-                    r53 = slots_push_second(r13.second, r10, key, value);
-                    r53_2 = r53;
-                } else {
-                    r9_4 = load_address(r13.second + 56) + (r10 * 48);
-                    r11_6 = load_address(r13.second + 8) + ((r10 >> 3) & UINT64_C(2305843009213693944));
-                    r16_2 = load64(r11_6);
-                    r20_2 = (uint64_t)1 << (r10 & 63);
-                    store64(r11_6, r16_2 | r20_2);
-                    if ((r16_2 & r20_2) == 0) {
-                        store64(r9_4, 1);
-                        store64(r9_4 + 8, key);
-                        store64(r9_4 + 16, value);
-                        goto after_IntMap_add_2;
-                    }
-                    r86 = slot_push(r9_4, key, value);
-                    r53_2 = r86;
-                }
-                if (r53_2.first != 0) {
-                    r5 = 0;
-                    spec_select1 = UINT64_C(4294967295);
-                    goto after_pairs_insert;
-                }
-            after_IntMap_add_2:;
-                store64(r13.second + 80, r44);
-                r5 = 0;
-                spec_select1 = 0;
-                goto after_pairs_insert;
-            }
-            intmap_add_growing(r12, r13.second, r44, r10, key, value);
-            if (load8(r12) == 0) {
-                r5 = 0;
-                spec_select1 = 0;
-                goto after_pairs_insert;
-            }
-            x16 = (load8(r12 + 16) == 0) ? UINT64_C(4294967295) : UINT64_C(4294967294);
-        }
-        r5 = 0;
-        spec_select1 = x16;
-    after_pairs_insert:;
-        store64(map, x1);
-        r6 = r5;
-        r19 = spec_select1;
-    }
-    return made_word_word(r6, r19);
-}
-
-// intmap_insert_checked, in crates/intmap_c/src/pairs.rt
-static ALWAYS_INLINE uint32_t do_intmap_insert_checked(char *map, uint64_t key, uint64_t value) {
-    struct byte_address r13;
-    uint32_t r6_0, r4_0;
-    uint64_t x1, r10, r6, r3_0, r36, r28, r44, r8, r16_2, r20;
-    bool r16;
-    char *r11, *r11_2, *r4, *r11_3, *r9, *r9_2, *r11_5;
-    struct byte_word r53, r53_2, r86;
-    uint8_t r11_4;
-    uint64_t r12_room[4];
-    char *r12 = (char *)r12_room;
-    r13 = handle_take_or_make(map);
-    if (r13.first == 0) {
-        r6_0 = 4294967295u;
-    } else {
-        x1 = (uint64_t)(uintptr_t)r13.second;
-        r10 = load64(r13.second) & (key * UINT64_C(11400714819323198549));
-        r16 = r10 < load64(r13.second + 40);
-        if (r16) {
-            r11 = load_address(r13.second + 32) + (r10 * 24);
-            if (load8(r11) == 1) {
-                if (load64(r11 + 8) == key) {
-                    r4_0 = 1;
-                    goto after_pairs_insert_checked;
-                }
-            }
-        } else {
-            r11_2 = load_address(r13.second + 56) + (r10 * 48);
-            if (load8(r11_2) == 1) {
-                if (load64(r11_2 + 8) == key) {
-                    r4_0 = 1;
-                    goto after_pairs_insert_checked;
-                }
-                r4 = load_address(r11_2 + 24);
-                r6 = load64(r11_2 + 32);
-                if (r6 != 0) {
-                    r3_0 = 0;
-                    for (;;) {
-                        if (load64(r4 + (r3_0 << 4)) == key) {
-                            r4_0 = 1;
-                            goto after_pairs_insert_checked;
-                        }
-                        r36 = r3_0 + 1;
-                        if (r36 == r6) {
-                            break;
-                        }
-                        r3_0 = r36;
-                    }
-                }
-            }
-        }
-        memset(r12, 0, 32);
-        r28 = load64(r13.second + 80);
-        if (r28 == UINT64_C(18446744073709551615)) {
-            r4_0 = 4294967294u;
-        } else {
-            r44 = r28 + 1;
-            if (!(((r44 & 4) != 0) & (load64(r13.second + 88) <= r28))) {
-                if (r16) {
-                    r8 = r10 * 24;
-                    if ((load8(load_address(r13.second + 32) + r8) & 1) == 0) {
-                        r11_3 = load_address(r13.second + 8) + ((r10 >> 3) & UINT64_C(2305843009213693944));
-                        store64(r11_3, load64(r11_3) | ((uint64_t)1 << (r10 & 63)));
-                        r9 = load_address(r13.second + 32) + r8;
-                        r11_4 = load8(r9);
-                        store64(r9, 1);
-                        store64(r9 + 8, key);
-                        store64(r9 + 16, value);
-                        if (r11_4 == 0) {
-                            goto after_IntMap_add;
-                        }
-                        abort();
-                    }
-                    r53 = slots_push_second(r13.second, r10, key, value);
-                    r53_2 = r53;
-                } else {
-                    r9_2 = load_address(r13.second + 56) + (r10 * 48);
-                    r11_5 = load_address(r13.second + 8) + ((r10 >> 3) & UINT64_C(2305843009213693944));
-                    r16_2 = load64(r11_5);
-                    r20 = (uint64_t)1 << (r10 & 63);
-                    store64(r11_5, r16_2 | r20);
-                    if ((r16_2 & r20) == 0) {
-                        store64(r9_2, 1);
-                        store64(r9_2 + 8, key);
-                        store64(r9_2 + 16, value);
-                        goto after_IntMap_add;
-                    }
-                    r86 = slot_push(r9_2, key, value);
-                    r53_2 = r86;
-                }
-                if (r53_2.first != 0) {
-                    goto x11;
-                }
-            after_IntMap_add:;
-                store64(r13.second + 80, r44);
-                r4_0 = 0;
-                goto after_pairs_insert_checked;
-            }
-            intmap_add_growing(r12, r13.second, r44, r10, key, value);
-            if (load8(r12) == 0) {
-                r4_0 = 0;
-                goto after_pairs_insert_checked;
-            }
-            if (load8(r12 + 16) != 0) {
-                r4_0 = 4294967294u;
-                goto after_pairs_insert_checked;
-            }
-        x11:;
-            r4_0 = 4294967295u;
-        }
-    after_pairs_insert_checked:;
-        store64(map, x1);
-        r6_0 = r4_0;
-    }
-    return r6_0;
-}
-
-// intmap_reserve, in crates/intmap_c/src/figures.rt
-static ALWAYS_INLINE uint32_t do_intmap_reserve(char *map, uint64_t additional) {
-    struct byte_address r13;
-    uint32_t r6_0, r4_0;
-    uint64_t x1, r18, r40, r2_0, r13_2, r13_3, a0_a1;
-    uint8_t r18_2;
-    u128 r17;
-    r13 = handle_take_or_make(map);
-    if (r13.first == 0) {
-        r6_0 = (additional > UINT64_C(9223372036854775808)) ? 4294967294u : 4294967295u;
-    } else {
-        x1 = (uint64_t)(uintptr_t)r13.second;
-        r18 = load64(r13.second + 80);
-        if ((r18 > UINT64_C(9223372036854775808)) ? true : ((UINT64_C(9223372036854775808) - r18) < additional)) {
-            r4_0 = 4294967294u;
-        } else {
-            r40 = r18 + additional;
-            if (r40 < 2) {
-                r2_0 = 1;
-            } else {
-                r13_2 = high_zeros(r40 - 1);
-                r2_0 = (uint64_t)1 << ((uint64_t)64 - r13_2);
-            }
-            r13_3 = load64(r13.second + 64) + load64(r13.second + 40);
-            a0_a1 = greater(r13_3, r2_0);
-            if (r13_3 < r2_0) {
-                r18_2 = slots_grow(r13.second, a0_a1, false);
-                if ((r18_2 & 1) != 0) {
-                    r4_0 = 4294967295u;
-                    goto after_figures_reserve;
-                }
-            }
-            r17 = u128_less_one(u128_mul(u128_add(u128_of(load64(r13.second + 96)), u128_of(1u)), u128_of(a0_a1)));
-            store64(r13.second + 88, u128_above(r17, u128_two(UINT64_C(999), UINT64_C(18446744073709551615))) ? UINT64_C(18446744073709551615) : u128_low(u128_div(r17, u128_of(1000u))));
-            r4_0 = 0;
-        }
-    after_figures_reserve:;
-        store64(map, x1);
-        r6_0 = r4_0;
-    }
-    return r6_0;
-}
-
-// intmap_set_load_factor, in crates/intmap_c/src/figures.rt
-static ALWAYS_INLINE uint32_t do_intmap_set_load_factor(char *map, uint64_t thousandths) {
-    struct byte_address r13;
-    uint32_t r6_0, r4_0;
-    uint64_t x1, r13_2, r3_09, r31;
-    u128 r10, r13_3, r187, r15, r18, r17;
-    uint8_t r18_2;
-    r13 = handle_take_or_make(map);
-    if (r13.first == 0) {
-        r6_0 = 4294967295u;
-    } else {
-        x1 = (uint64_t)(uintptr_t)r13.second;
-        r13_2 = load64(r13.second + 64) + load64(r13.second + 40);
-        r10 = u128_mul(u128_of(load64(r13.second + 80)), u128_of(1000u));
-        r13_3 = u128_add(u128_of(thousandths), u128_of(1u));
-        r187 = u128_mul(r13_3, u128_of(r13_2));
-        if (u128_above(r187, r10)) {
-            r15 = r187;
-        } else {
-            r3_09 = r13_2;
-            for (;;) {
-                if (r3_09 == UINT64_C(9223372036854775808)) {
-                    r4_0 = 4294967294u;
-                    goto after_figures_set_load_factor;
-                }
-                r31 = r3_09 << 1;
-                r18 = u128_mul(r13_3, u128_of(r31));
-                if (u128_above(r18, r10)) {
-                    if (r31 == r13_2) {
-                        r15 = r187;
+                    next_place = place + 1;
+                    if (next_place == rest_len) {
                         break;
                     }
-                    r18_2 = slots_grow(r13.second, r31, false);
-                    if ((r18_2 & 1) != 0) {
-                        r4_0 = 4294967295u;
-                        goto after_figures_set_load_factor;
-                    }
-                    r15 = r18;
-                    break;
+                    place = next_place;
                 }
-                r3_09 = r31;
             }
         }
-        store64(r13.second + 96, thousandths);
-        r17 = u128_less_one(r15);
-        store64(r13.second + 88, u128_above(r17, u128_two(UINT64_C(999), UINT64_C(18446744073709551615))) ? UINT64_C(18446744073709551615) : u128_low(u128_div(r17, u128_of(1000u))));
-        r4_0 = 0;
-    after_figures_set_load_factor:;
-        store64(map, x1);
-        r6_0 = r4_0;
     }
-    return r6_0;
+    memset(r12, 0, 32);
+    len = load64(map + INT_MAP_LEN);
+    if (len == UINT64_C(18446744073709551615)) {
+        x15 = UINT64_C(4294967294);
+    } else {
+        r44 = len + 1;
+        if (!(((r44 & 4) != 0) & (load64(map + INT_MAP_THRESHOLD) <= len))) {
+            if (r16) {
+                r8 = index * LONE_SIZE;
+                if ((load8((load_address(map + INT_MAP_LONE) + r8) + LONE_HAS_PAIR) & 1) == 0) {
+                    r11 = load_address(map + INT_MAP_WORDS) + ((index >> 3) & UINT64_C(2305843009213693944));
+                    store64(r11, load64(r11) | ((uint64_t)1 << (index & 63)));
+                    slot_3 = load_address(map + INT_MAP_LONE) + r8;
+                    has_pair = load8(slot_3 + LONE_HAS_PAIR);
+                    store64(slot_3 + LONE_HAS_PAIR, 1);
+                    store64(slot_3 + LONE_KEY, key);
+                    store64(slot_3 + LONE_VALUE, more);
+                    if (has_pair == 0) {
+                        goto after_IntMap_add_2;
+                    }
+                    abort();
+                }
+                r53 = slots_push_second(map, index, key, more);
+                r53_2 = r53;
+            } else {
+                slot_4 = load_address(map + INT_MAP_SHARED) + (index * SLOT_SIZE);
+                r11_2 = load_address(map + INT_MAP_WORDS) + ((index >> 3) & UINT64_C(2305843009213693944));
+                bits = load64(r11_2);
+                r20 = (uint64_t)1 << (index & 63);
+                store64(r11_2, bits | r20);
+                if ((bits & r20) == 0) {
+                    store64(slot_4 + SLOT_HAS_FIRST, 1);
+                    store64(slot_4 + SLOT_KEY, key);
+                    store64(slot_4 + SLOT_VALUE, more);
+                    goto after_IntMap_add_2;
+                }
+                r86 = slot_push(slot_4, key, more);
+                r53_2 = r86;
+            }
+            if (r53_2.first != 0) {
+                r40 = UINT64_C(4294967295);
+                value_2 = 0;
+                goto after_pairs_add_or_insert;
+            }
+        after_IntMap_add_2:;
+            store64(map + INT_MAP_LEN, r44);
+            r40 = 0;
+            value_2 = 0;
+            goto after_pairs_add_or_insert;
+        }
+        intmap_add_growing(r12, map, r44, index, key, more);
+        if (load8(r12) == 0) {
+            r40 = 0;
+            value_2 = 0;
+            goto after_pairs_add_or_insert;
+        }
+        x15 = ((load64(r12 + 16) & 255) == 0) ? UINT64_C(4294967295) : UINT64_C(4294967294);
+    }
+    r40 = x15;
+    value_2 = 0;
+    goto after_pairs_add_or_insert;
+after_OccupiedEntry_insert:;
+    value_3 = load64(value_at);
+    store64(value_at, value_3 + more);
+    r40 = 1;
+    value_2 = value_3;
+after_pairs_add_or_insert:;
+    store64(handle, map_address_2);
+    value = value_2;
+    r19 = r40;
+after_pairs_intmap_add_or_insert:;
+    return made_word_word(value, r19);
+}
+
+// Inserts the pair of the key and the value at the end of its slot, and returns the value before.
+// intmap_insert, in crates/intmap_c/src/pairs.rt
+static ALWAYS_INLINE struct word_word do_intmap_insert(char *handle, uint64_t key, uint64_t value) {
+    uint64_t map_address, value_2, r19, map_address_2, index, value_3, value_4, spec_select1, rest_len, value_5,
+        key_2, key_3, value_6, value_7, rest_len_2, place, next_place, place_2, r20, value_8, r12_2, r9, value_9,
+        value_10, rest_len_3, len, x18, r44, r8, bits, r20_2;
+    struct byte_address r15;
+    char *map, *slot, *slot_2, *pair, *rest, *pair_2, *rest_2, *pair_3, *pair_4, *r11, *slot_3, *slot_4, *r11_2;
+    bool r16;
+    struct byte_word r53, r53_2, r86;
+    uint8_t has_pair;
+    uint64_t r12_room[4];
+    char *r12 = (char *)r12_room;
+    map_address = load64(handle);
+    store64(handle, 0);
+    if (map_address == 0) {
+        r15 = handle_make_first();
+        if (r15.first == 0) {
+            value_2 = 0;
+            r19 = UINT64_C(4294967295);
+            goto after_pairs_intmap_insert;
+        }
+        map = r15.second;
+    } else {
+        map = (char *)(uintptr_t)map_address;
+    }
+    map_address_2 = (uint64_t)(uintptr_t)map;
+    index = load64(map + INT_MAP_MASK) & (key * MULTIPLIER);
+    r16 = index < load64(map + INT_MAP_LONE_LEN);
+    if (r16) {
+        slot = load_address(map + INT_MAP_LONE) + (index * LONE_SIZE);
+        if (load8(slot + LONE_HAS_PAIR) == 1) {
+            if (load64(slot + LONE_KEY) == key) {
+                value_3 = load64(slot + LONE_VALUE);
+                store64(slot + LONE_VALUE, value);
+                value_4 = value_3;
+                spec_select1 = 1;
+                goto after_pairs_insert;
+            }
+        }
+    } else {
+        slot_2 = load_address(map + INT_MAP_SHARED) + (index * SLOT_SIZE);
+        if (load8(slot_2 + SLOT_HAS_FIRST) == 1) {
+            if (load64(slot_2 + SLOT_KEY) == key) {
+                rest_len = load64(slot_2 + SLOT_REST_LEN);
+                if (rest_len == 0) {
+                    value_5 = value;
+                    key_2 = key;
+                } else {
+                    pair = load_address(slot_2 + SLOT_REST) + (rest_len << 4);
+                    key_3 = load64(pair - 16);
+                    value_6 = load64(pair - 8);
+                    store64(pair - 16, key);
+                    store64(pair - 8, value);
+                    if (load8(slot_2 + SLOT_HAS_FIRST) != 1) {
+                        abort();
+                    }
+                    value_5 = value_6;
+                    key_2 = key_3;
+                }
+                value_7 = load64(slot_2 + SLOT_VALUE);
+                store64(slot_2 + SLOT_KEY, key_2);
+                store64(slot_2 + SLOT_VALUE, value_5);
+                value_4 = value_7;
+                spec_select1 = 1;
+                goto after_pairs_insert;
+            }
+            rest = load_address(slot_2 + SLOT_REST);
+            rest_len_2 = load64(slot_2 + SLOT_REST_LEN);
+            if (rest_len_2 != 0) {
+                place = 0;
+                for (;;) {
+                    next_place = place + 1;
+                    if (load64((rest + (place << 4)) + PAIR_KEY) == key) {
+                        place_2 = rest_len_2 - 1;
+                        store64(slot_2 + SLOT_REST_LEN, place_2);
+                        r20 = place_2 << 4;
+                        pair_2 = rest + r20;
+                        value_8 = load64(pair_2 + PAIR_VALUE);
+                        if (next_place == rest_len_2) {
+                            r12_2 = r20;
+                            rest_2 = rest;
+                            r9 = rest_len_2;
+                            value_9 = value_8;
+                        } else {
+                            pair_3 = rest + (next_place << 4);
+                            value_10 = load64(pair_3 - 8);
+                            store64(pair_3 - 16, load64(pair_2 + PAIR_KEY));
+                            store64(pair_3 - 8, value_8);
+                            rest_len_3 = load64(slot_2 + SLOT_REST_LEN);
+                            r12_2 = rest_len_3 << 4;
+                            rest_2 = load_address(slot_2 + SLOT_REST);
+                            r9 = rest_len_3 + 1;
+                            value_9 = value_10;
+                        }
+                        pair_4 = rest_2 + r12_2;
+                        store64(pair_4 + PAIR_KEY, key);
+                        store64(pair_4 + PAIR_VALUE, value);
+                        store64(slot_2 + SLOT_REST_LEN, r9);
+                        value_4 = value_9;
+                        spec_select1 = 1;
+                        goto after_pairs_insert;
+                    }
+                    if (next_place == rest_len_2) {
+                        break;
+                    }
+                    place = next_place;
+                }
+            }
+        }
+    }
+    memset(r12, 0, 32);
+    len = load64(map + INT_MAP_LEN);
+    if (len == UINT64_C(18446744073709551615)) {
+        x18 = UINT64_C(4294967294);
+    } else {
+        r44 = len + 1;
+        if (!(((r44 & 4) != 0) & (load64(map + INT_MAP_THRESHOLD) <= len))) {
+            if (r16) {
+                r8 = index * LONE_SIZE;
+                if ((load8((load_address(map + INT_MAP_LONE) + r8) + LONE_HAS_PAIR) & 1) == 0) {
+                    r11 = load_address(map + INT_MAP_WORDS) + ((index >> 3) & UINT64_C(2305843009213693944));
+                    store64(r11, load64(r11) | ((uint64_t)1 << (index & 63)));
+                    slot_3 = load_address(map + INT_MAP_LONE) + r8;
+                    has_pair = load8(slot_3 + LONE_HAS_PAIR);
+                    store64(slot_3 + LONE_HAS_PAIR, 1);
+                    store64(slot_3 + LONE_KEY, key);
+                    store64(slot_3 + LONE_VALUE, value);
+                    if (has_pair == 0) {
+                        goto after_IntMap_add_2;
+                    }
+                    abort();
+                }
+                r53 = slots_push_second(map, index, key, value);
+                r53_2 = r53;
+            } else {
+                slot_4 = load_address(map + INT_MAP_SHARED) + (index * SLOT_SIZE);
+                r11_2 = load_address(map + INT_MAP_WORDS) + ((index >> 3) & UINT64_C(2305843009213693944));
+                bits = load64(r11_2);
+                r20_2 = (uint64_t)1 << (index & 63);
+                store64(r11_2, bits | r20_2);
+                if ((bits & r20_2) == 0) {
+                    store64(slot_4 + SLOT_HAS_FIRST, 1);
+                    store64(slot_4 + SLOT_KEY, key);
+                    store64(slot_4 + SLOT_VALUE, value);
+                    goto after_IntMap_add_2;
+                }
+                r86 = slot_push(slot_4, key, value);
+                r53_2 = r86;
+            }
+            if (r53_2.first != 0) {
+                value_4 = 0;
+                spec_select1 = UINT64_C(4294967295);
+                goto after_pairs_insert;
+            }
+        after_IntMap_add_2:;
+            store64(map + INT_MAP_LEN, r44);
+            value_4 = 0;
+            spec_select1 = 0;
+            goto after_pairs_insert;
+        }
+        intmap_add_growing(r12, map, r44, index, key, value);
+        if (load8(r12) == 0) {
+            value_4 = 0;
+            spec_select1 = 0;
+            goto after_pairs_insert;
+        }
+        x18 = (load8(r12 + 16) == 0) ? UINT64_C(4294967295) : UINT64_C(4294967294);
+    }
+    value_4 = 0;
+    spec_select1 = x18;
+after_pairs_insert:;
+    store64(handle, map_address_2);
+    value_2 = value_4;
+    r19 = spec_select1;
+after_pairs_intmap_insert:;
+    return made_word_word(value_2, r19);
+}
+
+// Inserts the pair if the key is absent, and returns whether it was present.
+// intmap_insert_checked, in crates/intmap_c/src/pairs.rt
+static ALWAYS_INLINE uint32_t do_intmap_insert_checked(char *handle, uint64_t key, uint64_t value) {
+    uint64_t map_address, map_address_2, index, rest_len, place, next_place, len, r44, r8, bits, r20;
+    struct byte_address r15;
+    char *map, *slot, *slot_2, *rest, *r11, *slot_3, *slot_4, *r11_2;
+    bool r16;
+    uint32_t r4_0;
+    struct byte_word r53, r53_2, r86;
+    uint8_t has_pair;
+    uint64_t r12_room[4];
+    char *r12 = (char *)r12_room;
+    map_address = load64(handle);
+    store64(handle, 0);
+    if (map_address == 0) {
+        r15 = handle_make_first();
+        if (r15.first == 0) {
+            return 4294967295u;
+        }
+        map = r15.second;
+    } else {
+        map = (char *)(uintptr_t)map_address;
+    }
+    map_address_2 = (uint64_t)(uintptr_t)map;
+    index = load64(map + INT_MAP_MASK) & (key * MULTIPLIER);
+    r16 = index < load64(map + INT_MAP_LONE_LEN);
+    if (r16) {
+        slot = load_address(map + INT_MAP_LONE) + (index * LONE_SIZE);
+        if (load8(slot + LONE_HAS_PAIR) == 1) {
+            if (load64(slot + LONE_KEY) == key) {
+                r4_0 = 1;
+                goto after_pairs_insert_checked;
+            }
+        }
+    } else {
+        slot_2 = load_address(map + INT_MAP_SHARED) + (index * SLOT_SIZE);
+        if (load8(slot_2 + SLOT_HAS_FIRST) == 1) {
+            if (load64(slot_2 + SLOT_KEY) == key) {
+                r4_0 = 1;
+                goto after_pairs_insert_checked;
+            }
+            rest = load_address(slot_2 + SLOT_REST);
+            rest_len = load64(slot_2 + SLOT_REST_LEN);
+            if (rest_len != 0) {
+                place = 0;
+                for (;;) {
+                    if (load64((rest + (place << 4)) + PAIR_KEY) == key) {
+                        r4_0 = 1;
+                        goto after_pairs_insert_checked;
+                    }
+                    next_place = place + 1;
+                    if (next_place == rest_len) {
+                        break;
+                    }
+                    place = next_place;
+                }
+            }
+        }
+    }
+    memset(r12, 0, 32);
+    len = load64(map + INT_MAP_LEN);
+    if (len == UINT64_C(18446744073709551615)) {
+        r4_0 = 4294967294u;
+    } else {
+        r44 = len + 1;
+        if (!(((r44 & 4) != 0) & (load64(map + INT_MAP_THRESHOLD) <= len))) {
+            if (r16) {
+                r8 = index * LONE_SIZE;
+                if ((load8((load_address(map + INT_MAP_LONE) + r8) + LONE_HAS_PAIR) & 1) == 0) {
+                    r11 = load_address(map + INT_MAP_WORDS) + ((index >> 3) & UINT64_C(2305843009213693944));
+                    store64(r11, load64(r11) | ((uint64_t)1 << (index & 63)));
+                    slot_3 = load_address(map + INT_MAP_LONE) + r8;
+                    has_pair = load8(slot_3 + LONE_HAS_PAIR);
+                    store64(slot_3 + LONE_HAS_PAIR, 1);
+                    store64(slot_3 + LONE_KEY, key);
+                    store64(slot_3 + LONE_VALUE, value);
+                    if (has_pair == 0) {
+                        goto after_IntMap_add;
+                    }
+                    abort();
+                }
+                r53 = slots_push_second(map, index, key, value);
+                r53_2 = r53;
+            } else {
+                slot_4 = load_address(map + INT_MAP_SHARED) + (index * SLOT_SIZE);
+                r11_2 = load_address(map + INT_MAP_WORDS) + ((index >> 3) & UINT64_C(2305843009213693944));
+                bits = load64(r11_2);
+                r20 = (uint64_t)1 << (index & 63);
+                store64(r11_2, bits | r20);
+                if ((bits & r20) == 0) {
+                    store64(slot_4 + SLOT_HAS_FIRST, 1);
+                    store64(slot_4 + SLOT_KEY, key);
+                    store64(slot_4 + SLOT_VALUE, value);
+                    goto after_IntMap_add;
+                }
+                r86 = slot_push(slot_4, key, value);
+                r53_2 = r86;
+            }
+            if (r53_2.first != 0) {
+                goto x13;
+            }
+        after_IntMap_add:;
+            store64(map + INT_MAP_LEN, r44);
+            r4_0 = 0;
+            goto after_pairs_insert_checked;
+        }
+        intmap_add_growing(r12, map, r44, index, key, value);
+        if (load8(r12) == 0) {
+            r4_0 = 0;
+            goto after_pairs_insert_checked;
+        }
+        if (load8(r12 + 16) != 0) {
+            r4_0 = 4294967294u;
+            goto after_pairs_insert_checked;
+        }
+    x13:;
+        r4_0 = 4294967295u;
+    }
+after_pairs_insert_checked:;
+    store64(handle, map_address_2);
+    return r4_0;
+}
+
+// Makes the number of slots at least the least power of two that is no less than the number of pairs plus
+// `additional`.
+// intmap_reserve, in crates/intmap_c/src/figures.rt
+static ALWAYS_INLINE uint32_t do_intmap_reserve(char *handle, uint64_t additional) {
+    uint64_t map_address, map_address_2, len, r40, r2_0, r13, r13_2, a0_a1;
+    struct byte_address r15;
+    char *map;
+    uint32_t r4_0;
+    uint8_t r18;
+    u128 r17;
+    map_address = load64(handle);
+    store64(handle, 0);
+    if (map_address == 0) {
+        r15 = handle_make_first();
+        if (r15.first == 0) {
+            return (additional > UINT64_C(9223372036854775808)) ? 4294967294u : 4294967295u;
+        }
+        map = r15.second;
+    } else {
+        map = (char *)(uintptr_t)map_address;
+    }
+    map_address_2 = (uint64_t)(uintptr_t)map;
+    len = load64(map + INT_MAP_LEN);
+    if ((len > UINT64_C(9223372036854775808)) ? true : ((UINT64_C(9223372036854775808) - len) < additional)) {
+        r4_0 = 4294967294u;
+    } else {
+        r40 = len + additional;
+        if (r40 < 2) {
+            r2_0 = 1;
+        } else {
+            r13 = high_zeros(r40 - 1);
+            r2_0 = (uint64_t)1 << ((uint64_t)64 - r13);
+        }
+        r13_2 = load64(map + INT_MAP_SHARED_LEN) + load64(map + INT_MAP_LONE_LEN);
+        a0_a1 = greater(r13_2, r2_0);
+        if (r13_2 < r2_0) {
+            r18 = slots_grow(map, a0_a1, false);
+            if ((r18 & 1) != 0) {
+                r4_0 = 4294967295u;
+                goto after_figures_reserve;
+            }
+        }
+        r17 = u128_less_one(u128_mul(u128_add(u128_of(load64(map + INT_MAP_FACTOR)), u128_of(1u)), u128_of(a0_a1)));
+        store64(map + INT_MAP_THRESHOLD, u128_above(r17, u128_two(UINT64_C(999), UINT64_C(18446744073709551615))) ? UINT64_C(18446744073709551615) : u128_low(u128_div(r17, u128_of(1000u))));
+        r4_0 = 0;
+    }
+after_figures_reserve:;
+    store64(handle, map_address_2);
+    return r4_0;
+}
+
+// Sets the load factor in thousandths, and makes the number of slots the least doubling that meets it.
+// intmap_set_load_factor, in crates/intmap_c/src/figures.rt
+static ALWAYS_INLINE uint32_t do_intmap_set_load_factor(char *handle, uint64_t thousandths) {
+    uint64_t map_address, map_address_2, r13, r3_09, r31;
+    struct byte_address r15;
+    char *map;
+    u128 r10, r13_2, r187, r15_2, r18, r17;
+    uint32_t r4_0;
+    uint8_t r18_2;
+    map_address = load64(handle);
+    store64(handle, 0);
+    if (map_address == 0) {
+        r15 = handle_make_first();
+        if (r15.first == 0) {
+            return 4294967295u;
+        }
+        map = r15.second;
+    } else {
+        map = (char *)(uintptr_t)map_address;
+    }
+    map_address_2 = (uint64_t)(uintptr_t)map;
+    r13 = load64(map + INT_MAP_SHARED_LEN) + load64(map + INT_MAP_LONE_LEN);
+    r10 = u128_mul(u128_of(load64(map + INT_MAP_LEN)), u128_of(1000u));
+    r13_2 = u128_add(u128_of(thousandths), u128_of(1u));
+    r187 = u128_mul(r13_2, u128_of(r13));
+    if (u128_above(r187, r10)) {
+        r15_2 = r187;
+    } else {
+        r3_09 = r13;
+        for (;;) {
+            if (r3_09 == UINT64_C(9223372036854775808)) {
+                r4_0 = 4294967294u;
+                goto after_figures_set_load_factor;
+            }
+            r31 = r3_09 << 1;
+            r18 = u128_mul(r13_2, u128_of(r31));
+            if (u128_above(r18, r10)) {
+                if (r31 == r13) {
+                    r15_2 = r187;
+                    break;
+                }
+                r18_2 = slots_grow(map, r31, false);
+                if ((r18_2 & 1) != 0) {
+                    r4_0 = 4294967295u;
+                    goto after_figures_set_load_factor;
+                }
+                r15_2 = r18;
+                break;
+            }
+            r3_09 = r31;
+        }
+    }
+    store64(map + INT_MAP_FACTOR, thousandths);
+    r17 = u128_less_one(r15_2);
+    store64(map + INT_MAP_THRESHOLD, u128_above(r17, u128_two(UINT64_C(999), UINT64_C(18446744073709551615))) ? UINT64_C(18446744073709551615) : u128_low(u128_div(r17, u128_of(1000u))));
+    r4_0 = 0;
+after_figures_set_load_factor:;
+    store64(handle, map_address_2);
+    return r4_0;
 }
 
 // The calls of intmap.h, by value and by address as this compiler passes them.

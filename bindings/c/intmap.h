@@ -30,20 +30,22 @@
 // - malloc, realloc and free belong to one allocator, make no call on a map, and align blocks like
 //   the C library.
 // - The two words of intmap_clone differ. intmap_copy_pairs has an array for all `room` pairs.
-// - An address from intmap_at isn't used after the next call with the map, whatever that call does.
+// - An address from intmap_at or intmap_at_or_insert isn't used after the next call with the map,
+//   whatever that call does.
 // - There is some stack: a call takes less than 1 KB, besides malloc's; less than 5 KB if the
 //   compiler doesn't optimise.
 //
 // THREADS. Any number of threads may make calls with `const intmap *` at once, as long as no other
 // call has the map. A call with `intmap *` has it alone: the calls before it have ended, and the
-// next ones come after it, for example by a lock or a join. intmap_at counts as such a call until
-// the last use of its address. A map may be used in one thread and then in another. Different maps
+// next ones come after it, for example by a lock or a join. A call that gives an address lasts until
+// the last use of that address. A map may be used in one thread and then in another. Different maps
 // are independent.
 //
 // WHEN A CALL FAILS. Its status is negative, and the map is as it was. But it may keep memory that
 // it was granted before the refusal, of which a second try makes use.
 //
-// - INTMAP_NO_MEMORY: malloc or realloc returned NULL.
+// - INTMAP_NO_MEMORY: malloc or realloc returned NULL, or a block would need 2^63 bytes or more, which
+//   is not requested.
 // - INTMAP_TOO_LARGE: the map would have more than 2^63 slots or 2^64 - 1 pairs.
 //
 // THE FIRST CALL. INTMAP_INIT is a map of 4 slots without pairs, with a load factor of 909
@@ -72,8 +74,8 @@
 // Slots that an insertion has added take 24 while no two keys share one, so ids that count up take
 // 27 to 54 a pair. A clone has as many slots. intmap_with_capacity writes each slot, which takes
 // time in their number. So on Linux, where malloc may not fail, too large a number may end the
-// process. Only intmap_free gives memory back, and a call that replaces a map, adds slots or
-// enlarges them.
+// process. Memory is given back by intmap_free, by intmap_shrink_to_fit, and by a call that replaces a
+// map, adds slots or enlarges them.
 //
 // DEBUGGING. With intmap_debug.c in place of intmap.c, some calls that break the rules end the
 // program, by a line on standard error and abort():
@@ -113,8 +115,10 @@ extern "C" {
 
 #if defined(__GNUC__) || defined(__clang__)
 #define INTMAP_NONNULL __attribute__((nonnull))
+#define INTMAP_NONNULL_TWO __attribute__((nonnull(1, 2)))
 #else
 #define INTMAP_NONNULL
+#define INTMAP_NONNULL_TWO
 #endif
 
 // A compiler warns of a status that isn't read, if the call may fail for want of memory, or writes
@@ -310,6 +314,28 @@ INTMAP_NONNULL static inline uint64_t *intmap_at(intmap *map, uint64_t key) INTM
     intmap_place(map, key, &at);
     return at;
 }
+
+// Writes the address of the value of the key to `at`, and inserts the key with `value` first if it is
+// absent. It returns INTMAP_PRESENT or INTMAP_ABSENT, as the key was before. For an absent key it
+// fails like intmap_insert, and writes NULL. A present key takes one lookup, and an absent one three.
+// This keeps the greatest number for each key:
+//
+//     uint64_t *most;
+//     if (!intmap_failed(intmap_at_or_insert(&map, 21, number, &most)) && *most < number) {
+//         *most = number;
+//     }
+INTMAP_NONNULL INTMAP_MUST_USE static inline intmap_status intmap_at_or_insert(
+    intmap *map, uint64_t key, uint64_t value, uint64_t **at) INTMAP_CALL {
+    *at = intmap_at(map, key);
+    if (*at != NULL) {
+        return INTMAP_PRESENT;
+    }
+    intmap_status status = intmap_insert_checked(map, key, value);
+    if (!intmap_failed(status)) {
+        *at = intmap_at(map, key);
+    }
+    return status;
+}
 #endif
 
 // Removes the pair of the key. It returns INTMAP_PRESENT with its value, and the last pair of the
@@ -411,21 +437,54 @@ INTMAP_NONNULL static inline size_t intmap_copy_pairs(const intmap *map, intmap_
 // INTMAP_ABSENT if none is left, and leaves the cursor. Otherwise the cursor is where the pair was:
 // the pairs before it stay, and those behind it come next, in the same order. The number of slots
 // stays. It requests no memory, and takes time in the pairs that follow in the slot, and in what
-// intmap_step would pass.
-//
-// To remove some pairs of a walk, look with a second cursor. Here `seen` is the pair that is cut:
-//
-//     intmap_cursor at = intmap_start(), next = at;
-//     intmap_found_pair seen;
-//     while ((seen = intmap_step(&map, &next)).status == INTMAP_PRESENT) {
-//         if (stays(seen.pair)) {
-//             at = next;
-//         } else {
-//             intmap_cut(&map, &at);
-//             next = at;
-//         }
-//     }
+// intmap_step would pass. intmap_retain removes some pairs of a walk.
 INTMAP_NONNULL intmap_found_pair intmap_cut(intmap *map, intmap_cursor *at) INTMAP_CALL;
+
+// Asks `keep` of each pair, in the order of the walk, and removes the pair if the answer is false. It
+// returns how many it removed. The other pairs stay in the same order, and the number of slots stays.
+// `keep` is handed `argument`, which may be null, and makes no call that changes the map.
+// intmap_retain requests no memory.
+INTMAP_NONNULL_TWO static inline size_t intmap_retain(intmap *map,
+                                                      bool (*keep)(intmap_pair pair, void *argument),
+                                                      void *argument) INTMAP_CALL {
+    intmap_cursor at = intmap_start(), next = at;
+    intmap_found_pair seen;
+    size_t removed = 0;
+    while ((seen = intmap_step(map, &next)).status == INTMAP_PRESENT) {
+        if (keep(seen.pair, argument)) {
+            at = next;
+        } else {
+            intmap_cut(map, &at);
+            next = at;
+            removed++;
+        }
+    }
+    return removed;
+}
+
+// Gives memory back. It makes another map, of 4 slots with the same load factor, inserts the pairs in
+// the order of the walk, and frees the old map. So the pairs may be in another order then. It returns
+// INTMAP_OK; or INTMAP_NO_MEMORY, which leaves the map. If the map has no memory, it does nothing.
+INTMAP_NONNULL INTMAP_MUST_USE static inline intmap_status intmap_shrink_to_fit(intmap *map)
+    INTMAP_CALL {
+    intmap made = INTMAP_INIT;
+    intmap_cursor at = intmap_start();
+    intmap_found_pair next;
+    if (map->at == NULL) {
+        return INTMAP_OK;
+    }
+    intmap_status status = intmap_set_load_factor(&made, intmap_load_factor(map));
+    while (!intmap_failed(status) && (next = intmap_step(map, &at)).status == INTMAP_PRESENT) {
+        status = intmap_insert_checked(&made, next.pair.key, next.pair.value);
+    }
+    if (intmap_failed(status)) {
+        intmap_free(&made);
+        return status;
+    }
+    intmap_free(map);
+    *map = made;
+    return INTMAP_OK;
+}
 
 // Returns whether the same keys have the same values in both maps, whatever their order, slots and
 // load factors. It takes a lookup for each pair, and time in a 64th of the slots.

@@ -306,7 +306,26 @@ static bool fails(intmap_status status, side *changed) {
     return was_refused();
 }
 
-enum { INSERT, INSERT_CHECKED, ADD_OR_INSERT, INSERTIONS };
+enum { INSERT, INSERT_CHECKED, ADD_OR_INSERT, AT_OR_INSERT, INSERTIONS };
+
+// Writes a present key's value in its place.
+static intmap_found_value at_or_insert(uint64_t key, uint64_t value) {
+#ifdef INTMAP_HAS_AT
+    uint64_t *at = &value;
+    intmap_found_value answer = {0, intmap_at_or_insert(&it->map, key, value, &at)};
+    if (EXPECT((at == NULL) == intmap_failed(answer.status)) && at != NULL) {
+        EXPECT(answer.status == INTMAP_PRESENT || *at == value);
+        answer.value = answer.status == INTMAP_PRESENT ? *at : 0;
+        *at = value;
+    }
+    return answer;
+#else
+    intmap_found_value old = intmap_replace(&it->map, key, value);
+    return old.status == INTMAP_PRESENT
+               ? old
+               : (intmap_found_value){0, intmap_insert_checked(&it->map, key, value)};
+#endif
+}
 
 static intmap_found_value insertion(unsigned kind, uint64_t key, uint64_t value) {
     if (kind == INSERT) {
@@ -314,6 +333,9 @@ static intmap_found_value insertion(unsigned kind, uint64_t key, uint64_t value)
     }
     if (kind == ADD_OR_INSERT) {
         return intmap_add_or_insert(&it->map, key, value);
+    }
+    if (kind == AT_OR_INSERT) {
+        return at_or_insert(key, value);
     }
     return (intmap_found_value){0, intmap_insert_checked(&it->map, key, value)};
 }
@@ -327,6 +349,8 @@ static void insert_present(unsigned kind, size_t place, uint64_t value) {
         put_last_in_slot(&it->plain, again);
     } else if (kind == ADD_OR_INSERT) {
         pair->value += value;
+    } else if (kind == AT_OR_INSERT) {
+        pair->value = value;
     }
 }
 
@@ -465,28 +489,47 @@ static void call_cut(size_t passed, size_t count) {
     EXPECT(!requested());
 }
 
-// Keeps the pairs whose values have no bit of the mask.
-static void call_retain(uint64_t mask) {
-    intmap_cursor at = intmap_start(), next = at;
-    model *plain = &it->plain;
-    size_t passed = 0;
-    while (passed < plain->len) {
-        intmap_found_pair seen = intmap_step(&it->map, &next);
-        intmap_pair wanted = plain->pairs[passed];
-        if (!EXPECT(seen.status == INTMAP_PRESENT && same_pair(seen.pair, wanted))) {
-            return;
-        }
-        if (seen.pair.value & mask) {
-            take_at(plain, passed);
-            intmap_found_pair cut = intmap_cut(&it->map, &at);
-            EXPECT(cut.status == INTMAP_PRESENT && same_pair(cut.pair, wanted));
-            next = at;
-        } else {
-            at = next;
-            passed++;
-        }
+// How far a call has come that keeps the pairs whose values have no bit of a mask.
+typedef struct retained {
+    uint64_t mask;
+    size_t passed;
+} retained;
+
+static bool has_no_bit(intmap_pair pair, void *argument) {
+    retained *so_far = (retained *)argument;
+    if (!EXPECT(so_far->passed < it->plain.len && same_pair(pair, it->plain.pairs[so_far->passed]))) {
+        return true;
     }
-    EXPECT(intmap_step(&it->map, &at).status == INTMAP_ABSENT);
+    if (pair.value & so_far->mask) {
+        take_at(&it->plain, so_far->passed);
+        return false;
+    }
+    so_far->passed++;
+    return true;
+}
+
+static void call_retain(uint64_t mask) {
+    size_t len = it->plain.len;
+    retained so_far = {mask, 0};
+    begin();
+    EXPECT(intmap_retain(&it->map, has_no_bit, &so_far) == len - it->plain.len);
+    EXPECT(so_far.passed == it->plain.len && !requested());
+}
+
+// The same pairs in a map that was made anew.
+static void call_shrink_to_fit(void) {
+    static model before;
+    begin();
+    if (fails(intmap_shrink_to_fit(&it->map), it) || !had_memory) {
+        return;
+    }
+    before = it->plain;
+    make_plain(&it->plain, 4);
+    it->plain.factor = before.factor;
+    for (size_t place = 0; place < before.len; place++) {
+        set_slots(&it->plain, slots_with_one_more(&it->plain));
+        put_last_in_slot(&it->plain, before.pairs[place]);
+    }
 }
 
 static void call_clear(void) {
@@ -580,6 +623,7 @@ static void test_calls_without_memory(void) {
     call_remove(3);
     call_cut(1, 2);
     call_retain(1);
+    call_shrink_to_fit();
     call_clear();
     call_equal();
     call_clone();
@@ -1078,6 +1122,21 @@ static void test_kept_memory(void) {
     end_test();
 }
 
+// Memory comes back, whichever request is refused.
+static void test_shrinking(void) {
+    call_make(4);
+    insert_some(1000, 1 << 5);
+    for (uint64_t key = 20; key < 1000; key++) {
+        call_remove(key << 5);
+    }
+    while (refuse_in_turn()) {
+        call_shrink_to_fit();
+        check(it);
+    }
+    EXPECT(it->plain.capacity == 32);
+    end_test();
+}
+
 // Values change along a walk, and no pair's place does.
 static void test_writes_in_walk(void) {
     call_make(4);
@@ -1098,18 +1157,13 @@ static void free_value(uint64_t value) {
     free(intmap_to_pointer(value));
 }
 
-// Removes the pairs with odd keys, and frees what their values point to.
-static void keep_even(intmap *map) {
-    intmap_cursor at = intmap_start(), next = at;
-    intmap_found_pair seen;
-    while ((seen = intmap_step(map, &next)).status == INTMAP_PRESENT) {
-        if (seen.pair.key % 2 == 0) {
-            at = next;
-        } else {
-            free_value(intmap_cut(map, &at).pair.value);
-            next = at;
-        }
+// Keeps a pair with an even key, and frees what the value of another one points to.
+static bool is_even(intmap_pair pair, void *argument) {
+    (void)argument;
+    if (pair.key % 2 > 0) {
+        free_value(pair.value);
     }
+    return pair.key % 2 == 0;
 }
 
 // Frees what all values point to, and then the map.
@@ -1131,7 +1185,7 @@ static void test_addresses(void) {
     }
     EXPECT(live_blocks >= blocks + 100);
     blocks = live_blocks;
-    keep_even(&map);
+    EXPECT(intmap_retain(&map, is_even, NULL) == 50);
     EXPECT(intmap_len(&map) == 50 && live_blocks == blocks - 50);
     EXPECT(intmap_contains_key(&map, 98) && !intmap_contains_key(&map, 99));
     free_all(&map);
@@ -1222,6 +1276,7 @@ static void test_each(void) {
     RUN(test_one_slot());
     RUN(test_cuts());
     RUN(test_kept_memory());
+    RUN(test_shrinking());
     RUN(test_writes_in_walk());
     RUN(test_addresses());
     RUN(test_scrambled_keys());
@@ -1273,8 +1328,10 @@ static void call_on_all(uint64_t value, unsigned which) {
         side *before = it;
         it = other;
         other = before;
-    } else if (which < 98) {
+    } else if (which < 97) {
         call_retain(15);
+    } else if (which < 98) {
+        call_shrink_to_fit();
     } else if (which < 99) {
         call_clear();
     } else {

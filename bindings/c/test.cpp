@@ -33,7 +33,7 @@ static bool changes(intmap *map) {
 static bool changes_in_place(intmap *map) {
 #ifdef INTMAP_HAS_AT
     uint64_t *at = intmap_at(map, 22);
-    if (at != nullptr) {
+    if (at != nullptr || intmap_at_or_insert(map, 21, 9, &at) != INTMAP_PRESENT || *at != 3) {
         return false;
     }
     intmap_place(map, 21, &at);
@@ -41,6 +41,17 @@ static bool changes_in_place(intmap *map) {
 #else
     return intmap_add_present(map, 21, 5).value == 3;
 #endif
+}
+
+static bool removes_some(intmap *map) {
+    uint64_t least = 21;
+    auto is_kept = [](intmap_pair pair, void *argument) {
+        return pair.key >= *static_cast<uint64_t *>(argument);
+    };
+    intmap_found_value found = intmap_insert(map, 7, 7);
+    return is(found, INTMAP_ABSENT, 0) && intmap_retain(map, is_kept, &least) == 2
+           && is(intmap_insert(map, 5, 3), INTMAP_ABSENT, 0)
+           && intmap_shrink_to_fit(map) == INTMAP_OK && intmap_capacity(map) == 4;
 }
 
 static bool clones_and_walks(intmap *map) {
@@ -67,7 +78,7 @@ static bool takes_other_numbers() {
 int main() {
     intmap map = INTMAP_INIT;
     bool is_good = makes_and_reads(&map) && changes(&map) && changes_in_place(&map)
-                   && clones_and_walks(&map) && takes_other_numbers();
+                   && removes_some(&map) && clones_and_walks(&map) && takes_other_numbers();
     intmap_free(&map);
     map = INTMAP_NONE;
     return is_good && !intmap_failed(INTMAP_OK) && intmap_failed(INTMAP_TOO_LARGE) ? 0 : 1;

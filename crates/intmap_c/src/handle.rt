@@ -1,5 +1,5 @@
 //! One word that C holds: a map in memory, or null if there is none.
-ghost use Rattle.std.specs.Prelude.{◌≡◌, None, Some, MatchOption};
+ghost use Rattle.std.specs.Prelude.{◌≡◌, None, Some, IfSome, MatchOption};
 ghost use Rattle.intmap_c.specs.Calls.{map_of};
 ghost use Rattle.intmap_c.specs.Handles.{MaybeMap, owns_map};
 
@@ -82,6 +82,15 @@ pub(crate) fn take_or_make(handle: &mut Handle, alloc: Global) -> Option<Box<Int
     if let Some(map) = take(handle, alloc) {
         return Some(map);
     }
+    make_first(alloc)
+}
+
+/// Makes a new map, for which there may be no memory. It stands apart, so that a call with a map
+/// saves no registers for it.
+#[inline(never)]
+fn make_first(alloc: Global) -> Option<Box<IntMap<u64, u64>>>
+    ensures { IfSome result (λ map. map.value ≡ map_of None) }
+{
     match IntMap::new(alloc) {
         Ok(map) => Box::new(alloc, map).ok(),
         Err(_) => None,
