@@ -379,6 +379,10 @@ INTMAP_NONNULL INTMAP_MUST_USE intmap_status intmap_set_load_factor(intmap *map,
 // Makes room for `more` pairs more: the number of slots becomes the least of itself and its
 // doublings that meets the load factor with them. Insertions of so many new keys then add no slots,
 // while the load factor stays. But one into a slot that holds a pair may request memory, and fail.
+// Insertions of ids that follow one another can't fail: if these and the keys of the map lie within
+// as many numbers in a row as there are slots, each has a slot of its own. The law
+// keys_in_a_row_have_room of the sources proves it.
+//
 // A load factor above 10^16 counts as 10^16. It returns INTMAP_OK; INTMAP_TOO_LARGE exactly if no
 // number up to 2^63 meets it or there would be more than 2^64 - 1 pairs; or INTMAP_NO_MEMORY, but
 // never if the map has memory, and its slots meet it.
