@@ -97,31 +97,31 @@ class PlainList:
 
     def grow_with(self, slots, key, value):
         """Adds a pair and grows. Where none of its slot goes to the same new slot, the others move first, and
-        it gets a slot of its own. Otherwise room is made for it. Lone slots then become shared: a block is asked
-        for, shared slots, and what a growth of lone ones asks for."""
+        it gets a slot of its own. Otherwise room is made for it, as without a growth. Lone slots then become
+        shared: a block is asked for, shared slots, and their words of bits."""
         if not any((self.pairs[place][0] - key) % slots == 0 for place in self.classes.get(self.slot_of(key), [])):
             self.grow(slots, True)
             self.append(key, value)
         elif self.lone:
-            self.asked += [self.pair, self.shared_bytes(slots)]
-            self.grow(slots)
             self.lone = False
+            self.set_slots(slots)
+            self.asked += [self.pair, *self.table()]
             self.room[self.slot_of(key)] = 1
             self.append(key, value)
         else:
-            self.make_room(key, True)
+            self.make_room(key)
             self.append(key, value)
             self.grow(slots)
 
-    def make_room(self, key, grows=False):
+    def make_room(self, key):
         """A block is asked for where the slot holds a pair and is full. It has room for one pair more
-        where it is the first one or the table is about to grow, and else for twice as many. If the slot
-        is a lone one, shared slots are asked for too."""
+        where it is the first one, and else for twice as many. If the slot is a lone one, shared slots are
+        asked for too."""
         slot = self.slot_of(key)
         held = len(self.classes.get(slot, []))
         room = self.room.get(slot, 0)
         if held and held > room:
-            self.room[slot] = held if held == 1 or grows else max(2 * room, LEAST_ROOM)
+            self.room[slot] = held if held == 1 else max(2 * room, LEAST_ROOM)
             self.asked.append(self.room[slot] * self.pair)
             if self.lone:
                 self.asked.append(self.shared_bytes(self.slots))

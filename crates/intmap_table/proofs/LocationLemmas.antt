@@ -152,6 +152,16 @@ module _ {K X : Type 0} (number : K → ℕ) (S : List (Held K X)) (l : Location
         IsTable-set number S l.slot l.key slot-at (write_at (row_of S l.slot) l.place v) (write_row S l.slot l.place v)
         (All-write_at (λ k. slot_number number k (length S) ≡ l.slot) (row_of S l.slot) l.place v (Belong-here number S l.slot l.key slot-at)) is-written
 
+-- the pair of k is the last of slot i, and no other there has this key
+IsAt-end : {K X : Type 0} (number : K → ℕ) (T : List (Held K X)) (i : ℕ) (k : K) (v : X) (others : List (K × X)) → IsTable number T
+    → i ≡ slot_number number k (length T) → row_of T i ≡ others ++ (k, v) ∷ [] → value_of number others k ≡ None
+    → IsAt number (joined (rows T)) (length T) (record { key = k; slot = i; place = length others })
+IsAt-end number T i k v others table at row missing = record {
+  slot = at;
+  place = ap (position (λ p. same_key number k p.0)) (slot_of-joined number T table i ∙ row)
+      ∙ position-push (λ p. same_key number k p.0) others (k, v) (position-from_none (same_key number k) others missing) (eq-eqb (number k) (number k) refl);
+}
+
 -- k, which is absent, belongs to slot i
 module _ {K X : Type 0} (number : K → ℕ) (S : List (Held K X)) (i : ℕ) (k : K) (at : IsSlot number S i k) (missing : value_of number (joined (rows S)) k ≡ None) where
   module _ (T : List (Held K X)) (v : X) (is : IsRowSet S i (row_of S i ++ (k, v) ∷ []) T) where
@@ -162,15 +172,8 @@ module _ {K X : Type 0} (number : K → ℕ) (S : List (Held K X)) (i : ℕ) (k 
     -- and it is at the place after theirs
     pub IsAt-added : IsAt number (joined (rows T)) (length T) (record { key = k; slot = i; place = length (row_of S i) })
     IsAt-added =
-        let own : same_key number k k ≡ true = eq-eqb (number k) (number k) refl in
-        let none = position-from_none (same_key number k) (row_of S i) (sym (value_of-here number S i k at) ∙ missing) in
-        let slot = at.slot ∙ ap (slot_number number k) (sym (length-row_set S i _ T is)) in
-        let there = slot_of-here number T i k (record { table = IsTable-added; slot = slot }) in
-        let row = ap (λ U. row_of U i) is.others ∙ row-set S i is.slot (within number S i k at) ∙ is.pairs in
-        record {
-          slot = slot;
-          place = ap (position (λ p. same_key number k p.0)) (there ∙ row) ∙ position-push (λ p. same_key number k p.0) (row_of S i) (k, v) none own;
-        }
+        IsAt-end number T i k v (row_of S i) IsTable-added (at.slot ∙ ap (slot_number number k) (sym (length-row_set S i _ T is)))
+        (ap (λ U. row_of U i) is.others ∙ row-set S i is.slot (within number S i k at) ∙ is.pairs) (sym (value_of-here number S i k at) ∙ missing)
 
 module _ {K V : Type 0} (number : K → ℕ) where
   -- where a key is absent, its pair is put behind all others
@@ -192,12 +195,7 @@ module _ {K X : Type 0} (number : K → ℕ) (L : List (K × X)) (k : K) (v : X)
   pub IsAt-new : value_of number L k ≡ None → (place : ℕ) → place + 1 ≡ length (row_of T i)
       → IsAt number (joined (rows T)) (length T) (record { key = k; slot = i; place = place })
   IsAt-new missing place last =
-      let own : same_key number k k ≡ true = eq-eqb (number k) (number k) refl in
-      let none = position-from_none (same_key number k) (slot_of number L C i)
-      (ap (λ j. value_of number (slot_of number L C j) k) at ∙ value_of-slot_of number C L k ∙ missing) in
       let end : length (slot_of number L C i) ≡ place = (let n = ap length row-new ∙ length_push (slot_of number L C i) (k, v) in omega (arith, n, last)) in
-      record {
-        slot = rw moved.len at;
-        place = ap (position (λ p. same_key number k p.0)) (slot_of-joined number T (IsTable-moved number _ C T moved) i ∙ row-new)
-            ∙ position-push (λ p. same_key number k p.0) (slot_of number L C i) (k, v) none own ∙ ap (λ n. Some n) end;
-      }
+      subst (λ n. IsAt number (joined (rows T)) (length T) (record { key = k; slot = i; place = n })) end
+      (IsAt-end number T i k v (slot_of number L C i) (IsTable-moved number _ C T moved) (rw moved.len at) row-new
+      (ap (λ j. value_of number (slot_of number L C j) k) at ∙ value_of-slot_of number C L k ∙ missing))

@@ -12,8 +12,7 @@ use types.Follow.{after₂, takes_two}
 use types.Logic.{Logic, sem}
 use types.Mut.{open_ref}
 use types.SemTy.{SemTy, Body}
-use types.Kit.{Item, ‵, raw, ◌⊛◌, some, later, pick, show, mean, ◌$◌, ◌∵◌, !, qed, move, keep, use1, group, split, split3, fsplit, fjoin, fjoin3, feq_i, updating, await, done}
-use types.Kit.{now as at_once}
+use types.Kit.{Item, ‵, raw, ◌⊛◌, some, later, pick, show, mean, ◌$◌, ◌∵◌, !, qed, move, keep, use1, group, split, split3, fsplit, fjoin, fjoin3, feq_i, updating, await, done, now as at_once}
 use denote.Memory.{mem}
 use denote.RattleType.{RattleType}
 use denote.RawPtr.{Ptr, block_ptr}

@@ -8,8 +8,7 @@ use base.Logic.{ent, sep, emp, via, id⊢, fst∗}
 use base.Fml.{Lft, GName, Share, Fml, Incl-refl, ftrue, fsep, flft, fobs, fauth, fbor, fobor, fseps}
 use contract.Fact.{fact_use}
 use types.Logic.{Logic, sem}
-use types.Kit.{Item, ‵, raw, ◌⊛◌, some, later, ◌$◌, ◌∵◌, !, qed, by, move, keep, use0, use1, use2, split, split3, pick, group, rewrite, fsplit, fjoin, show, await, updating, done, mean}
-use types.Kit.{now as at_once}
+use types.Kit.{Item, ‵, raw, ◌⊛◌, some, later, ◌$◌, ◌∵◌, !, qed, by, move, keep, use0, use1, use2, split, split3, pick, group, rewrite, fsplit, fjoin, show, await, updating, done, mean, now as at_once}
 use types.Mut.{open_ref}
 use types.SemTy.{SemTy, Body as Borrowed}
 use types.Follow.{after, takes_part, takes_beside}

@@ -9,8 +9,7 @@ use base.Fml.{Lft, Incl, ftrue, ffalse, fsep, feq, fbor}
 use prog.Memory.{align, up}
 use contract.BorrowLft.{⊑_meet}
 use types.Logic.{Logic, sem, lfts}
-use types.Kit.{Item, ‵, raw, ◌⊛◌, some, show, mean, ◌$◌, ◌∵◌, !, qed, by, move, keep, drop, fsplit, fjoin, feq_i, rewrite, updating, done}
-use types.Kit.{now as at_once}
+use types.Kit.{Item, ‵, raw, ◌⊛◌, some, show, mean, ◌$◌, ◌∵◌, !, qed, by, move, keep, drop, fsplit, fjoin, feq_i, rewrite, updating, done, now as at_once}
 use denote.RattleType.{RattleType, lives_all}
 use denote.RawPtr.{Ptr, block_ptr}
 use denote.Steps.{nothing}

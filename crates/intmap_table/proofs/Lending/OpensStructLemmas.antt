@@ -11,8 +11,7 @@ use base.Logic.{ent, sep, id⊢}
 use base.Fml.{Lft, Fml, Share, ftrue, fsep, fbor, fleft}
 use prog.Memory.{size, align, up}
 use types.Logic.{Logic, sem, lfts}
-use types.Kit.{‵, raw, ◌$◌, !, qed, updating, done}
-use types.Kit.{now as at_once}
+use types.Kit.{‵, raw, ◌$◌, !, qed, updating, done, now as at_once}
 use types.Tokens.{bor_fracture}
 use denote.RattleType.{RattleType, Denots}
 use denote.Sharing.{one, beside}

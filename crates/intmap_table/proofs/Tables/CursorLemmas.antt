@@ -32,10 +32,6 @@ module _ {P : Type 0} (R : List (List P)) (i j : ℕ) where
       (λ k. take (count_before R i j) (joined-around i R k)) ∙ take-append-add (joined (take i R)) (row ++ joined (drop (i + 1) R)) (min j (length row))
       ∙ ap (λ Z. joined (take i R) ++ Z) (take-append-le (min j (length row)) row (joined (drop (i + 1) R)) (omega arith) ∙ take_min j row)
 
-  -- with those that are left of the row there are no more than in all
-  pub before-few : count_before R i j + (length row - j) ≤ length (joined R)
-  before-few = let all = length-around i R in omega (arith, all)
-
   -- the one at hand, and what is left behind it
   pub drop-here : (p : P) → j < length row → drop (count_before R i j) (joined R) ≡ get_or row j p ∷ drop (count_before R i (j + 1)) (joined R)
   drop-here p below =
@@ -72,7 +68,7 @@ module _ {P : Type 0} (R : List (List P)) (i j n : ℕ) (at : IsInRows R i j n) 
 
   -- with those that are left of the row there are no more than in all
   pub row-few : n + (length (get_or R i []) - j) ≤ length (joined R)
-  row-few = let few = before-few R i j in omega (arith, few, at.count)
+  row-few = let all = length-around i R in omega (arith, all, at.count, at.within)
 
   -- if no row holds an element any more, none is left
   pub drop-none : ((k : ℕ) → i ≤ k → get_or R k [] ≡ []) → drop n (joined R) ≡ []

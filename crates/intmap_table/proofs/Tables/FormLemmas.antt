@@ -2,11 +2,11 @@
 use Rattle.std.proofs.Common.{◌≡◌, inl, inr, ℕ, ◌<◌, ◌≤◌, List, Bool, true, false, cond, [], ◌∷◌, ◌++◌, length, get_or, set, sym, ap, ◌∙◌, subst, arith, append-nil, length-append, length-set}
 use Rattle.std.specs.Prelude.{◌⊎◌, nat_lt}
 use Rattle.std.proofs.lemmas.Bool.Decides.{nat_tests}
-use Rattle.std.proofs.lemmas.List.{get_or_append_left, get_or_past, set-append_left}
+use Rattle.std.proofs.lemmas.List.{get_or_append_left, set-append_left}
 use Rattle.intmap_table.specs.Tables.Moves.{rooms}
-use Rattle.intmap_table.specs.Tables.Slots.{Held, rows, row_of, IsDirectory, AreSlots, IsRowSet}
+use Rattle.intmap_table.specs.Tables.Slots.{Held, rows, row_of, AreFew, IsDirectory, AreSlots, IsRowSet}
 use Rattle.intmap_table.proofs.Tables.FilledLemmas.{IsDirectory-set, IsDirectory-kept, IsDirectory-changed}
-use Rattle.intmap_table.proofs.Tables.TableLemmas.{length-rows, row-at, rows-kept_at, row-set, row-set_other, room-set, get_or-rooms}
+use Rattle.intmap_table.proofs.Tables.TableLemmas.{row-at, rows-kept_at, row-set, row-set_other, room-set, get_or-rooms}
 
 module _ {H : Type 0} (L S : List H) (form : (L ≡ []) ⊎ (S ≡ [])) (i : ℕ) where
   -- a slot that isn't lone is shared, and then none is lone
@@ -143,7 +143,7 @@ pub record AreLone {K X : Type 0} (L S V : List (Held K X)) (bits : List Bool) (
   pub none : S ≡ []
   pub all : L ≡ V
   pub directory : IsDirectory L bits mask
-  pub few : (i : ℕ) → length (row_of L i) ≤ 1
+  pub few : AreFew L
 
 -- or none is, so the shared ones are
 pub record AreShared {K X : Type 0} (L S V : List (Held K X)) (bits : List Bool) (mask : ℕ) : Type 0 where
@@ -163,9 +163,7 @@ module _ {K X : Type 0} (L S V : List (Held K X)) (view : L ++ S ≡ V) {bits : 
         none = none;
         all = sym same ∙ view;
         directory = subst (λ T. IsDirectory T bits mask) same are.directory;
-        few = λ i.
-            let past = get_or_past (rows L) i [] in let n = length-rows L in let few = are.few i in let row = ap (λ T. length (row_of T i)) same in
-            grind (arith, nat_tests, past, n, few, row);
+        few = λ i lt. subst (λ T. length (row_of T i) ≤ 1) same (are.few i lt);
       }
 
   pub AreShared-none : L ≡ [] → AreShared L S V bits mask
@@ -177,13 +175,13 @@ module _ {K X : Type 0} (L S V : List (Held K X)) (view : L ++ S ≡ V) {bits : 
 
 -- slots of one form alone
 module _ {K X : Type 0} (L S : List (Held K X)) (bits : List Bool) (mask : ℕ) where
-  pub AreSlots-lone_alone : S ≡ [] → ((i : ℕ) → length (row_of L i) ≤ 1) → IsDirectory L bits mask → AreSlots L S bits mask
+  pub AreSlots-lone_alone : S ≡ [] → AreFew L → IsDirectory L bits mask → AreSlots L S bits mask
   AreSlots-lone_alone none few directory =
       let all : L ≡ L ++ S = sym (append-nil L) ∙ ap (λ M. L ++ M) (sym none) in
       record {
         directory = subst (λ T. IsDirectory T bits mask) all directory;
         form = inr none;
-        few = λ i _. subst (λ T. length (row_of T i) ≤ 1) all (few i);
+        few = λ i lt. subst (λ T. length (row_of T i) ≤ 1) all (few i lt);
       }
 
   pub AreSlots-shared_alone : L ≡ [] → IsDirectory S bits mask → AreSlots L S bits mask

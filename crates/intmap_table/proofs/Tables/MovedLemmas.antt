@@ -5,9 +5,10 @@ use Rattle.std.proofs.lemmas.Bool.{cases_eq}
 use Rattle.std.proofs.lemmas.Bool.Decides.{nat_tests}
 use Rattle.std.proofs.lemmas.List.{get_or_past, get_or-replicate, length-replicate}
 use Rattle.std.proofs.lemmas.List.Elements.{filter-append}
+use Rattle.std.proofs.lemmas.Nat.{mod_below}
 use Rattle.intmap_table.specs.Classes.{IsCapacity, slot_number}
 use Rattle.intmap_table.specs.Walk.{slot_of}
-use Rattle.intmap_table.specs.Tables.Slots.{Held, rows, joined, AreMarked, IsDirectory}
+use Rattle.intmap_table.specs.Tables.Slots.{Held, rows, joined, AreFew, AreMarked, IsDirectory}
 use Rattle.intmap_table.specs.Tables.Moves.{bare_slot, need, CanGrow, IsGrown, ArePut, CanPut, AreFree, IsMoved}
 use Rattle.intmap_table.proofs.SlotNumberLemmas.{capacity-positive}
 use Rattle.intmap_table.proofs.Tables.FilledLemmas.{marks-enough, AreMarked-none}
@@ -22,14 +23,15 @@ module _ {K X : Type 0} (number : K → ℕ) where
 
   -- if no new slot gets more than one pair of an old one, none gets more than one of all pairs
   pub need-joined : (S : List (Held K X)) (D : ℕ) → CanGrow number S D
-      → ((i j : ℕ) → need number (get_or (rows S) i []) D j ≤ 1) → (j : ℕ) → need number (joined (rows S)) D j ≤ 1
+      → ((i j : ℕ) → i < length S → need number (get_or (rows S) i []) D j ≤ 1) → (j : ℕ) → need number (joined (rows S)) D j ≤ 1
   need-joined S D can few j =
-      rw (slot_of-old number (length S) D (IsGrown-can S D can) (rows S) (record { len = length-rows S; own = can.table.in_place }) j) (few (j % length S) j)
+      rw (slot_of-old number (length S) D (IsGrown-can S D can) (rows S) (record { len = length-rows S; own = can.table.in_place }) j)
+      (few (j % length S) j (mod_below j (length S) (capacity-positive (length S) can.table.capacity)))
 
   -- as where no old one has more
-  pub few-joined : (S : List (Held K X)) (D : ℕ) → CanGrow number S D → ((i : ℕ) → length (get_or (rows S) i []) ≤ 1) → (j : ℕ) → need number (joined (rows S)) D j ≤ 1
+  pub few-joined : (S : List (Held K X)) (D : ℕ) → CanGrow number S D → AreFew S → (j : ℕ) → need number (joined (rows S)) D j ≤ 1
   few-joined S D can few =
-      need-joined S D can (λ i j. let most = need-most number (get_or (rows S) i []) D j in let one = few i in omega (arith, most, one))
+      need-joined S D can (λ i j lt. let most = need-most number (get_or (rows S) i []) D j in let one = few i lt in omega (arith, most, one))
 
   -- a slot gets the pairs of both lists
   slot_of-both : (L M : List (K × X)) (D j : ℕ) → slot_of number (L ++ M) D j ≡ slot_of number L D j ++ slot_of number M D j
@@ -55,10 +57,8 @@ module _ {K X : Type 0} (number : K → ℕ) (L : List (K × X)) (C : ℕ) (T : 
   }
 
   -- each has one pair at most if none gets more
-  pub few-moved : ((j : ℕ) → need number L C j ≤ 1) → (i : ℕ) → length (get_or (rows T) i []) ≤ 1
-  few-moved few i =
-      let row = moved.rows i in let one = few i in let past = get_or_past (rows T) i [] in let n = length-rows T ∙ moved.len in
-      grind (arith, nat_tests, row, one, past, n)
+  pub few-moved : ((j : ℕ) → need number L C j ≤ 1) → AreFew T
+  few-moved few = rw moved.len (λ i lt. rw (moved.rows i lt) (few i))
 
   -- a pair can be put there whose slot is empty
   module _ (p : K × X) (alone : slot_of number L C (slot_number number p.0 C) ≡ []) where

@@ -55,6 +55,10 @@ pub record Grid (K X : Type 0) : Type 0 where
   pub walk : List (K × X)
   pub capacity : ℕ
 
+-- each slot holds one pair at most
+abbrev pub AreFew : {K X : Type 0} → List (Held K X) → Type 0
+AreFew slots = (i : ℕ) → i < length slots → length (row_of slots i) ≤ 1
+
 -- the rows, one after another
 abbrev pub joined : {P : Type 0} → List (List P) → List P
 joined S = flat_map (λ s. s) S

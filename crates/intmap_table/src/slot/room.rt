@@ -39,6 +39,18 @@ impl<K: IntKey, X: Drop, A: Allocator> Slot<K, X, A> {
         }
         self.rest.push_reserved(pair);
     }
+
+    /// Whether a `push` allocates.
+    pub(crate) fn is_full(&self) -> bool {
+        self.first.is_some() && self.rest.len() == self.rest.capacity()
+    }
+
+    /// Gives back the room that no pair needs.
+    pub(crate) fn shrink(&mut self)
+        ensures { self.new.pairs ≡ self.old.pairs }
+    {
+        self.rest.shrink_to_fit();
+    }
 }
 
 impl<K: IntKey, X: Drop, A: Allocator + Copy> Slot<K, X, A> {

@@ -11,6 +11,13 @@ pub(in crate::proved::table) struct Bits<A: Allocator> {
     words: Vec<u64, A>,
 }
 
+/// The marks of one word that a walk hasn't passed yet, and the place of this word. The walk reads the
+/// next word only once this one has no mark left.
+pub(in crate::proved::table) struct HeldWord {
+    pub(in crate::proved::table) at: usize,
+    pub(in crate::proved::table) word: u64,
+}
+
 /// A word without the bit of an index.
 #[inline(always)]
 pub(in crate::proved::table) fn without(word: u64, index: usize) -> u64 {
@@ -75,22 +82,32 @@ impl<A: Allocator> Bits<A> {
         }
     }
 
-    /// The first marked index from an index on.
+    /// The marks from an index on that stand in the word of this index.
     #[inline(always)]
-    pub(in crate::proved::table) fn next_from(&self, from: usize) -> Option<usize> {
-        let mut at = from / BITS;
+    pub(in crate::proved::table) fn hold(&self, from: usize) -> HeldWord {
+        let at = from / BITS;
         if at >= self.words.len() {
-            return None;
+            return HeldWord { at, word: 0 };
         }
-        let mut word = self.words[at] & (u64::MAX << (from % BITS));
-        while word == 0 {
-            at += 1;
-            if at == self.words.len() {
+        let word = self.words[at] & (u64::MAX << (from % BITS));
+        HeldWord { at, word }
+    }
+
+    /// The first marked index from `_from` on, for which a word is held. Afterwards the marks behind
+    /// that index are held. Only the contract reads `_from`: the held word has no mark before it.
+    #[inline(always)]
+    pub(in crate::proved::table) fn next_in(&self, held: &mut HeldWord, _from: usize) -> Option<usize> {
+        while held.word == 0 {
+            let at = held.at + 1;
+            if at >= self.words.len() {
                 return None;
             }
-            word = self.words[at];
+            held.word = self.words[at];
+            held.at = at;
         }
-        Some(at * BITS + word.trailing_zeros() as usize)
+        let index = held.at * BITS + held.word.trailing_zeros() as usize;
+        held.word &= held.word - 1;
+        Some(index)
     }
 }
 

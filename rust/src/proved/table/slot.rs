@@ -17,9 +17,12 @@ pub(in crate::proved::table) struct Slot<K, X, A: Allocator> {
 }
 
 /// The place of the key's pair. The pairs are compared from the front. Each comparison is one step.
+// by an index, since `enumerate` takes more instructions a comparison
+#[allow(clippy::needless_range_loop)]
 #[inline(always)]
 fn find_in<K: IntKey, X>(pairs: &[(Stored<K>, X)], key: &K, steps: &mut Steps) -> Option<usize> {
-    for (i, pair) in pairs.iter().enumerate() {
+    for i in 0..pairs.len() {
+        let pair = &pairs[i];
         if pair.0.matches(key, steps) {
             return Some(i);
         }

@@ -1,6 +1,6 @@
 //! Growth of lone slots, which stay lone: a slot gets pairs of one old slot alone.
 ghost use Rattle.std.specs.Prelude.{◌≡◌, ◌+◌, ◌-◌, ◌*◌, ◌/◌, ◌<◌, ◌≤◌, ℕ, [], ◌++◌, length, replicate, false, OnOk, OnErr, vec_capacity};
-ghost use Rattle.intmap_table.specs.Tables.Slots.{rows, row_of, joined, AreMarked, IsDirectory};
+ghost use Rattle.intmap_table.specs.Tables.Slots.{rows, joined, AreFew, AreMarked, IsDirectory};
 ghost use Rattle.intmap_table.specs.Tables.Moves.{CanGrow, CanMoveOn, HasGrown, IsMoved, bare_slot};
 
 use crate::bits::Bits;
@@ -65,11 +65,11 @@ pub(super) fn grow_lone<K: IntKey, X: Drop, A: Allocator + Copy>(
 ) -> Result<(), AllocError>
     requires ready { CanGrow K.number_of lone.old.items capacity }
     requires directory { IsDirectory lone.old.items directory.old.bits directory.old.mask }
-    requires few { (i : ℕ) → length (row_of lone.old.items i) ≤ 1 }
+    requires few { AreFew lone.old.items }
     ensures grown { OnOk result (HasGrown K.number_of (joined (rows lone.old.items)) capacity
         lone.new.items placed.old placed.new) }
     ensures directory { IsDirectory lone.new.items directory.new.bits directory.new.mask }
-    ensures few { (i : ℕ) → length (row_of lone.new.items i) ≤ 1 }
+    ensures few { AreFew lone.new.items }
     ensures err { OnErr result (lone.new.items ≡ lone.old.items) }
     ensures none_placed { OnErr result (placed.new ≡ placed.old) }
 {

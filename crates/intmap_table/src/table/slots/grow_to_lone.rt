@@ -1,5 +1,5 @@
 //! Growth of shared slots that become lone: each pair gets a slot of its own.
-ghost use Rattle.std.specs.Prelude.{◌≡◌, ◌+◌, ◌≤◌, ℕ, List, [], ◌∷◌, ◌++◌, get_or, true, false, OnOk, OnErr};
+ghost use Rattle.std.specs.Prelude.{◌≡◌, ◌+◌, ◌<◌, ◌≤◌, ℕ, List, [], ◌∷◌, ◌++◌, get_or, length, true, false, OnOk, OnErr};
 ghost use Rattle.intmap_table.specs.Classes.{IsCapacity};
 ghost use Rattle.intmap_table.specs.Tables.Slots.{rows, joined, AreMarked, IsDirectory, AreSlots};
 ghost use Rattle.intmap_table.specs.Tables.Moves.{need, ArePut, CanGrow, CanPut, HasGrown};
@@ -47,7 +47,7 @@ pub(super) fn fit_lone<K: IntKey, X, A: Allocator>(
 ) -> bool
     requires capacity { IsCapacity capacity }
     requires marks { AreMarked (rows shared.now) bits.now }
-    ensures { result ≡ true → (i j : ℕ)
+    ensures { result ≡ true → (i j : ℕ) → i < length shared.now
         → need K.number_of (get_or (rows shared.now) i []) capacity j ≤ 1 }
 {
     if capacity < LEAST {
@@ -116,7 +116,7 @@ pub(super) fn grow_to_lone<K: IntKey, X: Drop, A: Allocator + Copy>(
     placed: &mut Steps,
 ) -> Result<(), AllocError>
     requires ready { CanGrow K.number_of shared.old.items capacity }
-    requires few { (i j : ℕ)
+    requires few { (i j : ℕ) → i < length shared.old.items
         → need K.number_of (get_or (rows shared.old.items) i []) capacity j ≤ 1 }
     requires none { lone.old.items ≡ [] }
     requires directory { IsDirectory shared.old.items directory.old.bits directory.old.mask }

@@ -1,6 +1,6 @@
 //! Growth of lone slots that become shared, since a new pair meets another one.
 ghost use Rattle.std.specs.Prelude.{◌≡◌, ◌+◌, ◌≤◌, ℕ, List, [], ◌∷◌, ◌++◌, length, vec_capacity, OnOk, OnErr, IfErr};
-ghost use Rattle.intmap_table.specs.Tables.Slots.{rows, row_of, joined, AreMarked, AreSlots, IsDirectory};
+ghost use Rattle.intmap_table.specs.Tables.Slots.{rows, joined, AreFew, AreMarked, AreSlots, IsDirectory};
 ghost use Rattle.intmap_table.specs.Tables.Moves.{ArePut, CanGrow, CanPut, HasGrown};
 
 use crate::bits::Bits;
@@ -53,7 +53,7 @@ pub(super) fn grow_to_shared<K: IntKey, X: Drop, A: Allocator + Copy>(
     placed: &mut Steps,
 ) -> Result<(), X>
     requires ready { CanGrow K.number_of lone.old.items capacity }
-    requires few { (i : ℕ) → length (row_of lone.old.items i) ≤ 1 }
+    requires few { AreFew lone.old.items }
     requires none { shared.old.items ≡ [] }
     requires directory { IsDirectory lone.old.items directory.old.bits directory.old.mask }
     ensures grown { OnOk result (HasGrown K.number_of (joined (rows lone.old.items) ++ pair ∷ [])

@@ -54,6 +54,23 @@ impl<K: IntKey, X, A: Allocator> Slots<K, X, A> {
 }
 
 impl<K: IntKey, X: Drop, A: Allocator + Copy> Slots<K, X, A> {
+    /// Whether a second pair of a slot, or a further one, makes room there.
+    fn is_full(&self, index: usize) -> bool
+        requires { index < length self.now }
+    {
+        index >= self.lone.len() && self.shared[index].is_full()
+    }
+
+    /// Gives back the room of a slot that no pair needs.
+    fn shrink(&mut self, index: usize)
+        requires { index < length self.old }
+        ensures { rows self.new ≡ rows self.old }
+    {
+        if index >= self.lone.len() {
+            self.shared[index].shrink();
+        }
+    }
+
     /// Moves all pairs to their slots among `capacity` slots, and then places the new pair in its
     /// slot, which holds no other. If an allocation fails, the value is returned, and no pair moves.
     fn grow_and_place(
@@ -107,9 +124,13 @@ impl<K: IntKey, X: Drop, A: Allocator + Copy> Slots<K, X, A> {
         ensures value_returned { IfErr result (λ returned. returned ≡ pair.1) }
     {
         let (key, value) = pair;
+        let is_full = self.is_full(slot);
         let place = self.push(slot, key, value)?;
         let Ok(()) = self.grow(capacity, false, placed) else {
             let (_, value) = self.take_at(slot, place);
+            if is_full {
+                self.shrink(slot);
+            }
             return Err(value);
         };
         Ok(())

@@ -24,6 +24,16 @@ impl<K: IntKey, X, A: Allocator> Slot<K, X, A> {
         }
         self.rest.push_reserved(pair);
     }
+
+    /// Whether a `push` allocates.
+    pub(in crate::proved::table) fn is_full(&self) -> bool {
+        self.first.is_some() && self.rest.len() == self.rest.capacity()
+    }
+
+    /// Gives back the room that no pair needs.
+    pub(in crate::proved::table) fn shrink(&mut self) {
+        self.rest.shrink_to_fit();
+    }
 }
 
 impl<K: IntKey, X, A: Allocator + Copy> Slot<K, X, A> {

@@ -16,7 +16,8 @@ fn retain_slots<K: IntKey, V, A: Allocator, F: FnMut(K, &V) -> bool>(
 ) -> usize {
     let mut count = 0;
     let mut from = 0;
-    while let Some(index) = slots.next_filled(from) {
+    let mut held = slots.hold(from);
+    while let Some(index) = slots.next_in(&mut held, from) {
         count += slots.retain_at(index, f);
         from = index + 1;
     }

@@ -1,6 +1,7 @@
 //! The pairs of a table by value, a whole slot at a time.
 
 use crate::memory::prelude::*;
+use crate::proved::table::bits::HeldWord;
 use crate::proved::table::key::IntKey;
 use crate::proved::table::table::Table;
 use crate::proved::table::table::stored::Stored;
@@ -14,19 +15,21 @@ pub struct IntoPairs<K, X, A: Allocator + Copy> {
     rest: IntoIter<(Stored<K>, X), A>,
     table: Table<K, X, A>,
     from: usize,
+    held: HeldWord,
 }
 
 impl<K: IntKey, X, A: Allocator + Copy> Table<K, X, A> {
     /// Removes all pairs of the first slot that holds one. The first of them is returned, and `rest`
-    /// gets the others. No slot before `from` holds a pair. `from` moves on to the slot that held
-    /// the removed pairs.
+    /// gets the others. No slot before `from` holds a pair, and `held` has a word of the slots behind.
+    /// `from` moves behind the slot that held the removed pairs.
     fn take_slot(
         &mut self,
         from: &mut usize,
+        held: &mut HeldWord,
         rest: &mut IntoIter<(Stored<K>, X), A>,
     ) -> Option<(K, X)> {
-        let index = self.slots.next_filled(*from)?;
-        *from = index;
+        let index = self.slots.next_in(held, *from)?;
+        *from = index + 1;
         let (key, value) = self.slots.take_all(index, rest);
         Some((*key.key(), value))
     }
@@ -35,6 +38,7 @@ impl<K: IntKey, X, A: Allocator + Copy> Table<K, X, A> {
     pub fn into_pairs(self) -> IntoPairs<K, X, A> {
         IntoPairs {
             rest: Vec::new(self.slots.allocator()).into_iter(),
+            held: self.slots.hold(0),
             table: self,
             from: 0,
         }
@@ -48,6 +52,7 @@ impl<K: IntKey, X, A: Allocator + Copy> Iterator for IntoPairs<K, X, A> {
         if let Some((key, value)) = self.rest.next() {
             return Some((*key.key(), value));
         }
-        self.table.take_slot(&mut self.from, &mut self.rest)
+        self.table
+            .take_slot(&mut self.from, &mut self.held, &mut self.rest)
     }
 }

@@ -19,7 +19,7 @@ mod place;
 pub mod walk;
 
 use crate::memory::prelude::*;
-use crate::proved::table::bits::Bits;
+use crate::proved::table::bits::{Bits, HeldWord};
 use crate::proved::table::key::IntKey;
 use crate::proved::table::lone::Lone;
 use crate::proved::table::slot::Slot;
@@ -148,10 +148,24 @@ impl<K: IntKey, X, A: Allocator> Slots<K, X, A> {
         (self.lone[index].pair(), &[])
     }
 
+    /// Which slots from an index on hold a pair, as far as the word of this index tells.
+    #[inline(always)]
+    pub(in crate::proved::table) fn hold(&self, from: usize) -> HeldWord {
+        self.directory.bits.hold(from)
+    }
+
+    /// The first slot from an index on that holds a pair, for which a word is held. Slots before the
+    /// index may change between two calls.
+    #[inline(always)]
+    pub(in crate::proved::table) fn next_in(&self, held: &mut HeldWord, from: usize) -> Option<usize> {
+        self.directory.bits.next_in(held, from)
+    }
+
     /// The first slot from an index on that holds a pair.
     #[inline(always)]
     pub(in crate::proved::table) fn next_filled(&self, from: usize) -> Option<usize> {
-        self.directory.bits.next_from(from)
+        let mut held = self.hold(from);
+        self.next_in(&mut held, from)
     }
 
     /// The pairs, slot after slot.

@@ -6,8 +6,7 @@ use base.Fml.{Lft, Fml, ftrue, ffalse, feq, fbor}
 use base.Fraction.{full_share}
 use base.Logic.{ent, sep, emp, via, never_e}
 use types.Logic.{Logic, sem, lfts}
-use types.Kit.{‵, raw, ◌⊛◌, later, ◌$◌, ◌∵◌, !, qed, by, keep, move, drop, use2, split, fsplit, fpick, await, updating, done}
-use types.Kit.{now as at_once}
+use types.Kit.{‵, raw, ◌⊛◌, later, ◌$◌, ◌∵◌, !, qed, by, keep, move, drop, use2, split, fsplit, fpick, await, updating, done, now as at_once}
 use denote.RattleType.{RattleType}
 use denote.RawPtr.{Ptr, block_ptr}
 use denote.Memory.{part_at, part_of}

@@ -2,7 +2,7 @@ use Rattle.std.proofs.Common.{◌≡◌, ◌<◌, [], ◌∷◌, ◌++◌, get_o
 use Rattle.std.specs.Vec.Iter.{into_iter_items}
 use Rattle.intmap_table.specs.Tables.Slots.{rows, row_of}
 use Rattle.intmap_table.proofs.Tables.FrontLemmas.{rows-passed, joined-passed, joined-front, IsTable-front, ArePassed-behind, IsSlotWord-walk, IsWalkWord-rows, IsWalkWord-behind}
-use Rattle.intmap_table.proofs.Tables.PartsLemmas.{next-within}
+use Rattle.intmap_table.proofs.Tables.AroundLemmas.{next-within}
 use Rattle.intmap_table.proofs.SlotNumberLemmas.{capacity-greatest}
 use Rattle.intmap_table.proofs.table.Table.take_slot.Goals as goal
 use Rattle.intmap_table.proofs.table.Table.take_slot.Goals.{In_ok-index, After-take_all-key}

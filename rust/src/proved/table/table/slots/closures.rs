@@ -13,6 +13,7 @@ use crate::memory::alloc::Allocator;
 impl<K: IntKey, V, A: Allocator> Slots<K, Kept<V>, A> {
     /// Keeps the pairs of a slot for which the closure returns true, in their order, and returns
     /// their number. The closure is called once at each pair of the slot.
+    #[inline(always)]
     pub(in crate::proved::table) fn retain_at<F: FnMut(K, &V) -> bool>(&mut self, index: usize, f: &mut F) -> usize {
         if index < self.lone.len() {
             let slot = &mut self.lone[index];

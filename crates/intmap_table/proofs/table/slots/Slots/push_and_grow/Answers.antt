@@ -1,4 +1,4 @@
-use Rattle.std.proofs.Common.{◌≡◌, ◌+◌, ◌<◌, ◌∷◌, ◌++◌, [], length, refl, ap, arith}
+use Rattle.std.proofs.Common.{◌≡◌, ◌+◌, ◌<◌, ◌∙◌, ◌∷◌, ◌++◌, [], length, refl, ap, arith}
 use Rattle.std.proofs.lemmas.List.{length_push}
 use Rattle.intmap_table.specs.Tables.Slots.{rows, row_of, joined, IsRowSet}
 use Rattle.intmap_table.specs.Tables.Moves.{IsGrown}
@@ -7,7 +7,7 @@ use Rattle.intmap_table.proofs.Tables.AddedLemmas.{IsTable-pushed, IsMoved-pushe
 use Rattle.intmap_table.proofs.Tables.MovedLemmas.{IsGrown-can}
 use Rattle.intmap_table.proofs.Tables.TableLemmas.{length-row_set}
 use Rattle.intmap_table.proofs.table.slots.Slots.push_and_grow.Goals as goal
-use Rattle.intmap_table.proofs.table.slots.Slots.push_and_grow.Goals.{In_ok-place}
+use Rattle.intmap_table.proofs.table.slots.Slots.push_and_grow.Goals.{In_ok-place, then-is_full, else-is_full}
 
 module _ (g : _) (c : In_ok-place g) where
   grown : IsGrown (length c.args.self.now) c.args.capacity
@@ -48,8 +48,12 @@ take_at-value-requires g c =
 pub returns-in_default-clause-err : goal.returns-in_default-clause-err
 returns-in_default-clause-err g c =
     let at = (goal.at.returns-in_default-clause-err g c).In_ok-place in
-    rows-taken_back c.args.self.now c.push.new.self c.grow.new.self c.take_at-value.new.self c.args.slot _ c.args.pair c.take_at-value.result
-    (within g at) (pushed g at) c.in_default.ensures.err c.in_ok-place.ensures.place c.take_at-value.ensures.value c.take_at-value.ensures.row
+    let back = rows-taken_back c.args.self.now c.push.new.self c.grow.new.self c.take_at-value.new.self c.args.slot _ c.args.pair c.take_at-value.result
+    (within g at) (pushed g at) c.in_default.ensures.err c.in_ok-place.ensures.place c.take_at-value.ensures.value c.take_at-value.ensures.row in
+    elim c.if-is_full.branch [
+      | then-is_full w ↦ ap rows w.self-is ∙ w.shrink.ensures ∙ back
+      | else-is_full w ↦ ap rows w.self-is ∙ back
+    ]
 
 pub returns-in_default-clause-value_returned : goal.returns-in_default-clause-value_returned
 returns-in_default-clause-value_returned g c =

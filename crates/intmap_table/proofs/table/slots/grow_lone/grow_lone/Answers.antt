@@ -28,7 +28,7 @@ move_lone_slots-requires-clause-ready g c =
     let at = (goal.at.move_lone_slots-requires-clause-ready g c).After-deref_mut in let grown = grown g at in let added = added g at in
     CanMoveOn-few _ _ _ _ (IsLonger-added _ _ _ grown added _ _ c.requires.directory _ c.requires.ready.table)
     (rw c.requires.directory.count (λ j past _. bare-added _ _ _ grown added j past))
-    (rw c.requires.directory.count (λ k lt. rw (row-added _ _ _ grown added k lt) (c.requires.few k)))
+    (rw c.requires.directory.count (λ k lt. rw (row-added _ _ _ grown added k lt) (c.requires.few k lt)))
 
 module _ (g : _) (c : After-move_lone_slots g) (len : length c.deref_mut.result.now ≡ c.args.capacity)
     (pairs : joined (rows c.deref_mut.result.now) ≡ joined (rows c.args.lone.now.items)) where

@@ -1,6 +1,4 @@
-use Rattle.std.proofs.Common.{◌≤◌, ◌<◌, ◌∷◌, ◌∙◌, ℕ, [], inl, inr, get_or, length, refl, arith}
-use Rattle.std.proofs.lemmas.List.{get_or_past}
-use Rattle.std.proofs.lemmas.Bool.{cases_lt}
+use Rattle.std.proofs.Common.{◌≤◌, ◌<◌, ◌∷◌, ◌∙◌, ℕ, [], get_or, length, refl, arith}
 use Rattle.intmap_table.specs.Tables.Slots.{rows}
 use Rattle.intmap_table.specs.Tables.Moves.{need}
 use Rattle.intmap_table.proofs.Tables.LeftLemmas.{AreSplit, AreSplit-rows, AreSplit-next, first-left}
@@ -36,9 +34,4 @@ loop-index-preserved g c =
     (rw (get_or-rows c.args.shared.now c.in-Some.index c.index-shared-index.result (within g at), ← c.index-shared-index.is) (c.fits_lone.ensures c.if-not-fits_lone.false))
 
 pub returns : goal.returns
-returns g c = λ _ i j.
-    let end = rw c.in-None.ensures.steps.0 at c.loop-index.invariant in
-    elim (cases_lt i (length (rows c.args.shared.now))) [
-      | inl lt ↦ end.done i lt refl j
-      | inr past ↦ rw (get_or_past (rows c.args.shared.now) i [] past) (omega arith)
-    ]
+returns g c = λ _ i j lt. (rw c.in-None.ensures.steps.0 at c.loop-index.invariant).done i (omega (arith, lt, length-rows c.args.shared.now)) refl j
