@@ -14,7 +14,7 @@
 // slots, pairs, fields and indices have the names of the sources. A name such as r12 is the optimiser's.
 //
 // Compilers: rattle-kit-13f logic dac8208d650f15bf; clang version 22.1.8
-// Sources: 01bb3fb9ed319cedba767f1ac438e2a99301a4553e2bb12b87e7b306cf353d56
+// Sources: 80592530a698eef6fbc353cc7af1fcbd104ec07b3c48a02958103c2f0cbc3b74
 //
 // SPDX-License-Identifier: MIT
 //
@@ -452,8 +452,7 @@ static ALIGNED void intmap_with_slots(char *result, uint64_t slots);
 static ALIGNED void grow_reserve_slots(char *result, char *slots, uint64_t capacity);
 static ALIGNED NOINLINE struct byte_address handle_make_first(void);
 static ALIGNED NOINLINE void intmap_add_growing(char *result, char *map, uint64_t len, uint64_t slot, uint64_t key, uint64_t value);
-static ALIGNED uint8_t slots_grow(char *map, uint64_t capacity, bool may_part);
-static ALIGNED uint8_t grow_lone_grow_lone(char *lone, char *directory, uint64_t capacity);
+static ALIGNED uint8_t slots_grow(char *map, uint64_t capacity, bool may_be_lone);
 static ALIGNED void grow_reserve_slots_2(char *result, char *slots, uint64_t capacity);
 static ALIGNED NOINLINE uint8_t slot_reserve_behind(char *slot, uint64_t count);
 static ALIGNED NOINLINE void place_move_several(char *bits, char *slots, uint64_t slots_len, uint64_t index, char *buffer);
@@ -848,21 +847,27 @@ static ALIGNED NOINLINE struct byte_address handle_make_first(void) {
 // Adds the pair of an absent key, if the new length exceeds the load factor, and returns where it is.
 // intmap::map::IntMap::add_growing, in crates/intmap/src/map/insert.rt
 static ALIGNED NOINLINE void intmap_add_growing(char *result, char *map, uint64_t len, uint64_t slot, uint64_t key, uint64_t value) {
-    uint64_t lone_len, r13, r0, r3_09, r31, r8_0, r2, hash, index, pair, rest_len, r1, r12_2, r12_3, rest_len_2, r6,
-        rest_len_3, rest_room, r33, r8, place, bits, r20, r8_2, bits_2, value_2, value_3, rest_len_4, value_4,
-        place_2, value_5, value_6, value_7, value_8, rest_len_5, r12_4, lone_len_2, lone_room, index_2, r2_2, r17_4,
-        r27, r9_2, shared_len, shared_room, index_3, next_index, index_4, rest_len_6, r17_2;
+    uint64_t lone_len, r13, r0, r3_09, r31, r8_0, r2, hash, index, pair, rest_len, r1, r12, r12_2, rest_len_2,
+        lone_len_2, index_2, r8, r8_2, bits, r20, place, bits_2, value_2, value_3, rest_len_3, value_4, place_2,
+        value_5, value_6, value_7, value_8, rest_len_4, r12_3, shared_len, r22, shared_room, r10_014, index_3, r32,
+        shared_len_2, shared_room_2, index_4, next_index, shared_len_3, words_len, bits_3, r6_2, r2_2, rest_len_5,
+        r4_2, r5_3, r5_4, r5_7, r5_8, r5_9, r5_11, r5_12, r5_14, index_5, r16, r20_2, r4_4, rest_len_6, r4_6,
+        lone_room, words_room, r33, bits_4, r60, r5_15, r5_16, r5_18, r27, r40, key_2, value_9, index_6, r16_2,
+        r20_3, rest_len_7, rest_len_8, r4_8, r4_9, rest_len_9, r17_2;
     u128 r10, r13_2, r187, r15, r18, r17;
-    bool r5, r0_2, r0_4, r0_5, r13_3;
-    char *slot_2, *pair_2, *slot_3, *pair_3, *r11, *slot_4, *slot_5, *shared, *slot_6, *shared_2, *r11_2, *slot_7,
-        *slot_8, *r11_4, *slot_9, *slot_10, *pair_4, *rest, *pair_5, *pair_6, *slot_11, *r8_3, *r10_472_0_ph102,
-        *r8_4, *lone, *slot_12, *r20_2, *r9, *r4, *r10_2, *r4_2, *r15_2, *shared_3, *slot_13;
-    uint8_t has_first, r3, has_pair, r12, has_pair_2, r17_3, has_pair_3, r69, has_pair_4, has_first_2, r5099, r50;
-    struct word_word block, r0_3, block_2, block_3, block_4, block_5;
-    struct byte_word r53, r53_2, r86;
+    bool r5, r1_0_in;
+    char *slot_2, *pair_2, *slot_3, *pair_3, *lone, *shared, *r11_2, *slot_4, *slot_5, *slot_6, *r11_3, *slot_7,
+        *slot_8, *pair_4, *rest, *pair_5, *pair_6, *slot_9, *r8_3, *r5_2, *shared_2, *slot_10, *shared_3, *slot_11,
+        *shared_4, *lone_2, *r6, *words, *r4, *r5_5, *r5_10, *r5_13, *r11_4, *shared_5, *slot_12, *r4_3, *rest_2,
+        *r10_2, *r4_5, *r15_2, *lone_3, *words_2, *r5_17, *slot_13, *r11_5, *slot_14, *rest_3, *r10_3, *r4_7, *r15_3;
+    uint8_t has_first, r3, has_pair, r24, r17_3, has_pair_2, r59, has_pair_3, has_first_2, has_pair_4;
+    struct byte_word r86;
+    struct word_word block, block_2;
     char *dangling = (char *)no_bytes;
-    uint64_t r11_3_room[2];
-    char *r11_3 = (char *)r11_3_room;
+    uint64_t r5_6_room[2];
+    char *r5_6 = (char *)r5_6_room;
+    uint64_t r11_room[4];
+    char *r11 = (char *)r11_room;
     lone_len = load64(map + INT_MAP_LONE_LEN);
     r13 = load64(map + INT_MAP_SHARED_LEN) + lone_len;
     r10 = u128_mul(u128_of(len), u128_of(1000u));
@@ -922,31 +927,35 @@ static ALIGNED NOINLINE void intmap_add_growing(char *result, char *map, uint64_
     r1 = rest_len;
     for (;;) {
         if (r1 == 0) {
-            r12 = slots_grow(map, r0, true);
-            if (r12 != 0) {
-                r12_2 = value;
-                r12_3 = 1;
+            r24 = slots_grow(map, r0, true);
+            if ((r24 & 1) != 0) {
+                r12 = value;
+                r12_2 = 1;
                 r17_2 = 0;
                 r17_3 = 0;
                 rest_len_2 = 0;
-                goto join_7_3;
+                goto join_7_4;
             }
-            r11 = load_address(map + INT_MAP_WORDS) + ((index >> 3) & UINT64_C(2305843009213693944));
-            store64(r11, load64(r11) | ((uint64_t)1 << (index & 63)));
-            if (index >= load64(map + INT_MAP_LONE_LEN)) {
-                slot_5 = load_address(map + INT_MAP_SHARED) + (index * SLOT_SIZE);
+            lone = load_address(map + INT_MAP_LONE);
+            lone_len_2 = load64(map + INT_MAP_LONE_LEN);
+            shared = load_address(map + INT_MAP_SHARED);
+            index_2 = ((lone_len_2 - 1) + load64(map + INT_MAP_SHARED_LEN)) & hash;
+            r11_2 = load_address(map + INT_MAP_WORDS) + ((index_2 >> 3) & UINT64_C(2305843009213693944));
+            store64(r11_2, ((uint64_t)1 << (index_2 & 63)) | load64(r11_2));
+            if (index_2 >= lone_len_2) {
+                slot_5 = shared + (index_2 * SLOT_SIZE);
                 store64(slot_5 + SLOT_HAS_FIRST, 1);
                 store64(slot_5 + SLOT_KEY, key);
                 store64(slot_5 + SLOT_VALUE, value);
-                goto arm_1_4;
+                goto arm_1_5;
             }
-            slot_4 = load_address(map + INT_MAP_LONE) + (index * LONE_SIZE);
+            slot_4 = lone + (index_2 * LONE_SIZE);
             has_pair_2 = load8(slot_4 + LONE_HAS_PAIR);
             store64(slot_4 + LONE_HAS_PAIR, 1);
             store64(slot_4 + LONE_KEY, key);
             store64(slot_4 + LONE_VALUE, value);
             if (has_pair_2 == 0) {
-                goto arm_1_4;
+                goto arm_1_5;
             }
             abort();
         }
@@ -958,285 +967,311 @@ static ALIGNED NOINLINE void intmap_add_growing(char *result, char *map, uint64_
     }
 join_3_2:;
     if (!r5) {
-        block_4 = rattle_alloc(16, 8);
-        if ((block_4.first & 1) == 0) {
-            r12_2 = value;
-            r12_3 = 1;
-            r17_2 = 0;
-            r17_3 = 0;
-            rest_len_2 = 0;
-            goto join_7_3;
-        }
-        r8_3 = (char *)(uintptr_t)block_4.second;
-        if (r0 != 0) {
-            if (r0 < UINT64_C(192153584101141163)) {
-                block_5 = rattle_alloc(r0 * 48, 8);
-                if ((block_5.first & 1) != 0) {
-                    r8_4 = (char *)(uintptr_t)block_5.second;
-                    r50 = grow_lone_grow_lone(map + INT_MAP_LONE, map, r0);
-                    if ((r50 & 1) != 0) {
-                        rattle_dealloc(r8_4);
-                        goto after_Vec_drop_3;
+        memset(r11, 0, 32);
+        block_2 = rattle_alloc(16, 8);
+        if ((block_2.first & 1) != 0) {
+            r8_3 = (char *)(uintptr_t)block_2.second;
+            grow_reserve_slots(r11, map + INT_MAP_SHARED, r0);
+            if (load8(r11) == 0) {
+                r5_2 = load_address(r11 + 8);
+                memcpy(r5_6, r11 + 16, 16);
+                shared_len = load64(map + INT_MAP_SHARED_LEN);
+                r22 = r0 - shared_len;
+                shared_2 = load_address(map + INT_MAP_SHARED);
+                shared_room = load64(map + INT_MAP_SHARED_ROOM);
+                store_address(map + INT_MAP_SHARED, dangling);
+                memset(map + INT_MAP_SHARED_LEN, 0, 16);
+                if (r0 == shared_len) {
+                    store_address(map + INT_MAP_SHARED, shared_2);
+                    store64(map + INT_MAP_SHARED_LEN, r0);
+                    store64(map + INT_MAP_SHARED_ROOM, shared_room);
+                } else {
+                    r10_014 = 0;
+                    index_3 = shared_len;
+                    for (;;) {
+                        slot_10 = shared_2 + (index_3 * SLOT_SIZE);
+                        memset(slot_10, 0, 24);
+                        store_address(slot_10 + SLOT_REST, dangling);
+                        memset(slot_10 + SLOT_REST_LEN, 0, 16);
+                        r32 = r10_014 + 1;
+                        if (r32 == r22) {
+                            shared_3 = load_address(map + INT_MAP_SHARED);
+                            shared_len_2 = load64(map + INT_MAP_SHARED_LEN);
+                            shared_room_2 = load64(map + INT_MAP_SHARED_ROOM);
+                            store_address(map + INT_MAP_SHARED, shared_2);
+                            store64(map + INT_MAP_SHARED_LEN, r0);
+                            store64(map + INT_MAP_SHARED_ROOM, shared_room);
+                            if (shared_len_2 != 0) {
+                                index_4 = 0;
+                                for (;;) {
+                                    slot_11 = shared_3 + (index_4 * SLOT_SIZE);
+                                    if (load64(slot_11 + SLOT_REST_ROOM) != 0) {
+                                        rattle_dealloc(load_address(slot_11 + SLOT_REST));
+                                    }
+                                    next_index = index_4 + 1;
+                                    if (next_index == shared_len_2) {
+                                        break;
+                                    }
+                                    index_4 = next_index;
+                                }
+                            }
+                            if (shared_room_2 == 0) {
+                                break;
+                            }
+                            rattle_dealloc(shared_3);
+                            break;
+                        }
+                        r10_014 = r32;
+                        index_3 = index_3 + 1;
                     }
-                    r10_472_0_ph102 = r8_4;
-                    goto join_11;
+                }
+                shared_4 = load_address(map + INT_MAP_SHARED);
+                shared_len_3 = load64(map + INT_MAP_SHARED_LEN);
+                lone_2 = load_address(map + INT_MAP_LONE);
+                words_len = load64(map + INT_MAP_WORDS_LEN);
+                if (words_len == 0) {
+                    bits_3 = 0;
+                    r6 = (char *)no_bytes;
+                    r6_2 = 0;
+                } else {
+                    words = load_address(map + INT_MAP_WORDS);
+                    bits_3 = load64(words);
+                    r6 = words + 8;
+                    r6_2 = words_len - 1;
+                }
+                r2_2 = shared_len_3 - 1;
+                r4 = r8_3;
+                rest_len_5 = 0;
+                r4_2 = 1;
+                r5_3 = bits_3;
+                r5_4 = 0;
+                r5_5 = r6;
+                r5_7 = r6_2;
+                for (;;) {
+                    r5_8 = r5_3;
+                    r5_9 = r5_4;
+                    r5_10 = r5_5;
+                    r5_11 = r5_7;
+                    for (;;) {
+                        if (r5_8 == 0) {
+                            r5_12 = r5_11;
+                            r5_13 = r5_10;
+                            r5_14 = r5_9;
+                            for (;;) {
+                                if (r5_12 == 0) {
+                                    index_5 = (load64(map + INT_MAP_SHARED_LEN) - 1) & hash;
+                                    r11_4 = r5_2 + ((index_5 >> 3) & UINT64_C(2305843009213693944));
+                                    r16 = load64(r11_4);
+                                    r20_2 = (uint64_t)1 << (index_5 & 63);
+                                    shared_5 = load_address(map + INT_MAP_SHARED);
+                                    store64(r11_4, r20_2 | r16);
+                                    slot_12 = shared_5 + (index_5 * SLOT_SIZE);
+                                    if ((r20_2 & r16) == 0) {
+                                        store64(slot_12 + SLOT_HAS_FIRST, 1);
+                                        store64(slot_12 + SLOT_KEY, key);
+                                        store64(slot_12 + SLOT_VALUE, value);
+                                        r4_3 = r4;
+                                        r4_4 = r4_2;
+                                    } else {
+                                        if (load64(slot_12 + SLOT_REST_ROOM) == 0) {
+                                            rest_2 = load_address(slot_12 + SLOT_REST);
+                                            store_address(slot_12 + SLOT_REST, r4);
+                                            store64(slot_12 + SLOT_REST_ROOM, r4_2);
+                                            r10_2 = r4;
+                                            rest_len_6 = rest_len_5;
+                                            r4_5 = rest_2;
+                                            r4_6 = 0;
+                                        } else {
+                                            r10_2 = load_address(slot_12 + SLOT_REST);
+                                            rest_len_6 = load64(slot_12 + SLOT_REST_LEN);
+                                            r4_5 = r4;
+                                            r4_6 = r4_2;
+                                        }
+                                        r15_2 = r10_2 + (rest_len_6 << 4);
+                                        store64(r15_2, key);
+                                        store64(r15_2 + 8, value);
+                                        store64(slot_12 + SLOT_REST_LEN, rest_len_6 + 1);
+                                        r4_3 = r4_5;
+                                        r4_4 = r4_6;
+                                    }
+                                    lone_3 = load_address(map + INT_MAP_LONE);
+                                    lone_room = load64(map + INT_MAP_LONE_ROOM);
+                                    store_address(map + INT_MAP_LONE, dangling);
+                                    memset(map + INT_MAP_LONE_LEN, 0, 16);
+                                    if (lone_room != 0) {
+                                        rattle_dealloc(lone_3);
+                                    }
+                                    words_2 = load_address(map + INT_MAP_WORDS);
+                                    words_room = load64(map + INT_MAP_WORDS_ROOM);
+                                    store64(map + INT_MAP_MASK, r2);
+                                    store_address(map + INT_MAP_WORDS, r5_2);
+                                    memcpy(map + INT_MAP_WORDS_LEN, r5_6, 16);
+                                    if (words_room != 0) {
+                                        rattle_dealloc(words_2);
+                                    }
+                                    if (r4_4 != 0) {
+                                        rattle_dealloc(r4_3);
+                                    }
+                                    goto arm_1_5;
+                                }
+                                r33 = r5_12 - 1;
+                                bits_4 = load64(r5_13);
+                                r60 = r5_14 + 64;
+                                if (bits_4 != 0) {
+                                    r5_15 = bits_4;
+                                    r5_16 = r60;
+                                    r5_17 = r5_13 + 8;
+                                    r5_18 = r33;
+                                    break;
+                                }
+                                r5_12 = r33;
+                                r5_13 = r5_13 + 8;
+                                r5_14 = r60;
+                            }
+                        } else {
+                            r5_15 = r5_8;
+                            r5_16 = r5_9;
+                            r5_17 = r5_10;
+                            r5_18 = r5_11;
+                        }
+                        r27 = low_zeros(r5_15);
+                        r40 = (r5_15 - 1) & r5_15;
+                        slot_13 = lone_2 + ((r5_16 + r27) * LONE_SIZE);
+                        key_2 = load_key(slot_13 + LONE_KEY);
+                        value_9 = load64(slot_13 + LONE_VALUE);
+                        has_pair_4 = load8(slot_13 + LONE_HAS_PAIR);
+                        memset(slot_13, 0, 24);
+                        if (has_pair_4 != 1) {
+                            abort();
+                        }
+                        index_6 = (key_2 * MULTIPLIER) & r2_2;
+                        r11_5 = r5_2 + ((index_6 >> 3) & UINT64_C(2305843009213693944));
+                        r16_2 = load64(r11_5);
+                        r20_3 = (uint64_t)1 << (index_6 & 63);
+                        store64(r11_5, r16_2 | r20_3);
+                        slot_14 = shared_4 + (index_6 * SLOT_SIZE);
+                        if ((r16_2 & r20_3) != 0) {
+                            if (load64(slot_14 + SLOT_REST_ROOM) == 0) {
+                                rest_3 = load_address(slot_14 + SLOT_REST);
+                                rest_len_7 = load64(slot_14 + SLOT_REST_LEN);
+                                store_address(slot_14 + SLOT_REST, r4);
+                                store64(slot_14 + SLOT_REST_ROOM, r4_2);
+                                r10_3 = r4;
+                                rest_len_8 = rest_len_5;
+                                r4_7 = rest_3;
+                                r4_8 = rest_len_7;
+                                r4_9 = 0;
+                            } else {
+                                r10_3 = load_address(slot_14 + SLOT_REST);
+                                rest_len_8 = load64(slot_14 + SLOT_REST_LEN);
+                                r4_7 = r4;
+                                r4_8 = rest_len_5;
+                                r4_9 = r4_2;
+                            }
+                            r15_3 = r10_3 + (rest_len_8 << 4);
+                            store64(r15_3, key_2);
+                            store64(r15_3 + 8, value_9);
+                            store64(slot_14 + SLOT_REST_LEN, rest_len_8 + 1);
+                            r4 = r4_7;
+                            rest_len_5 = r4_8;
+                            r4_2 = r4_9;
+                            r5_3 = r40;
+                            r5_4 = r5_16;
+                            r5_5 = r5_17;
+                            r5_7 = r5_18;
+                            break;
+                        }
+                        store64(slot_14 + SLOT_HAS_FIRST, 1);
+                        store64(slot_14 + SLOT_KEY, key_2);
+                        store64(slot_14 + SLOT_VALUE, value_9);
+                        r5_8 = r40;
+                        r5_9 = r5_16;
+                        r5_10 = r5_17;
+                        r5_11 = r5_18;
+                    }
                 }
             }
             rattle_dealloc(r8_3);
-            r12_2 = value;
-            r12_3 = 1;
+        }
+        r12 = value;
+        r12_2 = 1;
+        r17_2 = 0;
+        r17_3 = 0;
+        rest_len_2 = 0;
+        goto join_7_4;
+    }
+    r8 = slot * SLOT_SIZE;
+    slot_6 = load_address(map + INT_MAP_SHARED) + r8;
+    if ((load8(slot_6 + SLOT_HAS_FIRST) & 1) != 0) {
+        r1_0_in = load64(slot_6 + SLOT_REST_LEN) == load64(slot_6 + SLOT_REST_ROOM);
+    } else {
+        r1_0_in = false;
+    }
+    r8_2 = (slot >> 3) & UINT64_C(2305843009213693944);
+    r11_3 = load_address(map + INT_MAP_WORDS) + r8_2;
+    bits = load64(r11_3);
+    r20 = (uint64_t)1 << (slot & 63);
+    store64(r11_3, bits | r20);
+    if ((bits & r20) == 0) {
+        store64(slot_6 + SLOT_HAS_FIRST, 1);
+        store64(slot_6 + SLOT_KEY, key);
+        store64(slot_6 + SLOT_VALUE, value);
+        place = 0;
+    } else {
+        r86 = slot_push(slot_6, key, value);
+        if (r86.first != 0) {
+            r12 = r86.second;
+            r12_2 = 1;
             r17_2 = 0;
             r17_3 = 0;
             rest_len_2 = 0;
-            goto join_7_3;
+            goto join_7_4;
         }
-        r5099 = grow_lone_grow_lone(map + INT_MAP_LONE, map, 0);
-        if ((r5099 & 1) != 0) {
-            goto after_Vec_drop_3;
-        }
-        r10_472_0_ph102 = dangling;
-    join_11:;
-        lone = load_address(map + INT_MAP_LONE);
-        lone_len_2 = load64(map + INT_MAP_LONE_LEN);
-        lone_room = load64(map + INT_MAP_LONE_ROOM);
-        store_address(map + INT_MAP_LONE, dangling);
-        memset(map + INT_MAP_LONE_LEN, 0, 16);
-        if (lone_len_2 != 0) {
-            index_2 = 0;
-            r2_2 = lone_len_2;
-            for (;;) {
-                r17_4 = r2_2 - 1;
-                slot_12 = lone + (index_2 * LONE_SIZE);
-                r27 = (uint64_t)load8(slot_12 + LONE_HAS_PAIR);
-                memcpy(r11_3, slot_12 + LONE_KEY, 16);
-                r20_2 = r10_472_0_ph102 + (index_2 * 48);
-                store64(r20_2, r27);
-                memcpy(r20_2 + 8, r11_3, 16);
-                store_address(r20_2 + 24, dangling);
-                memset(r20_2 + 32, 0, 16);
-                if (r17_4 == 0) {
-                    break;
-                }
-                index_2 = index_2 + 1;
-                r2_2 = r17_4;
-            }
-        }
-        if (lone_room != 0) {
-            rattle_dealloc(lone);
-        }
-        r9 = r10_472_0_ph102 + (index * 48);
-        r13_3 = load64(r9 + 40) == 0;
-        if (r13_3) {
-            r4 = load_address(r9 + 24);
-            store_address(r9 + 24, r8_3);
-            store64(r9 + 40, 1);
-            r10_2 = r8_3;
-            r9_2 = 0;
-            r4_2 = r4;
-        } else {
-            r10_2 = load_address(r9 + 24);
-            r9_2 = load64(r9 + 32);
-            r4_2 = r8_3;
-        }
-        r15_2 = r10_2 + (r9_2 << 4);
-        store64(r15_2, key);
-        store64(r15_2 + 8, value);
-        store64(r9 + 32, r9_2 + 1);
-        shared_3 = load_address(map + INT_MAP_SHARED);
-        shared_len = load64(map + INT_MAP_SHARED_LEN);
-        shared_room = load64(map + INT_MAP_SHARED_ROOM);
-        store_address(map + INT_MAP_SHARED, r10_472_0_ph102);
-        store64(map + INT_MAP_SHARED_LEN, lone_len_2);
-        store64(map + INT_MAP_SHARED_ROOM, r0);
-        if (shared_len != 0) {
-            index_3 = 0;
-            for (;;) {
-                slot_13 = shared_3 + (index_3 * SLOT_SIZE);
-                if (load64(slot_13 + SLOT_REST_ROOM) != 0) {
-                    rattle_dealloc(load_address(slot_13 + SLOT_REST));
-                }
-                next_index = index_3 + 1;
-                if (next_index == shared_len) {
-                    break;
-                }
-                index_3 = next_index;
-            }
-        }
-        if (shared_room != 0) {
-            rattle_dealloc(shared_3);
-        }
-        if (r13_3) {
-            goto arm_1_4;
-        }
-        rattle_dealloc(r4_2);
-        goto arm_1_4;
-    after_Vec_drop_3:;
-        rattle_dealloc(r8_3);
-        r12_2 = value;
-        r12_3 = 1;
-        r17_2 = 0;
-        r17_3 = 0;
-        rest_len_2 = 0;
-        goto join_7_3;
+        place = r86.second;
     }
-    shared = load_address(map + INT_MAP_SHARED);
-    r6 = slot * SLOT_SIZE;
-    slot_6 = shared + r6;
-    if (load8(slot_6 + SLOT_HAS_FIRST) == 1) {
-        rest_len_3 = load64(slot_6 + SLOT_REST_LEN);
-        rest_room = load64(slot_6 + SLOT_REST_ROOM);
-        if (rest_len_3 < rest_room) {
-            shared_2 = shared;
-            r0_2 = false;
-        } else {
-            if (rest_room == rest_len_3) {
-                if (rest_len_3 == UINT64_C(18446744073709551615)) {
-                    r12_2 = value;
-                    r12_3 = 1;
-                    r17_2 = 0;
-                    r17_3 = 0;
-                    rest_len_2 = 0;
-                    goto join_7_3;
-                }
-                r33 = rest_len_3 + 1;
-                if (rest_len_3 >= UINT64_C(576460752303423487)) {
-                    r12_2 = value;
-                    r12_3 = 1;
-                    r17_2 = 0;
-                    r17_3 = 0;
-                    rest_len_2 = 0;
-                    goto join_7_3;
-                }
-                if (rest_len_3 == 0) {
-                    block = rattle_alloc(16, 8);
-                    if ((block.first & 1) == 0) {
-                        r12_2 = value;
-                        r12_3 = 1;
-                        r17_2 = 0;
-                        r17_3 = 0;
-                        rest_len_2 = 0;
-                        goto join_7_3;
-                    }
-                    r0_3 = block;
-                } else {
-                    block_2 = rattle_realloc(load_address(slot_6 + SLOT_REST), rest_len_3 << 4, r33 << 4, 8);
-                    if ((block_2.first & 1) == 0) {
-                        r12_2 = value;
-                        r12_3 = 1;
-                        r17_2 = 0;
-                        r17_3 = 0;
-                        rest_len_2 = 0;
-                        goto join_7_3;
-                    }
-                    r0_3 = block_2;
-                }
-                store_address(slot_6 + SLOT_REST, (char *)(uintptr_t)r0_3.second);
-                store64(slot_6 + SLOT_REST_ROOM, r33);
-                if (slot < load64(map + INT_MAP_LONE_LEN)) {
-                    r8 = slot * LONE_SIZE;
-                    if ((load8((load_address(map + INT_MAP_LONE) + r8) + LONE_HAS_PAIR) & 1) != 0) {
-                        r53 = slots_push_second(map, slot, key, value);
-                        r0_4 = true;
-                        r53_2 = r53;
-                        goto after_Slots_push;
-                    }
-                    r11_2 = load_address(map + INT_MAP_WORDS) + ((slot >> 3) & UINT64_C(2305843009213693944));
-                    store64(r11_2, load64(r11_2) | ((uint64_t)1 << (slot & 63)));
-                    slot_7 = load_address(map + INT_MAP_LONE) + r8;
-                    has_pair_3 = load8(slot_7 + LONE_HAS_PAIR);
-                    store64(slot_7 + LONE_HAS_PAIR, 1);
-                    store64(slot_7 + LONE_KEY, key);
-                    store64(slot_7 + LONE_VALUE, value);
-                    if (has_pair_3 != 0) {
-                        abort();
-                    }
-                    r0_5 = true;
-                    place = 0;
-                    goto arm_6_2;
-                }
-                shared_2 = load_address(map + INT_MAP_SHARED);
-                r0_2 = true;
-            } else {
-                shared_2 = shared;
-                r0_2 = true;
-            }
-        }
-    } else {
-        shared_2 = shared;
-        r0_2 = false;
-    }
-    slot_8 = shared_2 + r6;
-    r11_4 = load_address(map + INT_MAP_WORDS) + ((slot >> 3) & UINT64_C(2305843009213693944));
-    bits = load64(r11_4);
-    r20 = (uint64_t)1 << (slot & 63);
-    store64(r11_4, bits | r20);
-    if ((bits & r20) == 0) {
-        store64(slot_8 + SLOT_HAS_FIRST, 1);
-        store64(slot_8 + SLOT_KEY, key);
-        store64(slot_8 + SLOT_VALUE, value);
-        r0_5 = r0_2;
-        place = 0;
-        goto arm_6_2;
-    }
-    r86 = slot_push(slot_8, key, value);
-    r0_4 = r0_2;
-    r53_2 = r86;
-after_Slots_push:;
-    if (r53_2.first != 0) {
-        r12_2 = r53_2.second;
-        r12_3 = 1;
-        r17_2 = 0;
-        r17_3 = 0;
-        rest_len_2 = 0;
-        goto join_7_3;
-    }
-    r0_5 = r0_4;
-    place = r53_2.second;
-arm_6_2:;
-    r69 = slots_grow(map, r0, false);
-    if (r69 != 0) {
-        r8_2 = (slot >> 3) & UINT64_C(2305843009213693944);
+    r59 = slots_grow(map, r0, false);
+    if ((r59 & 1) != 0) {
         bits_2 = load64(load_address(map + INT_MAP_WORDS) + r8_2);
         if (slot < load64(map + INT_MAP_LONE_LEN)) {
-            slot_9 = load_address(map + INT_MAP_LONE) + (slot * LONE_SIZE);
-            value_2 = load64(slot_9 + LONE_VALUE);
-            has_pair_4 = load8(slot_9 + LONE_HAS_PAIR);
-            memset(slot_9, 0, 24);
-            if (has_pair_4 != 1) {
+            slot_7 = load_address(map + INT_MAP_LONE) + (slot * LONE_SIZE);
+            value_2 = load64(slot_7 + LONE_VALUE);
+            has_pair_3 = load8(slot_7 + LONE_HAS_PAIR);
+            memset(slot_7, 0, 24);
+            if (has_pair_3 != 1) {
                 abort();
             }
-            store64(load_address(map + INT_MAP_WORDS) + r8_2, bits_2 & (((uint64_t)1 << (slot & 63)) ^ UINT64_C(18446744073709551615)));
+            store64(load_address(map + INT_MAP_WORDS) + r8_2, bits_2 & (r20 ^ UINT64_C(18446744073709551615)));
             value_3 = value_2;
         } else {
-            slot_10 = load_address(map + INT_MAP_SHARED) + r6;
-            rest_len_4 = load64(slot_10 + SLOT_REST_LEN);
-            if (rest_len_4 == 0) {
-                value_4 = load64(slot_10 + SLOT_VALUE);
-                has_first_2 = load8(slot_10 + SLOT_HAS_FIRST);
-                memset(slot_10, 0, 24);
+            slot_8 = load_address(map + INT_MAP_SHARED) + r8;
+            rest_len_3 = load64(slot_8 + SLOT_REST_LEN);
+            if (rest_len_3 == 0) {
+                value_4 = load64(slot_8 + SLOT_VALUE);
+                has_first_2 = load8(slot_8 + SLOT_HAS_FIRST);
+                memset(slot_8, 0, 24);
                 if (has_first_2 == 1) {
-                    store64(load_address(map + INT_MAP_WORDS) + r8_2, bits_2 & (((uint64_t)1 << (slot & 63)) ^ UINT64_C(18446744073709551615)));
+                    store64(load_address(map + INT_MAP_WORDS) + r8_2, bits_2 & (r20 ^ UINT64_C(18446744073709551615)));
                     value_3 = value_4;
                     goto after_Slots_take_at;
                 }
             }
-            place_2 = rest_len_4 - 1;
-            store64(slot_10 + SLOT_REST_LEN, place_2);
+            place_2 = rest_len_3 - 1;
+            store64(slot_8 + SLOT_REST_LEN, place_2);
             if (place == 0) {
-                if (load8(slot_10 + SLOT_HAS_FIRST) != 1) {
+                if (load8(slot_8 + SLOT_HAS_FIRST) != 1) {
                     abort();
                 }
-                pair_4 = load_address(slot_10 + SLOT_REST) + (place_2 << 4);
+                pair_4 = load_address(slot_8 + SLOT_REST) + (place_2 << 4);
                 value_5 = load64(pair_4 + PAIR_VALUE);
-                value_6 = load64(slot_10 + SLOT_VALUE);
-                store64(slot_10 + SLOT_KEY, load64(pair_4 + PAIR_KEY));
-                store64(slot_10 + SLOT_VALUE, value_5);
+                value_6 = load64(slot_8 + SLOT_VALUE);
+                store64(slot_8 + SLOT_KEY, load64(pair_4 + PAIR_KEY));
+                store64(slot_8 + SLOT_VALUE, value_5);
                 value_3 = value_6;
             } else {
-                rest = load_address(slot_10 + SLOT_REST);
+                rest = load_address(slot_8 + SLOT_REST);
                 pair_5 = rest + (place_2 << 4);
                 value_7 = load64(pair_5 + PAIR_VALUE);
-                if (place == rest_len_4) {
+                if (place == rest_len_3) {
                     value_3 = value_7;
                 } else {
                     pair_6 = rest + (place << 4);
@@ -1248,82 +1283,81 @@ arm_6_2:;
             }
         }
     after_Slots_take_at:;
-        if (!r0_5) {
-            r12_2 = value_3;
-            r12_3 = 1;
+        if (!r1_0_in) {
+            r12 = value_3;
+            r12_2 = 1;
             r17_2 = 0;
             r17_3 = 0;
             rest_len_2 = 0;
-            goto join_7_3;
+            goto join_7_4;
         }
         if (load64(map + INT_MAP_LONE_LEN) > slot) {
-            r12_2 = value_3;
-            r12_3 = 1;
+            r12 = value_3;
+            r12_2 = 1;
             r17_2 = 0;
             r17_3 = 0;
             rest_len_2 = 0;
-            goto join_7_3;
+            goto join_7_4;
         }
-        slot_11 = load_address(map + INT_MAP_SHARED) + r6;
-        rest_len_5 = load64(slot_11 + SLOT_REST_LEN);
-        if (load64(slot_11 + SLOT_REST_ROOM) <= rest_len_5) {
-            r12_2 = value_3;
-            r12_3 = 1;
+        slot_9 = load_address(map + INT_MAP_SHARED) + r8;
+        rest_len_4 = load64(slot_9 + SLOT_REST_LEN);
+        if (load64(slot_9 + SLOT_REST_ROOM) <= rest_len_4) {
+            r12 = value_3;
+            r12_2 = 1;
             r17_2 = 0;
             r17_3 = 0;
             rest_len_2 = 0;
-            goto join_7_3;
+            goto join_7_4;
         }
-        if (rest_len_5 == 0) {
-            rattle_dealloc(load_address(slot_11 + SLOT_REST));
-            store_address(slot_11 + SLOT_REST, dangling);
-            memset(slot_11 + SLOT_REST_LEN, 0, 16);
-            r12_2 = value_3;
-            r12_3 = 1;
+        if (rest_len_4 == 0) {
+            rattle_dealloc(load_address(slot_9 + SLOT_REST));
+            store_address(slot_9 + SLOT_REST, dangling);
+            memset(slot_9 + SLOT_REST_LEN, 0, 16);
+            r12 = value_3;
+            r12_2 = 1;
             r17_2 = 0;
             r17_3 = 0;
             rest_len_2 = 0;
-            goto join_7_3;
+            goto join_7_4;
         }
-        r12_4 = rest_len_5 << 4;
-        block_3 = rattle_realloc(load_address(slot_11 + SLOT_REST), r12_4, r12_4, 8);
-        if ((block_3.first & 1) == 0) {
-            r12_2 = value_3;
-            r12_3 = 1;
+        r12_3 = rest_len_4 << 4;
+        block = rattle_realloc(load_address(slot_9 + SLOT_REST), r12_3, r12_3, 8);
+        if ((block.first & 1) == 0) {
+            r12 = value_3;
+            r12_2 = 1;
             r17_2 = 0;
             r17_3 = 0;
             rest_len_2 = 0;
-            goto join_7_3;
+            goto join_7_4;
         }
-        store_address(slot_11 + SLOT_REST, (char *)(uintptr_t)block_3.second);
-        store64(slot_11 + SLOT_REST_ROOM, rest_len_5);
-        r12_2 = value_3;
-        r12_3 = 1;
+        store_address(slot_9 + SLOT_REST, (char *)(uintptr_t)block.second);
+        store64(slot_9 + SLOT_REST_ROOM, rest_len_4);
+        r12 = value_3;
+        r12_2 = 1;
         r17_2 = 0;
         r17_3 = 0;
         rest_len_2 = 0;
-        goto join_7_3;
+        goto join_7_4;
     }
-arm_1_4:;
-    index_4 = load64(map + INT_MAP_MASK) & hash;
-    if (index_4 < load64(map + INT_MAP_LONE_LEN)) {
-        if (load8((load_address(map + INT_MAP_LONE) + (index_4 * LONE_SIZE)) + LONE_HAS_PAIR) != 1) {
+arm_1_5:;
+    if (index < load64(map + INT_MAP_LONE_LEN)) {
+        if (load8((load_address(map + INT_MAP_LONE) + (index * LONE_SIZE)) + LONE_HAS_PAIR) != 1) {
             abort();
         }
-        rest_len_6 = 0;
+        rest_len_9 = 0;
     } else {
-        rest_len_6 = load64((load_address(map + INT_MAP_SHARED) + (index_4 * SLOT_SIZE)) + SLOT_REST_LEN);
+        rest_len_9 = load64((load_address(map + INT_MAP_SHARED) + (index * SLOT_SIZE)) + SLOT_REST_LEN);
     }
     store64(map + INT_MAP_LEN, len);
     store64(map + INT_MAP_THRESHOLD, r8_0);
-    r12_2 = key;
-    r12_3 = 0;
-    r17_2 = (uint64_t)((index_4 >> 8) & UINT64_C(72057594037927935));
-    r17_3 = (uint8_t)index_4;
-    rest_len_2 = rest_len_6;
-join_7_3:;
-    store64(result, r12_3);
-    store64(result + 8, r12_2);
+    r12 = key;
+    r12_2 = 0;
+    r17_2 = (uint64_t)((index >> 8) & UINT64_C(72057594037927935));
+    r17_3 = (uint8_t)index;
+    rest_len_2 = rest_len_9;
+join_7_4:;
+    store64(result, r12_2);
+    store64(result + 8, r12);
     store8(result + 16, r17_3);
     store_bytes(result + 17, r17_2, 7);
     store64(result + 24, rest_len_2);
@@ -1331,726 +1365,853 @@ join_7_3:;
 
 // Moves all pairs, in the order of the walk, to their slots among `capacity` slots.
 // intmap_table::table::slots::Slots::grow, in crates/intmap_table/src/table/slots/grow.rt
-static ALIGNED uint8_t slots_grow(char *map, uint64_t capacity, bool may_part) {
-    char *shared, *slot, *rest, *r6, *lone, *lone_2, *lone_3, *shared_2, *shared_3, *slot_2, *rest_2, *pair, *pair_2,
-        *r11, *slot_3, *shared_4, *slot_4, *words, *r1_2, *r8, *r8_3, *shared_5, *slot_5, *shared_6, *slot_6,
-        *shared_7, *r6_2, *words_2, *r56, *r8_6, *r8_9, *r13_2, *shared_8, *r6_4, *words_3, *r3_4, *r3_7, *words_4,
-        *r3_11, *slot_7, *slot_8, *r11_2, *r8_13, *slot_9, *rest_3, *r20_3, *r20_4, *shared_9, *slot_10;
-    uint64_t shared_len, r2, index, rest_len, next_index, lone_len, lone_room, lone_room_2, shared_len_2,
-        shared_room, shared_room_2, r2_2, index_2, rest_len_2, key, value, key_2, value_2, rest_room, key_3, value_3,
-        r28, place, place_2, r13, next_place, r36, r20, place_3, r20_2, key_4, value_4, index_3, next_index_2,
-        shared_len_3, shared_room_3, index_4, next_index_3, words_room, r1_3, shared_len_4, r32, shared_len_5, r8_2,
-        r19, r3, shared_len_6, r12_2, r22_2, shared_room_4, r10_014, index_5, r32_2, shared_len_7, shared_room_5,
-        index_6, next_index_4, words_len, bits, r6_3, r28_2, x17, r8_4, r8_5, r8_7, r6_0, r8_8, r8_10, shared_len_8,
-        words_len_2, bits_2, r6_5, r2_3, r3_2, r3_3, r3_5, r3_6, r3_8, words_room_2, r33, bits_3, r60, r3_9, r3_10,
-        r3_12, r27, index_7, r40, key_5, value_5, index_8, r33_2, bits_4, r60_2, r8_11, r8_12, r8_14, r27_2, index_9,
-        r40_2, rest_len_3, r76, rest_len_4, r2_4, place_4, next_place_2, r89, r6_07, r38, r73, spec_select,
-        shared_len_9, shared_room_6, index_10, next_index_5, shared_len_10, r12_3;
-    uint8_t r1, has_pair, has_first, r64, r59;
-    bool r12, r21, r317, r5_08, r41, r5_1;
+static ALIGNED uint8_t slots_grow(char *map, uint64_t capacity, bool may_be_lone) {
+    char *shared, *r6, *words, *r4_4, *r4_7, *r6_3, *lone, *lone_2, *lone_3, *shared_2, *r6_5, *words_2, *r6_9,
+        *r6_12, *shared_3, *slot, *words_3, *r6_16, *slot_2, *rest, *pair, *pair_2, *r11, *r69, *r10, *r15, *slot_3,
+        *r4_11, *slot_4, *rest_2, *r1_2, *r8_4, *r8_6, *shared_4, *slot_5, *shared_5, *slot_6, *shared_6, *r6_18,
+        *words_4, *r56, *r8_9, *r8_12, *r13_2, *shared_7, *r6_20, *words_5, *r3_4, *r3_7, *words_6, *r3_11, *slot_7,
+        *r11_2, *slot_8, *r8_16, *slot_9, *rest_3, *r20_4, *r20_5, *shared_8, *slot_10, *r6_22, *lone_4, *lone_5,
+        *lone_6, *r6_24, *words_7, *r4_15, *r4_18, *words_8, *r4_22, *slot_11, *r11_3, *r69_2, *r10_2, *r15_2,
+        *slot_12;
+    uint64_t words_len, bits, r6_2, r2, r4_2, r4_3, r4_5, r4_6, r4_8, lone_len, lone_room, r6_4, lone_room_2,
+        words_len_2, bits_2, r6_6, r2_2, r6_7, r6_8, r6_10, r6_11, r6_13, shared_len, shared_room, index, next_index,
+        words_room, r33, bits_3, r60, r6_14, r6_15, r6_17, r27, r40, rest_len, key, value, key_2, value_2, rest_room,
+        key_3, value_3, r28, place, place_2, r13, next_place, r36, r20, place_3, r20_2, key_4, value_4, index_2, r16,
+        r20_3, r9, r33_2, bits_4, r60_2, r4_9, r4_10, r4_12, r27_2, r40_2, rest_len_2, r1_3, shared_len_2, r32,
+        shared_len_3, r8_5, r19, r3, shared_len_4, r12_2, r22, shared_room_2, r10_014, index_3, r32_2, shared_len_5,
+        shared_room_3, index_4, next_index_2, words_len_3, bits_5, r6_19, r28_2, x26, r8_7, r8_8, r8_10, r6_0, r8_11,
+        r8_13, shared_len_6, words_len_4, bits_6, r6_21, r2_3, r3_2, r3_3, r3_5, r3_6, r3_8, words_room_2, r33_3,
+        bits_7, r60_3, r3_9, r3_10, r3_12, r27_3, index_5, r40_3, key_5, value_5, index_6, r33_4, bits_8, r60_4,
+        r8_14, r8_15, r8_17, r27_4, index_7, r40_4, rest_len_3, r76, rest_len_4, r2_4, place_4, next_place_2, r89,
+        r6_07, r38, r73, spec_select, shared_len_7, shared_room_4, index_8, next_index_3, shared_len_8, r12_3,
+        lone_len_2, lone_room_3, r6_23, lone_room_4, words_len_5, bits_9, r6_25, r2_5, r4_13, r4_14, r4_16, r4_17,
+        r4_19, words_room_3, r33_5, bits_10, r60_5, r4_20, r4_21, r4_23, r27_5, r40_5, key_6, value_6, index_9,
+        r16_2, r20_6, r9_2;
+    uint8_t r1, has_pair, r0, has_first, r64, r1_4, has_pair_2, has_pair_3;
+    bool r51, r12, r21, r317, r5_08, r41, r5_1, r51_2;
     struct word_word block, block_2, block_3, block_4;
     char *dangling = (char *)no_bytes;
-    uint64_t r5_room[4];
-    char *r5 = (char *)r5_room;
     uint64_t r4_room[3];
     char *r4 = (char *)r4_room;
-    uint64_t r22_room[4];
-    char *r22 = (char *)r22_room;
-    memset(r4, 0, 24);
-    memset(r22, 0, 32);
+    uint64_t r8_room[4];
+    char *r8 = (char *)r8_room;
+    uint64_t r8_2_room[4];
+    char *r8_2 = (char *)r8_2_room;
+    uint64_t r8_3_room[4];
+    char *r8_3 = (char *)r8_3_room;
     if (load64(map + INT_MAP_LONE_LEN) != 0) {
-        r59 = grow_lone_grow_lone(map + INT_MAP_LONE, map, capacity);
-        return r59;
-    }
-    shared = load_address(map + INT_MAP_SHARED);
-    shared_len = load64(map + INT_MAP_SHARED_LEN);
-    if ((capacity > 15) & may_part) {
-        r2 = capacity - 1;
-        if (shared_len != 0) {
-            index = 0;
-            for (;;) {
-                slot = shared + (index * SLOT_SIZE);
-                rest = load_address(slot + SLOT_REST);
-                rest_len = load64(slot + SLOT_REST_LEN);
-                if (rest_len != 0) {
-                    if (!((rest_len == 1) & (load8(slot + SLOT_HAS_FIRST) == 1))) {
-                        goto join_7;
-                    }
-                    if ((((load64(rest + PAIR_KEY) * MULTIPLIER) ^ (load64(slot + SLOT_KEY) * MULTIPLIER)) & r2) == 0) {
-                        goto join_7;
-                    }
-                }
-                next_index = index + 1;
-                if (next_index == shared_len) {
-                    break;
-                }
-                index = next_index;
-            }
-        }
-        memset(r5, 0, 32);
-        grow_reserve_slots_2(r5, map + INT_MAP_LONE, capacity);
-        r1 = load8(r5);
-        if (r1 == 0) {
-            r6 = load_address(r5 + 8);
-            lone_len = load64(map + INT_MAP_LONE_LEN);
-            lone = load_address(map + INT_MAP_LONE);
-            lone_room = load64(map + INT_MAP_LONE_ROOM);
+        memset(r8_3, 0, 32);
+        grow_reserve_slots_2(r8_3, map + INT_MAP_LONE, capacity);
+        r1_4 = load8(r8_3);
+        if (r1_4 == 0) {
+            r6_22 = load_address(r8_3 + 8);
+            lone_len_2 = load64(map + INT_MAP_LONE_LEN);
+            lone_4 = load_address(map + INT_MAP_LONE);
+            lone_room_3 = load64(map + INT_MAP_LONE_ROOM);
             store_address(map + INT_MAP_LONE, dangling);
             memset(map + INT_MAP_LONE_LEN, 0, 16);
-            if (capacity == lone_len) {
-                store_address(map + INT_MAP_LONE, lone);
+            if (capacity == lone_len_2) {
+                store_address(map + INT_MAP_LONE, lone_4);
                 store64(map + INT_MAP_LONE_LEN, capacity);
-                store64(map + INT_MAP_LONE_ROOM, lone_room);
-                lone_2 = lone;
+                store64(map + INT_MAP_LONE_ROOM, lone_room_3);
+                lone_5 = lone_4;
+                r6_23 = capacity;
             } else {
-                memset(lone + (lone_len * LONE_SIZE), 0, (capacity - lone_len) * 24);
-                lone_3 = load_address(map + INT_MAP_LONE);
-                lone_room_2 = load64(map + INT_MAP_LONE_ROOM);
-                store_address(map + INT_MAP_LONE, lone);
+                memset(lone_4 + (lone_len_2 * LONE_SIZE), 0, (capacity - lone_len_2) * 24);
+                lone_6 = load_address(map + INT_MAP_LONE);
+                lone_room_4 = load64(map + INT_MAP_LONE_ROOM);
+                store_address(map + INT_MAP_LONE, lone_4);
                 store64(map + INT_MAP_LONE_LEN, capacity);
-                store64(map + INT_MAP_LONE_ROOM, lone_room);
-                if (lone_room_2 == 0) {
-                    lone_2 = lone;
+                store64(map + INT_MAP_LONE_ROOM, lone_room_3);
+                if (lone_room_4 == 0) {
+                    lone_5 = lone_4;
+                    r6_23 = capacity;
                 } else {
-                    rattle_dealloc(lone_3);
-                    lone_2 = load_address(map + INT_MAP_LONE);
+                    rattle_dealloc(lone_6);
+                    lone_5 = load_address(map + INT_MAP_LONE);
+                    r6_23 = load64(map + INT_MAP_LONE_LEN);
                 }
             }
-            shared_2 = load_address(map + INT_MAP_SHARED);
-            shared_len_2 = load64(map + INT_MAP_SHARED_LEN);
-            if (shared_len_2 != 0) {
-                r2_2 = load64(map + INT_MAP_LONE_LEN) - 1;
-                index_2 = 0;
-                for (;;) {
-                    slot_2 = shared_2 + (index_2 * SLOT_SIZE);
+            words_len_5 = load64(map + INT_MAP_WORDS_LEN);
+            if (words_len_5 == 0) {
+                bits_9 = 0;
+                r6_24 = (char *)no_bytes;
+                r6_25 = 0;
+            } else {
+                words_7 = load_address(map + INT_MAP_WORDS);
+                bits_9 = load64(words_7);
+                r6_24 = words_7 + 8;
+                r6_25 = words_len_5 - 1;
+            }
+            r2_5 = r6_23 - 1;
+            r51_2 = r6_23 == 0;
+            r4_13 = bits_9;
+            r4_14 = 0;
+            r4_15 = r6_24;
+            r4_16 = r6_25;
+            for (;;) {
+                if (r4_13 == 0) {
+                    r4_17 = r4_16;
+                    r4_18 = r4_15;
+                    r4_19 = r4_14;
                     for (;;) {
-                        if ((load8(slot_2 + SLOT_HAS_FIRST) & 1) == 0) {
-                            next_index_2 = index_2 + 1;
-                            if (next_index_2 != shared_len_2) {
-                                index_2 = next_index_2;
-                                break;
+                        if (r4_17 == 0) {
+                            words_8 = load_address(map + INT_MAP_WORDS);
+                            words_room_3 = load64(map + INT_MAP_WORDS_ROOM);
+                            store64(map + INT_MAP_MASK, capacity - 1);
+                            store_address(map + INT_MAP_WORDS, r6_22);
+                            memcpy(map + INT_MAP_WORDS_LEN, r8_3 + 16, 16);
+                            if (words_room_3 == 0) {
+                                goto after_grow_lone_grow_lone;
                             }
-                            shared_len_3 = load64(map + INT_MAP_SHARED_LEN);
-                            shared_4 = load_address(map + INT_MAP_SHARED);
-                            shared_room_3 = load64(map + INT_MAP_SHARED_ROOM);
-                            store_address(map + INT_MAP_SHARED, dangling);
-                            memset(map + INT_MAP_SHARED_LEN, 0, 16);
-                            if (shared_len_3 == 0) {
-                                shared_room_2 = shared_room_3;
-                                shared_3 = shared_4;
-                                goto after_Vec_clear_3;
-                            }
-                            index_4 = 0;
-                            for (;;) {
-                                slot_4 = shared_4 + (index_4 * SLOT_SIZE);
-                                if (load64(slot_4 + SLOT_REST_ROOM) != 0) {
-                                    rattle_dealloc(load_address(slot_4 + SLOT_REST));
-                                }
-                                next_index_3 = index_4 + 1;
-                                if (next_index_3 == shared_len_3) {
-                                    shared_room_2 = shared_room_3;
-                                    shared_3 = shared_4;
-                                    goto after_Vec_clear_3;
-                                }
-                                index_4 = next_index_3;
-                            }
+                            rattle_dealloc(words_8);
+                            goto after_grow_lone_grow_lone;
                         }
-                        rest_len_2 = load64(slot_2 + SLOT_REST_LEN);
-                        if (rest_len_2 == 0) {
-                            key = load64(slot_2 + SLOT_KEY);
-                            value = load64(slot_2 + SLOT_VALUE);
-                            memset(slot_2, 0, 24);
-                            key_2 = key;
-                            value_2 = value;
-                        } else {
-                            rest_2 = load_address(slot_2 + SLOT_REST);
-                            rest_room = load64(slot_2 + SLOT_REST_ROOM);
-                            memset(slot_2 + SLOT_REST_LEN, 0, 16);
-                            key_3 = load64(rest_2 + PAIR_KEY);
-                            value_3 = load64(rest_2 + PAIR_VALUE);
-                            r28 = rest_len_2 - 1;
-                            if (r28 > 128) {
-                                place = 0;
-                                for (;;) {
-                                    pair = rest_2 + (place << 4);
-                                    place_2 = 0;
-                                    for (;;) {
-                                        r13 = place_2 << 4;
-                                        memcpy(pair + r13, (pair + 16) + r13, 16);
-                                        next_place = place_2 + 1;
-                                        if (next_place == 128) {
-                                            r36 = place + 128;
-                                            r20 = r28 - r36;
-                                            if (r20 > 128) {
-                                                place = r36;
-                                                break;
-                                            }
-                                            place_3 = r36;
-                                            r20_2 = r20;
-                                            goto after_Slots_move_back;
-                                        }
-                                        place_2 = next_place;
-                                    }
-                                }
-                            }
-                            place_3 = 0;
-                            r20_2 = r28;
-                        after_Slots_move_back:;
-                            if (r28 != place_3) {
-                                pair_2 = rest_2 + (place_3 << 4);
-                                memmove(pair_2, pair_2 + 16, r20_2 << 4);
-                            }
-                            store_address(slot_2 + SLOT_REST, rest_2);
-                            store64(slot_2 + SLOT_REST_LEN, r28);
-                            store64(slot_2 + SLOT_REST_ROOM, rest_room);
-                            if (load8(slot_2 + SLOT_HAS_FIRST) != 1) {
-                                abort();
-                            }
-                            key_4 = load64(slot_2 + SLOT_KEY);
-                            value_4 = load64(slot_2 + SLOT_VALUE);
-                            store64(slot_2 + SLOT_KEY, key_3);
-                            store64(slot_2 + SLOT_VALUE, value_3);
-                            key_2 = key_4;
-                            value_2 = value_4;
-                        }
-                        index_3 = (key_2 * MULTIPLIER) & r2_2;
-                        r11 = r6 + ((index_3 >> 3) & UINT64_C(2305843009213693944));
-                        store64(r11, ((uint64_t)1 << (index_3 & 63)) | load64(r11));
-                        slot_3 = lone_2 + (index_3 * LONE_SIZE);
-                        has_pair = load8(slot_3 + LONE_HAS_PAIR);
-                        store64(slot_3 + LONE_HAS_PAIR, 1);
-                        store64(slot_3 + LONE_KEY, key_2);
-                        store64(slot_3 + LONE_VALUE, value_2);
-                        if (has_pair != 0) {
-                            abort();
-                        }
-                    }
-                }
-            }
-            shared_room = load64(map + INT_MAP_SHARED_ROOM);
-            store_address(map + INT_MAP_SHARED, dangling);
-            memset(map + INT_MAP_SHARED_LEN, 0, 16);
-            shared_room_2 = shared_room;
-            shared_3 = shared_2;
-        after_Vec_clear_3:;
-            if (shared_room_2 != 0) {
-                rattle_dealloc(shared_3);
-            }
-            words = load_address(map + INT_MAP_WORDS);
-            words_room = load64(map + INT_MAP_WORDS_ROOM);
-            store64(map + INT_MAP_MASK, r2);
-            store_address(map + INT_MAP_WORDS, r6);
-            memcpy(map + INT_MAP_WORDS_LEN, r5 + 16, 16);
-            if (words_room != 0) {
-                rattle_dealloc(words);
-            }
-        }
-        return r1;
-    }
-join_7:;
-    grow_reserve_slots(r22, map + INT_MAP_SHARED, capacity);
-    if (load8(r22) != 0) {
-        return 1;
-    }
-    r1_2 = load_address(r22 + 8);
-    r1_3 = load64(r22 + 24);
-    shared_len_4 = load64(map + INT_MAP_SHARED_LEN);
-    if (shared_len_4 == 0) {
-        abort();
-    }
-    r32 = capacity / shared_len_4;
-    r12 = shared_len_4 > capacity;
-    if (!r12) {
-        if (r32 < UINT64_C(1152921504606846976)) {
-            r19 = r32 << 3;
-            block = rattle_alloc(r19, 8);
-            if ((block.first & 1) != 0) {
-                r8_3 = (char *)(uintptr_t)block.second;
-                if (r32 == 1) {
-                    r3 = 0;
-                } else {
-                    memset(r8_3, 0, r19 - 8);
-                    r3 = r32 - 1;
-                }
-                store64(r8_3 + (r3 << 3), 0);
-                shared_len_5 = load64(map + INT_MAP_SHARED_LEN);
-                r8 = r8_3;
-                r8_2 = r3 + 1;
-                goto arm_3;
-            }
-            shared_len_6 = load64(map + INT_MAP_SHARED_LEN);
-        } else {
-            shared_len_6 = shared_len_4;
-        }
-        if (load64(map + INT_MAP_SHARED_ROOM) <= shared_len_6) {
-            goto arm_13;
-        }
-        if (shared_len_6 == 0) {
-            rattle_dealloc(load_address(map + INT_MAP_SHARED));
-            store_address(map + INT_MAP_SHARED, dangling);
-            memset(map + INT_MAP_SHARED_LEN, 0, 16);
-            goto arm_13;
-        }
-        r12_2 = shared_len_6 * 48;
-        block_2 = rattle_realloc(load_address(map + INT_MAP_SHARED), r12_2, r12_2, 8);
-        if ((block_2.first & 1) == 0) {
-            goto arm_13;
-        }
-        store_address(map + INT_MAP_SHARED, (char *)(uintptr_t)block_2.second);
-        store64(map + INT_MAP_SHARED_ROOM, shared_len_6);
-        goto arm_13;
-    }
-    shared_len_5 = shared_len_4;
-    r8 = dangling;
-    r8_2 = 0;
-arm_3:;
-    r22_2 = capacity - shared_len_5;
-    shared_5 = load_address(map + INT_MAP_SHARED);
-    shared_room_4 = load64(map + INT_MAP_SHARED_ROOM);
-    store_address(map + INT_MAP_SHARED, dangling);
-    memset(map + INT_MAP_SHARED_LEN, 0, 16);
-    if (capacity == shared_len_5) {
-        store_address(map + INT_MAP_SHARED, shared_5);
-        store64(map + INT_MAP_SHARED_LEN, capacity);
-        store64(map + INT_MAP_SHARED_ROOM, shared_room_4);
-    } else {
-        r10_014 = 0;
-        index_5 = shared_len_5;
-        for (;;) {
-            slot_5 = shared_5 + (index_5 * SLOT_SIZE);
-            memset(slot_5, 0, 24);
-            store_address(slot_5 + SLOT_REST, dangling);
-            memset(slot_5 + SLOT_REST_LEN, 0, 16);
-            r32_2 = r10_014 + 1;
-            if (r32_2 == r22_2) {
-                shared_6 = load_address(map + INT_MAP_SHARED);
-                shared_len_7 = load64(map + INT_MAP_SHARED_LEN);
-                shared_room_5 = load64(map + INT_MAP_SHARED_ROOM);
-                store_address(map + INT_MAP_SHARED, shared_5);
-                store64(map + INT_MAP_SHARED_LEN, capacity);
-                store64(map + INT_MAP_SHARED_ROOM, shared_room_4);
-                if (shared_len_7 != 0) {
-                    index_6 = 0;
-                    for (;;) {
-                        slot_6 = shared_6 + (index_6 * SLOT_SIZE);
-                        if (load64(slot_6 + SLOT_REST_ROOM) != 0) {
-                            rattle_dealloc(load_address(slot_6 + SLOT_REST));
-                        }
-                        next_index_4 = index_6 + 1;
-                        if (next_index_4 == shared_len_7) {
+                        r33_5 = r4_17 - 1;
+                        bits_10 = load64(r4_18);
+                        r60_5 = r4_19 + 64;
+                        if (bits_10 != 0) {
+                            r4_20 = bits_10;
+                            r4_21 = r60_5;
+                            r4_22 = r4_18 + 8;
+                            r4_23 = r33_5;
                             break;
                         }
-                        index_6 = next_index_4;
+                        r4_17 = r33_5;
+                        r4_18 = r4_18 + 8;
+                        r4_19 = r60_5;
                     }
+                } else {
+                    r4_20 = r4_13;
+                    r4_21 = r4_14;
+                    r4_22 = r4_15;
+                    r4_23 = r4_16;
                 }
-                if (shared_room_5 == 0) {
-                    break;
+                r27_5 = low_zeros(r4_20);
+                r40_5 = (r4_20 - 1) & r4_20;
+                slot_11 = lone_5 + ((r4_21 + r27_5) * LONE_SIZE);
+                key_6 = load_key(slot_11 + LONE_KEY);
+                value_6 = load64(slot_11 + LONE_VALUE);
+                has_pair_2 = load8(slot_11 + LONE_HAS_PAIR);
+                memset(slot_11, 0, 24);
+                if (has_pair_2 != 1) {
+                    abort();
                 }
-                rattle_dealloc(shared_6);
-                break;
-            }
-            r10_014 = r32_2;
-            index_5 = index_5 + 1;
-        }
-    }
-    shared_7 = load_address(map + INT_MAP_SHARED);
-    words_len = load64(map + INT_MAP_WORDS_LEN);
-    if (words_len == 0) {
-        bits = 0;
-        r6_2 = (char *)no_bytes;
-        r6_3 = 0;
-    } else {
-        words_2 = load_address(map + INT_MAP_WORDS);
-        bits = load64(words_2);
-        r6_2 = words_2 + 8;
-        r6_3 = words_len - 1;
-    }
-    r21 = r8_2 == 0;
-    r28_2 = r8_2 - 1;
-    r317 = r28_2 == 0;
-    x17 = (r8_2 << 3) - 8;
-    r56 = r8 + (r28_2 << 3);
-    r8_4 = bits;
-    r8_5 = 0;
-    r8_6 = r6_2;
-    r8_7 = r6_3;
-    r6_0 = 0;
-    for (;;) {
-        if (r8_4 == 0) {
-            r8_8 = r8_7;
-            r8_9 = r8_6;
-            r8_10 = r8_5;
-            for (;;) {
-                if (r8_8 == 0) {
-                    if (r6_0 == 0) {
-                        r13_2 = dangling;
+                index_9 = (key_6 * MULTIPLIER) & r2_5;
+                r11_3 = r6_22 + ((index_9 >> 3) & UINT64_C(2305843009213693944));
+                r16_2 = load64(r11_3);
+                r20_6 = (uint64_t)1 << (index_9 & 63);
+                store64(r11_3, r16_2 | r20_6);
+                if (r51_2) {
+                    r69_2 = dangling + (index_9 * 48);
+                    if ((r16_2 & r20_6) == 0) {
+                        store64(r69_2 + 8, key_6);
+                        store64(r69_2 + 16, value_6);
                     } else {
-                        if (r6_0 >= UINT64_C(576460752303423488)) {
-                            goto arm_8_2;
-                        }
-                        block_3 = rattle_alloc(r6_0 << 4, 8);
-                        if ((block_3.first & 1) == 0) {
-                            goto arm_8_2;
-                        }
-                        r13_2 = (char *)(uintptr_t)block_3.second;
-                    }
-                    if (!r12) {
-                        rattle_dealloc(r8);
-                    }
-                    store_address(r4, r13_2);
-                    store64(r4 + 8, 0);
-                    store64(r4 + 16, r6_0);
-                    shared_8 = load_address(map + INT_MAP_SHARED);
-                    shared_len_8 = load64(map + INT_MAP_SHARED_LEN);
-                    words_len_2 = load64(map + INT_MAP_WORDS_LEN);
-                    if (words_len_2 == 0) {
-                        bits_2 = 0;
-                        r6_4 = (char *)no_bytes;
-                        r6_5 = 0;
-                    } else {
-                        words_3 = load_address(map + INT_MAP_WORDS);
-                        bits_2 = load64(words_3);
-                        r6_4 = words_3 + 8;
-                        r6_5 = words_len_2 - 1;
-                    }
-                    r2_3 = shared_len_8 - 1;
-                    r3_2 = bits_2;
-                    r3_3 = 0;
-                    r3_4 = r6_4;
-                    r3_5 = r6_5;
-                    for (;;) {
-                        if (r3_2 == 0) {
-                            r3_6 = r3_5;
-                            r3_7 = r3_4;
-                            r3_8 = r3_3;
-                            for (;;) {
-                                if (r3_6 == 0) {
-                                    words_4 = load_address(map + INT_MAP_WORDS);
-                                    words_room_2 = load64(map + INT_MAP_WORDS_ROOM);
-                                    store64(map + INT_MAP_MASK, capacity - 1);
-                                    memcpy(map + INT_MAP_WORDS, r22 + 8, 24);
-                                    if (words_room_2 != 0) {
-                                        rattle_dealloc(words_4);
-                                    }
-                                    if (load64(r4 + 16) == 0) {
-                                        return 0;
-                                    }
-                                    rattle_dealloc(load_address(r4));
-                                    return 0;
-                                }
-                                r33 = r3_6 - 1;
-                                bits_3 = load64(r3_7);
-                                r60 = r3_8 + 64;
-                                if (bits_3 != 0) {
-                                    r3_9 = bits_3;
-                                    r3_10 = r60;
-                                    r3_11 = r3_7 + 8;
-                                    r3_12 = r33;
-                                    break;
-                                }
-                                r3_6 = r33;
-                                r3_7 = r3_7 + 8;
-                                r3_8 = r60;
-                            }
+                        if (load64(r69_2 + 40) == 0) {
+                            store_address(r69_2 + 24, dangling);
+                            r10_2 = dangling;
                         } else {
-                            r3_9 = r3_2;
-                            r3_10 = r3_3;
-                            r3_11 = r3_4;
-                            r3_12 = r3_5;
+                            r10_2 = load_address(r69_2 + 24);
                         }
-                        r27 = low_zeros(r3_9);
-                        index_7 = r3_10 + r27;
-                        r40 = (r3_9 - 1) & r3_9;
-                        slot_7 = shared_8 + (index_7 * SLOT_SIZE);
-                        if (load64(slot_7 + SLOT_REST_LEN) == 0) {
-                            key_5 = load_key(slot_7 + SLOT_KEY);
-                            value_5 = load64(slot_7 + SLOT_VALUE);
-                            has_first = load8(slot_7 + SLOT_HAS_FIRST);
-                            memset(slot_7, 0, 24);
-                            if (has_first == 1) {
-                                index_8 = (key_5 * MULTIPLIER) & r2_3;
-                                slot_8 = shared_8 + (index_8 * SLOT_SIZE);
-                                r11_2 = r1_2 + ((index_8 >> 3) & UINT64_C(2305843009213693944));
-                                store64(r11_2, load64(r11_2) | ((uint64_t)1 << (index_8 & 63)));
-                                store64(slot_8 + SLOT_HAS_FIRST, 1);
-                                store64(slot_8 + SLOT_KEY, key_5);
-                                store64(slot_8 + SLOT_VALUE, value_5);
-                                goto loop_2_backedge;
-                            }
-                        }
-                        place_move_several(r22 + 8, shared_8, shared_len_8, index_7, r4);
-                    loop_2_backedge:;
-                        r3_2 = r40;
-                        r3_3 = r3_10;
-                        r3_4 = r3_11;
-                        r3_5 = r3_12;
+                        r9_2 = load64(r69_2 + 32);
+                        r15_2 = r10_2 + (r9_2 << 4);
+                        store64(r15_2, key_6);
+                        store64(r15_2 + 8, value_6);
+                        store64(r69_2 + 32, r9_2 + 1);
+                    }
+                } else {
+                    slot_12 = lone_5 + (index_9 * LONE_SIZE);
+                    has_pair_3 = load8(slot_12 + LONE_HAS_PAIR);
+                    store64(slot_12 + LONE_HAS_PAIR, 1);
+                    store64(slot_12 + LONE_KEY, key_6);
+                    store64(slot_12 + LONE_VALUE, value_6);
+                    if (has_pair_3 != 0) {
+                        abort();
                     }
                 }
-                r33_2 = r8_8 - 1;
-                bits_4 = load64(r8_9);
-                r60_2 = r8_10 + 64;
-                if (bits_4 != 0) {
-                    r8_11 = bits_4;
-                    r8_12 = r60_2;
-                    r8_13 = r8_9 + 8;
-                    r8_14 = r33_2;
-                    break;
-                }
-                r8_8 = r33_2;
-                r8_9 = r8_9 + 8;
-                r8_10 = r60_2;
+                r4_13 = r40_5;
+                r4_14 = r4_21;
+                r4_15 = r4_22;
+                r4_16 = r4_23;
             }
-        } else {
-            r8_11 = r8_4;
-            r8_12 = r8_5;
-            r8_13 = r8_6;
-            r8_14 = r8_7;
         }
-        r27_2 = low_zeros(r8_11);
-        index_9 = r8_12 + r27_2;
-        r40_2 = (r8_11 - 1) & r8_11;
-        slot_9 = shared_7 + (index_9 * SLOT_SIZE);
-        rest_len_3 = load64(slot_9 + SLOT_REST_LEN);
-        if (rest_len_3 > 2) {
-            r76 = load64(map + INT_MAP_MASK) + 1;
-            if (r21) {
-                rest_len_4 = rest_len_3;
+    after_grow_lone_grow_lone:;
+        return r1_4;
+    }
+    if (may_be_lone) {
+        shared = load_address(map + INT_MAP_SHARED);
+        if (capacity >= 16) {
+            words_len = load64(map + INT_MAP_WORDS_LEN);
+            if (words_len == 0) {
+                bits = 0;
+                r6 = (char *)no_bytes;
+                r6_2 = 0;
             } else {
-                if (!r317) {
-                    memset(r8, 0, x17);
-                }
-                store64(r56, 0);
-                rest_len_4 = load64(slot_9 + SLOT_REST_LEN);
+                words = load_address(map + INT_MAP_WORDS);
+                bits = load64(words);
+                r6 = words + 8;
+                r6_2 = words_len - 1;
             }
-            rest_3 = load_address(slot_9 + SLOT_REST);
-            if (load8(slot_9 + SLOT_HAS_FIRST) == 1) {
-                if (r76 == 0) {
-                    abort();
-                }
-                r20_3 = r8 + ((((load64(slot_9 + SLOT_KEY) * MULTIPLIER) & ((r76 * r8_2) - 1)) / r76) << 3);
-                store64(r20_3, load64(r20_3) + 1);
-            }
-            if (rest_len_4 != 0) {
-                r2_4 = (r76 * r8_2) - 1;
-                if (r76 == 0) {
-                    abort();
-                }
-                place_4 = 0;
-                for (;;) {
-                    r20_4 = r8 + ((((load64((rest_3 + (place_4 << 4)) + PAIR_KEY) * MULTIPLIER) & r2_4) / r76) << 3);
-                    store64(r20_4, load64(r20_4) + 1);
-                    next_place_2 = place_4 + 1;
-                    if (next_place_2 == rest_len_4) {
-                        break;
-                    }
-                    place_4 = next_place_2;
-                }
-            }
-            r89 = load64(map + INT_MAP_MASK) + 1;
-            if (!r21) {
-                r5_08 = false;
-                r6_07 = 0;
-                for (;;) {
-                    r38 = load64(r8 + (r6_07 << 3));
-                    r41 = r38 > 1;
-                    if (r41 ? r5_08 : false) {
-                        r64 = slot_reserve_behind(shared_7 + (((r6_07 * r89) + index_9) * SLOT_SIZE), r38 - 1);
-                        if ((r64 & 1) != 0) {
-                            goto arm_8_2;
-                        }
-                        r5_1 = true;
-                    } else {
-                        r5_1 = r41 ? true : r5_08;
-                    }
-                    r73 = r6_07 + 1;
-                    if (r73 == r8_2) {
-                        break;
-                    }
-                    r5_08 = r5_1;
-                    r6_07 = r73;
-                }
-            }
-        }
-        spec_select = greater(r6_0, rest_len_3);
-        r8_4 = r40_2;
-        r8_5 = r8_12;
-        r8_6 = r8_13;
-        r8_7 = r8_14;
-        r6_0 = spec_select;
-    }
-arm_8_2:;
-    shared_len_9 = load64(map + INT_MAP_SHARED_LEN);
-    shared_room_6 = load64(map + INT_MAP_SHARED_ROOM);
-    if (shared_len_9 > shared_len_4) {
-        shared_9 = load_address(map + INT_MAP_SHARED);
-        memset(map + INT_MAP_SHARED_LEN, 0, 16);
-        index_10 = shared_len_4;
-        for (;;) {
-            slot_10 = shared_9 + (index_10 * SLOT_SIZE);
-            if (load64(slot_10 + SLOT_REST_ROOM) != 0) {
-                rattle_dealloc(load_address(slot_10 + SLOT_REST));
-            }
-            next_index_5 = index_10 + 1;
-            if (next_index_5 == shared_len_9) {
-                store_address(map + INT_MAP_SHARED, shared_9);
-                store64(map + INT_MAP_SHARED_LEN, shared_len_4);
-                store64(map + INT_MAP_SHARED_ROOM, shared_room_6);
-                shared_len_10 = shared_len_4;
-                break;
-            }
-            index_10 = next_index_5;
-        }
-    } else {
-        shared_len_10 = shared_len_9;
-    }
-    if (shared_room_6 > shared_len_10) {
-        if (shared_len_10 == 0) {
-            rattle_dealloc(load_address(map + INT_MAP_SHARED));
-            store_address(map + INT_MAP_SHARED, dangling);
-            memset(map + INT_MAP_SHARED_LEN, 0, 16);
-        } else {
-            r12_3 = shared_len_10 * 48;
-            block_4 = rattle_realloc(load_address(map + INT_MAP_SHARED), r12_3, r12_3, 8);
-            if ((block_4.first & 1) != 0) {
-                store_address(map + INT_MAP_SHARED, (char *)(uintptr_t)block_4.second);
-                store64(map + INT_MAP_SHARED_ROOM, shared_len_10);
-            }
-        }
-    }
-    if (!r12) {
-        rattle_dealloc(r8);
-    }
-arm_13:;
-    if (r1_3 == 0) {
-        return 1;
-    }
-    rattle_dealloc(r1_2);
-    return 1;
-}
-
-// Moves all pairs, in the order of the walk, to their slots among `capacity` slots.
-// intmap_table::table::slots::grow_lone::grow_lone, in crates/intmap_table/src/table/slots/grow_lone.rt
-static ALIGNED uint8_t grow_lone_grow_lone(char *lone, char *directory, uint64_t capacity) {
-    uint8_t r1, has_pair, has_pair_2;
-    char *r6, *lone_2, *lone_3, *lone_4, *r6_3, *words, *r3_3, *r3_6, *words_2, *r3_10, *slot, *r11, *slot_2;
-    uint64_t lone_len, lone_room, r6_2, lone_room_2, words_len, bits, r6_4, r2, r3, r3_2, r3_4, r3_5, r3_7,
-        words_room, r33, bits_2, r60, r3_8, r3_9, r3_11, r27, key, value, index;
-    char *dangling = (char *)no_bytes;
-    uint64_t r5_room[4];
-    char *r5 = (char *)r5_room;
-    memset(r5, 0, 32);
-    grow_reserve_slots_2(r5, lone, capacity);
-    r1 = load8(r5);
-    if (r1 != 0) {
-        return r1;
-    }
-    r6 = load_address(r5 + 8);
-    lone_len = load64(lone + VEC_LEN);
-    lone_2 = load_address(lone + VEC_ADDRESS);
-    lone_room = load64(lone + VEC_ROOM);
-    store_address(lone + VEC_ADDRESS, dangling);
-    memset(lone + VEC_LEN, 0, 16);
-    if (capacity == lone_len) {
-        store_address(lone + VEC_ADDRESS, lone_2);
-        store64(lone + VEC_LEN, capacity);
-        store64(lone + VEC_ROOM, lone_room);
-        r6_2 = capacity;
-        lone_3 = lone_2;
-    } else {
-        memset(lone_2 + (lone_len * LONE_SIZE), 0, (capacity - lone_len) * 24);
-        lone_4 = load_address(lone + VEC_ADDRESS);
-        lone_room_2 = load64(lone + VEC_ROOM);
-        store_address(lone + VEC_ADDRESS, lone_2);
-        store64(lone + VEC_LEN, capacity);
-        store64(lone + VEC_ROOM, lone_room);
-        if (lone_room_2 == 0) {
-            r6_2 = capacity;
-            lone_3 = lone_2;
-        } else {
-            rattle_dealloc(lone_4);
-            r6_2 = load64(lone + VEC_LEN);
-            lone_3 = load_address(lone + VEC_ADDRESS);
-        }
-    }
-    words_len = load64(directory + INT_MAP_WORDS_LEN);
-    if (words_len == 0) {
-        bits = 0;
-        r6_3 = (char *)no_bytes;
-        r6_4 = 0;
-    } else {
-        words = load_address(directory + INT_MAP_WORDS);
-        bits = load64(words);
-        r6_3 = words + 8;
-        r6_4 = words_len - 1;
-    }
-    r2 = r6_2 - 1;
-    r3 = bits;
-    r3_2 = 0;
-    r3_3 = r6_3;
-    r3_4 = r6_4;
-    for (;;) {
-        if (r3 == 0) {
-            r3_5 = r3_4;
-            r3_6 = r3_3;
-            r3_7 = r3_2;
+            r2 = capacity - 1;
+            r4_2 = bits;
+            r4_3 = 0;
+            r4_4 = r6;
+            r4_5 = r6_2;
             for (;;) {
-                if (r3_5 == 0) {
-                    words_2 = load_address(directory + INT_MAP_WORDS);
-                    words_room = load64(directory + INT_MAP_WORDS_ROOM);
-                    store64(directory + INT_MAP_MASK, capacity - 1);
-                    store_address(directory + INT_MAP_WORDS, r6);
-                    memcpy(directory + INT_MAP_WORDS_LEN, r5 + 16, 16);
-                    if (words_room == 0) {
-                        return r1;
+                if (r4_2 == 0) {
+                    r4_6 = r4_5;
+                    r4_7 = r4_4;
+                    r4_8 = r4_3;
+                    for (;;) {
+                        if (r4_6 == 0) {
+                            memset(r8_2, 0, 32);
+                            grow_reserve_slots_2(r8_2, map + INT_MAP_LONE, capacity);
+                            r1 = load8(r8_2);
+                            if (r1 == 0) {
+                                r6_3 = load_address(r8_2 + 8);
+                                lone_len = load64(map + INT_MAP_LONE_LEN);
+                                lone = load_address(map + INT_MAP_LONE);
+                                lone_room = load64(map + INT_MAP_LONE_ROOM);
+                                store_address(map + INT_MAP_LONE, dangling);
+                                memset(map + INT_MAP_LONE_LEN, 0, 16);
+                                if (capacity == lone_len) {
+                                    store_address(map + INT_MAP_LONE, lone);
+                                    store64(map + INT_MAP_LONE_LEN, capacity);
+                                    store64(map + INT_MAP_LONE_ROOM, lone_room);
+                                    lone_2 = lone;
+                                    r6_4 = capacity;
+                                } else {
+                                    memset(lone + (lone_len * LONE_SIZE), 0, (capacity - lone_len) * 24);
+                                    lone_3 = load_address(map + INT_MAP_LONE);
+                                    lone_room_2 = load64(map + INT_MAP_LONE_ROOM);
+                                    store_address(map + INT_MAP_LONE, lone);
+                                    store64(map + INT_MAP_LONE_LEN, capacity);
+                                    store64(map + INT_MAP_LONE_ROOM, lone_room);
+                                    if (lone_room_2 == 0) {
+                                        lone_2 = lone;
+                                        r6_4 = capacity;
+                                    } else {
+                                        rattle_dealloc(lone_3);
+                                        lone_2 = load_address(map + INT_MAP_LONE);
+                                        r6_4 = load64(map + INT_MAP_LONE_LEN);
+                                    }
+                                }
+                                shared_2 = load_address(map + INT_MAP_SHARED);
+                                words_len_2 = load64(map + INT_MAP_WORDS_LEN);
+                                if (words_len_2 == 0) {
+                                    bits_2 = 0;
+                                    r6_5 = (char *)no_bytes;
+                                    r6_6 = 0;
+                                } else {
+                                    words_2 = load_address(map + INT_MAP_WORDS);
+                                    bits_2 = load64(words_2);
+                                    r6_5 = words_2 + 8;
+                                    r6_6 = words_len_2 - 1;
+                                }
+                                r2_2 = r6_4 - 1;
+                                r51 = r6_4 == 0;
+                                r6_7 = bits_2;
+                                r6_8 = 0;
+                                r6_9 = r6_5;
+                                r6_10 = r6_6;
+                                for (;;) {
+                                    if (r6_7 == 0) {
+                                        r6_11 = r6_10;
+                                        r6_12 = r6_9;
+                                        r6_13 = r6_8;
+                                        for (;;) {
+                                            if (r6_11 == 0) {
+                                                shared_3 = load_address(map + INT_MAP_SHARED);
+                                                shared_len = load64(map + INT_MAP_SHARED_LEN);
+                                                shared_room = load64(map + INT_MAP_SHARED_ROOM);
+                                                store_address(map + INT_MAP_SHARED, dangling);
+                                                memset(map + INT_MAP_SHARED_LEN, 0, 16);
+                                                if (shared_len != 0) {
+                                                    index = 0;
+                                                    for (;;) {
+                                                        slot = shared_3 + (index * SLOT_SIZE);
+                                                        if (load64(slot + SLOT_REST_ROOM) != 0) {
+                                                            rattle_dealloc(load_address(slot + SLOT_REST));
+                                                        }
+                                                        next_index = index + 1;
+                                                        if (next_index == shared_len) {
+                                                            break;
+                                                        }
+                                                        index = next_index;
+                                                    }
+                                                }
+                                                if (shared_room != 0) {
+                                                    rattle_dealloc(shared_3);
+                                                }
+                                                words_3 = load_address(map + INT_MAP_WORDS);
+                                                words_room = load64(map + INT_MAP_WORDS_ROOM);
+                                                store64(map + INT_MAP_MASK, r2);
+                                                store_address(map + INT_MAP_WORDS, r6_3);
+                                                memcpy(map + INT_MAP_WORDS_LEN, r8_2 + 16, 16);
+                                                if (words_room == 0) {
+                                                    goto after_grow_to_lone_grow_to_lone;
+                                                }
+                                                rattle_dealloc(words_3);
+                                                goto after_grow_to_lone_grow_to_lone;
+                                            }
+                                            r33 = r6_11 - 1;
+                                            bits_3 = load64(r6_12);
+                                            r60 = r6_13 + 64;
+                                            if (bits_3 != 0) {
+                                                r6_14 = bits_3;
+                                                r6_15 = r60;
+                                                r6_16 = r6_12 + 8;
+                                                r6_17 = r33;
+                                                break;
+                                            }
+                                            r6_11 = r33;
+                                            r6_12 = r6_12 + 8;
+                                            r6_13 = r60;
+                                        }
+                                    } else {
+                                        r6_14 = r6_7;
+                                        r6_15 = r6_8;
+                                        r6_16 = r6_9;
+                                        r6_17 = r6_10;
+                                    }
+                                    r27 = low_zeros(r6_14);
+                                    r40 = (r6_14 - 1) & r6_14;
+                                    slot_2 = shared_2 + ((r6_15 + r27) * SLOT_SIZE);
+                                    if ((load8(slot_2 + SLOT_HAS_FIRST) & 1) != 0) {
+                                        for (;;) {
+                                            rest_len = load64(slot_2 + SLOT_REST_LEN);
+                                            if (rest_len == 0) {
+                                                key = load64(slot_2 + SLOT_KEY);
+                                                value = load64(slot_2 + SLOT_VALUE);
+                                                memset(slot_2, 0, 24);
+                                                key_2 = key;
+                                                value_2 = value;
+                                            } else {
+                                                rest = load_address(slot_2 + SLOT_REST);
+                                                rest_room = load64(slot_2 + SLOT_REST_ROOM);
+                                                memset(slot_2 + SLOT_REST_LEN, 0, 16);
+                                                key_3 = load64(rest + PAIR_KEY);
+                                                value_3 = load64(rest + PAIR_VALUE);
+                                                r28 = rest_len - 1;
+                                                if (r28 > 128) {
+                                                    place = 0;
+                                                    for (;;) {
+                                                        pair = rest + (place << 4);
+                                                        place_2 = 0;
+                                                        for (;;) {
+                                                            r13 = place_2 << 4;
+                                                            memcpy(pair + r13, (pair + 16) + r13, 16);
+                                                            next_place = place_2 + 1;
+                                                            if (next_place == 128) {
+                                                                r36 = place + 128;
+                                                                r20 = r28 - r36;
+                                                                if (r20 > 128) {
+                                                                    place = r36;
+                                                                    break;
+                                                                }
+                                                                place_3 = r36;
+                                                                r20_2 = r20;
+                                                                goto after_Slots_move_back;
+                                                            }
+                                                            place_2 = next_place;
+                                                        }
+                                                    }
+                                                }
+                                                place_3 = 0;
+                                                r20_2 = r28;
+                                            after_Slots_move_back:;
+                                                if (r28 != place_3) {
+                                                    pair_2 = rest + (place_3 << 4);
+                                                    memmove(pair_2, pair_2 + 16, r20_2 << 4);
+                                                }
+                                                store_address(slot_2 + SLOT_REST, rest);
+                                                store64(slot_2 + SLOT_REST_LEN, r28);
+                                                store64(slot_2 + SLOT_REST_ROOM, rest_room);
+                                                if (load8(slot_2 + SLOT_HAS_FIRST) != 1) {
+                                                    abort();
+                                                }
+                                                key_4 = load64(slot_2 + SLOT_KEY);
+                                                value_4 = load64(slot_2 + SLOT_VALUE);
+                                                store64(slot_2 + SLOT_KEY, key_3);
+                                                store64(slot_2 + SLOT_VALUE, value_3);
+                                                key_2 = key_4;
+                                                value_2 = value_4;
+                                            }
+                                            index_2 = (key_2 * MULTIPLIER) & r2_2;
+                                            r11 = r6_3 + ((index_2 >> 3) & UINT64_C(2305843009213693944));
+                                            r16 = load64(r11);
+                                            r20_3 = (uint64_t)1 << (index_2 & 63);
+                                            store64(r11, r20_3 | r16);
+                                            if (r51) {
+                                                r69 = dangling + (index_2 * 48);
+                                                if ((r20_3 & r16) == 0) {
+                                                    store64(dangling, 1);
+                                                    store64(r69 + 8, key_2);
+                                                    store64(r69 + 16, value_2);
+                                                } else {
+                                                    if (load64(r69 + 40) == 0) {
+                                                        store_address(r69 + 24, dangling);
+                                                        r10 = dangling;
+                                                    } else {
+                                                        r10 = load_address(r69 + 24);
+                                                    }
+                                                    r9 = load64(r69 + 32);
+                                                    r15 = r10 + (r9 << 4);
+                                                    store64(r15, key_2);
+                                                    store64(r15 + 8, value_2);
+                                                    store64(r69 + 32, r9 + 1);
+                                                }
+                                            } else {
+                                                slot_3 = lone_2 + (index_2 * LONE_SIZE);
+                                                has_pair = load8(slot_3 + LONE_HAS_PAIR);
+                                                store64(slot_3 + LONE_HAS_PAIR, 1);
+                                                store64(slot_3 + LONE_KEY, key_2);
+                                                store64(slot_3 + LONE_VALUE, value_2);
+                                                if (has_pair != 0) {
+                                                    abort();
+                                                }
+                                            }
+                                            if ((load8(slot_2 + SLOT_HAS_FIRST) & 1) == 0) {
+                                                break;
+                                            }
+                                        }
+                                    }
+                                    r6_7 = r40;
+                                    r6_8 = r6_15;
+                                    r6_9 = r6_16;
+                                    r6_10 = r6_17;
+                                }
+                            }
+                        after_grow_to_lone_grow_to_lone:;
+                            return r1;
+                        }
+                        r33_2 = r4_6 - 1;
+                        bits_4 = load64(r4_7);
+                        r60_2 = r4_8 + 64;
+                        if (bits_4 != 0) {
+                            r4_9 = bits_4;
+                            r4_10 = r60_2;
+                            r4_11 = r4_7 + 8;
+                            r4_12 = r33_2;
+                            break;
+                        }
+                        r4_6 = r33_2;
+                        r4_7 = r4_7 + 8;
+                        r4_8 = r60_2;
                     }
-                    rattle_dealloc(words_2);
-                    return r1;
+                } else {
+                    r4_9 = r4_2;
+                    r4_10 = r4_3;
+                    r4_11 = r4_4;
+                    r4_12 = r4_5;
                 }
-                r33 = r3_5 - 1;
-                bits_2 = load64(r3_6);
-                r60 = r3_7 + 64;
-                if (bits_2 != 0) {
-                    r3_8 = bits_2;
-                    r3_9 = r60;
-                    r3_10 = r3_6 + 8;
-                    r3_11 = r33;
+                r27_2 = low_zeros(r4_9);
+                r40_2 = (r4_9 - 1) & r4_9;
+                slot_4 = shared + ((r4_10 + r27_2) * SLOT_SIZE);
+                rest_2 = load_address(slot_4 + SLOT_REST);
+                rest_len_2 = load64(slot_4 + SLOT_REST_LEN);
+                if (rest_len_2 != 0) {
+                    if (!((rest_len_2 == 1) & (load8(slot_4 + SLOT_HAS_FIRST) == 1))) {
+                        break;
+                    }
+                    if ((((load64(rest_2 + PAIR_KEY) * MULTIPLIER) ^ (load64(slot_4 + SLOT_KEY) * MULTIPLIER)) & r2) == 0) {
+                        break;
+                    }
+                }
+                r4_2 = r40_2;
+                r4_3 = r4_10;
+                r4_4 = r4_11;
+                r4_5 = r4_12;
+            }
+        }
+    }
+    memset(r4, 0, 24);
+    memset(r8, 0, 32);
+    grow_reserve_slots(r8, map + INT_MAP_SHARED, capacity);
+    if (load8(r8) == 0) {
+        r1_2 = load_address(r8 + 8);
+        r1_3 = load64(r8 + 24);
+        shared_len_2 = load64(map + INT_MAP_SHARED_LEN);
+        if (shared_len_2 == 0) {
+            abort();
+        }
+        r32 = capacity / shared_len_2;
+        r12 = shared_len_2 > capacity;
+        if (!r12) {
+            if (r32 < UINT64_C(1152921504606846976)) {
+                r19 = r32 << 3;
+                block = rattle_alloc(r19, 8);
+                if ((block.first & 1) != 0) {
+                    r8_6 = (char *)(uintptr_t)block.second;
+                    if (r32 == 1) {
+                        r3 = 0;
+                    } else {
+                        memset(r8_6, 0, r19 - 8);
+                        r3 = r32 - 1;
+                    }
+                    store64(r8_6 + (r3 << 3), 0);
+                    shared_len_3 = load64(map + INT_MAP_SHARED_LEN);
+                    r8_4 = r8_6;
+                    r8_5 = r3 + 1;
+                    goto arm_3_3;
+                }
+                shared_len_4 = load64(map + INT_MAP_SHARED_LEN);
+            } else {
+                shared_len_4 = shared_len_2;
+            }
+            if (load64(map + INT_MAP_SHARED_ROOM) <= shared_len_4) {
+                goto arm_7_5;
+            }
+            if (shared_len_4 == 0) {
+                rattle_dealloc(load_address(map + INT_MAP_SHARED));
+                store_address(map + INT_MAP_SHARED, dangling);
+                memset(map + INT_MAP_SHARED_LEN, 0, 16);
+                goto arm_7_5;
+            }
+            r12_2 = shared_len_4 * 48;
+            block_2 = rattle_realloc(load_address(map + INT_MAP_SHARED), r12_2, r12_2, 8);
+            if ((block_2.first & 1) == 0) {
+                goto arm_7_5;
+            }
+            store_address(map + INT_MAP_SHARED, (char *)(uintptr_t)block_2.second);
+            store64(map + INT_MAP_SHARED_ROOM, shared_len_4);
+            goto arm_7_5;
+        }
+        shared_len_3 = shared_len_2;
+        r8_4 = dangling;
+        r8_5 = 0;
+    arm_3_3:;
+        r22 = capacity - shared_len_3;
+        shared_4 = load_address(map + INT_MAP_SHARED);
+        shared_room_2 = load64(map + INT_MAP_SHARED_ROOM);
+        store_address(map + INT_MAP_SHARED, dangling);
+        memset(map + INT_MAP_SHARED_LEN, 0, 16);
+        if (capacity == shared_len_3) {
+            store_address(map + INT_MAP_SHARED, shared_4);
+            store64(map + INT_MAP_SHARED_LEN, capacity);
+            store64(map + INT_MAP_SHARED_ROOM, shared_room_2);
+        } else {
+            r10_014 = 0;
+            index_3 = shared_len_3;
+            for (;;) {
+                slot_5 = shared_4 + (index_3 * SLOT_SIZE);
+                memset(slot_5, 0, 24);
+                store_address(slot_5 + SLOT_REST, dangling);
+                memset(slot_5 + SLOT_REST_LEN, 0, 16);
+                r32_2 = r10_014 + 1;
+                if (r32_2 == r22) {
+                    shared_5 = load_address(map + INT_MAP_SHARED);
+                    shared_len_5 = load64(map + INT_MAP_SHARED_LEN);
+                    shared_room_3 = load64(map + INT_MAP_SHARED_ROOM);
+                    store_address(map + INT_MAP_SHARED, shared_4);
+                    store64(map + INT_MAP_SHARED_LEN, capacity);
+                    store64(map + INT_MAP_SHARED_ROOM, shared_room_2);
+                    if (shared_len_5 != 0) {
+                        index_4 = 0;
+                        for (;;) {
+                            slot_6 = shared_5 + (index_4 * SLOT_SIZE);
+                            if (load64(slot_6 + SLOT_REST_ROOM) != 0) {
+                                rattle_dealloc(load_address(slot_6 + SLOT_REST));
+                            }
+                            next_index_2 = index_4 + 1;
+                            if (next_index_2 == shared_len_5) {
+                                break;
+                            }
+                            index_4 = next_index_2;
+                        }
+                    }
+                    if (shared_room_3 == 0) {
+                        break;
+                    }
+                    rattle_dealloc(shared_5);
                     break;
                 }
-                r3_5 = r33;
-                r3_6 = r3_6 + 8;
-                r3_7 = r60;
+                r10_014 = r32_2;
+                index_3 = index_3 + 1;
+            }
+        }
+        shared_6 = load_address(map + INT_MAP_SHARED);
+        words_len_3 = load64(map + INT_MAP_WORDS_LEN);
+        if (words_len_3 == 0) {
+            bits_5 = 0;
+            r6_18 = (char *)no_bytes;
+            r6_19 = 0;
+        } else {
+            words_4 = load_address(map + INT_MAP_WORDS);
+            bits_5 = load64(words_4);
+            r6_18 = words_4 + 8;
+            r6_19 = words_len_3 - 1;
+        }
+        r21 = r8_5 == 0;
+        r28_2 = r8_5 - 1;
+        r317 = r28_2 == 0;
+        x26 = (r8_5 << 3) - 8;
+        r56 = r8_4 + (r28_2 << 3);
+        r8_7 = bits_5;
+        r8_8 = 0;
+        r8_9 = r6_18;
+        r8_10 = r6_19;
+        r6_0 = 0;
+        for (;;) {
+            if (r8_7 == 0) {
+                r8_11 = r8_10;
+                r8_12 = r8_9;
+                r8_13 = r8_8;
+                for (;;) {
+                    if (r8_11 == 0) {
+                        if (r6_0 == 0) {
+                            r13_2 = dangling;
+                        } else {
+                            if (r6_0 >= UINT64_C(576460752303423488)) {
+                                goto arm_8_2;
+                            }
+                            block_3 = rattle_alloc(r6_0 << 4, 8);
+                            if ((block_3.first & 1) == 0) {
+                                goto arm_8_2;
+                            }
+                            r13_2 = (char *)(uintptr_t)block_3.second;
+                        }
+                        if (!r12) {
+                            rattle_dealloc(r8_4);
+                        }
+                        store_address(r4, r13_2);
+                        store64(r4 + 8, 0);
+                        store64(r4 + 16, r6_0);
+                        shared_7 = load_address(map + INT_MAP_SHARED);
+                        shared_len_6 = load64(map + INT_MAP_SHARED_LEN);
+                        words_len_4 = load64(map + INT_MAP_WORDS_LEN);
+                        if (words_len_4 == 0) {
+                            bits_6 = 0;
+                            r6_20 = (char *)no_bytes;
+                            r6_21 = 0;
+                        } else {
+                            words_5 = load_address(map + INT_MAP_WORDS);
+                            bits_6 = load64(words_5);
+                            r6_20 = words_5 + 8;
+                            r6_21 = words_len_4 - 1;
+                        }
+                        r2_3 = shared_len_6 - 1;
+                        r3_2 = bits_6;
+                        r3_3 = 0;
+                        r3_4 = r6_20;
+                        r3_5 = r6_21;
+                        for (;;) {
+                            if (r3_2 == 0) {
+                                r3_6 = r3_5;
+                                r3_7 = r3_4;
+                                r3_8 = r3_3;
+                                for (;;) {
+                                    if (r3_6 == 0) {
+                                        words_6 = load_address(map + INT_MAP_WORDS);
+                                        words_room_2 = load64(map + INT_MAP_WORDS_ROOM);
+                                        store64(map + INT_MAP_MASK, capacity - 1);
+                                        memcpy(map + INT_MAP_WORDS, r8 + 8, 24);
+                                        if (words_room_2 != 0) {
+                                            rattle_dealloc(words_6);
+                                        }
+                                        if (load64(r4 + 16) == 0) {
+                                            r0 = 0;
+                                            goto after_grow_grow_shared;
+                                        }
+                                        rattle_dealloc(load_address(r4));
+                                        r0 = 0;
+                                        goto after_grow_grow_shared;
+                                    }
+                                    r33_3 = r3_6 - 1;
+                                    bits_7 = load64(r3_7);
+                                    r60_3 = r3_8 + 64;
+                                    if (bits_7 != 0) {
+                                        r3_9 = bits_7;
+                                        r3_10 = r60_3;
+                                        r3_11 = r3_7 + 8;
+                                        r3_12 = r33_3;
+                                        break;
+                                    }
+                                    r3_6 = r33_3;
+                                    r3_7 = r3_7 + 8;
+                                    r3_8 = r60_3;
+                                }
+                            } else {
+                                r3_9 = r3_2;
+                                r3_10 = r3_3;
+                                r3_11 = r3_4;
+                                r3_12 = r3_5;
+                            }
+                            r27_3 = low_zeros(r3_9);
+                            index_5 = r3_10 + r27_3;
+                            r40_3 = (r3_9 - 1) & r3_9;
+                            slot_7 = shared_7 + (index_5 * SLOT_SIZE);
+                            if (load64(slot_7 + SLOT_REST_LEN) == 0) {
+                                key_5 = load_key(slot_7 + SLOT_KEY);
+                                value_5 = load64(slot_7 + SLOT_VALUE);
+                                has_first = load8(slot_7 + SLOT_HAS_FIRST);
+                                memset(slot_7, 0, 24);
+                                if (has_first == 1) {
+                                    index_6 = (key_5 * MULTIPLIER) & r2_3;
+                                    r11_2 = r1_2 + ((index_6 >> 3) & UINT64_C(2305843009213693944));
+                                    store64(r11_2, load64(r11_2) | ((uint64_t)1 << (index_6 & 63)));
+                                    slot_8 = shared_7 + (index_6 * SLOT_SIZE);
+                                    store64(slot_8 + SLOT_HAS_FIRST, 1);
+                                    store64(slot_8 + SLOT_KEY, key_5);
+                                    store64(slot_8 + SLOT_VALUE, value_5);
+                                    goto loop_2_backedge_3;
+                                }
+                            }
+                            place_move_several(r8 + 8, shared_7, shared_len_6, index_5, r4);
+                        loop_2_backedge_3:;
+                            r3_2 = r40_3;
+                            r3_3 = r3_10;
+                            r3_4 = r3_11;
+                            r3_5 = r3_12;
+                        }
+                    }
+                    r33_4 = r8_11 - 1;
+                    bits_8 = load64(r8_12);
+                    r60_4 = r8_13 + 64;
+                    if (bits_8 != 0) {
+                        r8_14 = bits_8;
+                        r8_15 = r60_4;
+                        r8_16 = r8_12 + 8;
+                        r8_17 = r33_4;
+                        break;
+                    }
+                    r8_11 = r33_4;
+                    r8_12 = r8_12 + 8;
+                    r8_13 = r60_4;
+                }
+            } else {
+                r8_14 = r8_7;
+                r8_15 = r8_8;
+                r8_16 = r8_9;
+                r8_17 = r8_10;
+            }
+            r27_4 = low_zeros(r8_14);
+            index_7 = r8_15 + r27_4;
+            r40_4 = (r8_14 - 1) & r8_14;
+            slot_9 = shared_6 + (index_7 * SLOT_SIZE);
+            rest_len_3 = load64(slot_9 + SLOT_REST_LEN);
+            if (rest_len_3 > 2) {
+                r76 = load64(map + INT_MAP_MASK) + 1;
+                if (r21) {
+                    rest_len_4 = rest_len_3;
+                } else {
+                    if (!r317) {
+                        memset(r8_4, 0, x26);
+                    }
+                    store64(r56, 0);
+                    rest_len_4 = load64(slot_9 + SLOT_REST_LEN);
+                }
+                rest_3 = load_address(slot_9 + SLOT_REST);
+                if (load8(slot_9 + SLOT_HAS_FIRST) == 1) {
+                    if (r76 == 0) {
+                        abort();
+                    }
+                    r20_4 = r8_4 + ((((load64(slot_9 + SLOT_KEY) * MULTIPLIER) & ((r76 * r8_5) - 1)) / r76) << 3);
+                    store64(r20_4, load64(r20_4) + 1);
+                }
+                if (rest_len_4 != 0) {
+                    r2_4 = (r76 * r8_5) - 1;
+                    if (r76 == 0) {
+                        abort();
+                    }
+                    place_4 = 0;
+                    for (;;) {
+                        r20_5 = r8_4 + ((((load64((rest_3 + (place_4 << 4)) + PAIR_KEY) * MULTIPLIER) & r2_4) / r76) << 3);
+                        store64(r20_5, load64(r20_5) + 1);
+                        next_place_2 = place_4 + 1;
+                        if (next_place_2 == rest_len_4) {
+                            break;
+                        }
+                        place_4 = next_place_2;
+                    }
+                }
+                r89 = load64(map + INT_MAP_MASK) + 1;
+                if (!r21) {
+                    r5_08 = false;
+                    r6_07 = 0;
+                    for (;;) {
+                        r38 = load64(r8_4 + (r6_07 << 3));
+                        r41 = r38 > 1;
+                        if (r41 ? r5_08 : false) {
+                            r64 = slot_reserve_behind(shared_6 + (((r6_07 * r89) + index_7) * SLOT_SIZE), r38 - 1);
+                            if ((r64 & 1) != 0) {
+                                goto arm_8_2;
+                            }
+                            r5_1 = true;
+                        } else {
+                            r5_1 = r41 ? true : r5_08;
+                        }
+                        r73 = r6_07 + 1;
+                        if (r73 == r8_5) {
+                            break;
+                        }
+                        r5_08 = r5_1;
+                        r6_07 = r73;
+                    }
+                }
+            }
+            spec_select = greater(r6_0, rest_len_3);
+            r8_7 = r40_4;
+            r8_8 = r8_15;
+            r8_9 = r8_16;
+            r8_10 = r8_17;
+            r6_0 = spec_select;
+        }
+    arm_8_2:;
+        shared_len_7 = load64(map + INT_MAP_SHARED_LEN);
+        shared_room_4 = load64(map + INT_MAP_SHARED_ROOM);
+        if (shared_len_7 > shared_len_2) {
+            shared_8 = load_address(map + INT_MAP_SHARED);
+            memset(map + INT_MAP_SHARED_LEN, 0, 16);
+            index_8 = shared_len_2;
+            for (;;) {
+                slot_10 = shared_8 + (index_8 * SLOT_SIZE);
+                if (load64(slot_10 + SLOT_REST_ROOM) != 0) {
+                    rattle_dealloc(load_address(slot_10 + SLOT_REST));
+                }
+                next_index_3 = index_8 + 1;
+                if (next_index_3 == shared_len_7) {
+                    store_address(map + INT_MAP_SHARED, shared_8);
+                    store64(map + INT_MAP_SHARED_LEN, shared_len_2);
+                    store64(map + INT_MAP_SHARED_ROOM, shared_room_4);
+                    shared_len_8 = shared_len_2;
+                    break;
+                }
+                index_8 = next_index_3;
             }
         } else {
-            r3_8 = r3;
-            r3_9 = r3_2;
-            r3_10 = r3_3;
-            r3_11 = r3_4;
+            shared_len_8 = shared_len_7;
         }
-        r27 = low_zeros(r3_8);
-        slot = lone_3 + ((r3_9 + r27) * LONE_SIZE);
-        key = load_key(slot + LONE_KEY);
-        value = load64(slot + LONE_VALUE);
-        has_pair = load8(slot + LONE_HAS_PAIR);
-        memset(slot, 0, 24);
-        if (has_pair != 1) {
-            abort();
+        if (shared_room_4 > shared_len_8) {
+            if (shared_len_8 == 0) {
+                rattle_dealloc(load_address(map + INT_MAP_SHARED));
+                store_address(map + INT_MAP_SHARED, dangling);
+                memset(map + INT_MAP_SHARED_LEN, 0, 16);
+            } else {
+                r12_3 = shared_len_8 * 48;
+                block_4 = rattle_realloc(load_address(map + INT_MAP_SHARED), r12_3, r12_3, 8);
+                if ((block_4.first & 1) != 0) {
+                    store_address(map + INT_MAP_SHARED, (char *)(uintptr_t)block_4.second);
+                    store64(map + INT_MAP_SHARED_ROOM, shared_len_8);
+                }
+            }
         }
-        index = (key * MULTIPLIER) & r2;
-        r11 = r6 + ((index >> 3) & UINT64_C(2305843009213693944));
-        store64(r11, load64(r11) | ((uint64_t)1 << (index & 63)));
-        slot_2 = lone_3 + (index * LONE_SIZE);
-        has_pair_2 = load8(slot_2 + LONE_HAS_PAIR);
-        store64(slot_2 + LONE_HAS_PAIR, 1);
-        store64(slot_2 + LONE_KEY, key);
-        store64(slot_2 + LONE_VALUE, value);
-        if (has_pair_2 != 0) {
-            abort();
+        if (!r12) {
+            rattle_dealloc(r8_4);
         }
-        r3 = (r3_8 - 1) & r3_8;
-        r3_2 = r3_9;
-        r3_3 = r3_10;
-        r3_4 = r3_11;
+    arm_7_5:;
+        if (r1_3 == 0) {
+            r0 = 1;
+        } else {
+            rattle_dealloc(r1_2);
+            r0 = 1;
+        }
+    } else {
+        r0 = 1;
     }
+after_grow_grow_shared:;
+    return r0;
 }
 
 // Allocates room for `capacity` slots, the largest block by far, and then the bits of all of them.
@@ -2170,8 +2331,8 @@ static ALIGNED NOINLINE uint8_t slot_reserve_behind(char *slot, uint64_t count) 
 // Moves the pairs of an old slot that holds several, in order, to the ends of their slots.
 // intmap_table::table::slots::place::move_several, in crates/intmap_table/src/table/slots/place.rt
 static ALIGNED NOINLINE void place_move_several(char *bits, char *slots, uint64_t slots_len, uint64_t index, char *buffer) {
-    char *slot, *rest, *pair, *address, *pair_2, *pair_3, *pair_4, *pair_5, *slot_2, *r11, *rest_2, *rest_3, *rest_4,
-        *rest_5, *pair_6, *rest_6, *rest_7, *pair_7, *slot_3, *r11_2, *rest_8, *rest_9, *rest_10, *pair_8, *pair_9;
+    char *slot, *rest, *pair, *address, *pair_2, *pair_3, *pair_4, *pair_5, *r11, *slot_2, *rest_2, *rest_3, *rest_4,
+        *rest_5, *pair_6, *rest_6, *rest_7, *pair_7, *r11_2, *slot_3, *rest_8, *rest_9, *rest_10, *pair_8, *pair_9;
     uint64_t rest_len, rest_room, len, len_2, place, r6, rest_len_2, r7, place_2, r18, next_place, r31, r298, x1,
         place_3, r6_010, place_4, key, value, r2, index_2, bits_2, r20, rest_len_3, rest_room_2, rest_len_4, place_5,
         rest_len_5, rest_room_3, len_3, rest_room_4, rest_len_6, r3, len_4, place_6, key_2, value_2, index_3, bits_3,
@@ -2271,11 +2432,11 @@ after_Vec_append:;
     }
     r2 = slots_len - 1;
     index_2 = (key * MULTIPLIER) & r2;
-    slot_2 = slots + (index_2 * SLOT_SIZE);
     r11 = load_address(bits + BITS_WORDS) + ((index_2 >> 3) & UINT64_C(2305843009213693944));
     bits_2 = load64(r11);
     r20 = (uint64_t)1 << (index_2 & 63);
     store64(r11, bits_2 | r20);
+    slot_2 = slots + (index_2 * SLOT_SIZE);
     if ((bits_2 & r20) == 0) {
         store64(slot_2 + SLOT_HAS_FIRST, 1);
         store64(slot_2 + SLOT_KEY, key);
@@ -2325,11 +2486,11 @@ after_Vec_append:;
             key_2 = load_key(pair_7 + PAIR_KEY);
             value_2 = load64(pair_7 + PAIR_VALUE);
             index_3 = (key_2 * MULTIPLIER) & r2;
-            slot_3 = slots + (index_3 * SLOT_SIZE);
             r11_2 = load_address(bits + BITS_WORDS) + ((index_3 >> 3) & UINT64_C(2305843009213693944));
             bits_3 = load64(r11_2);
             r20_2 = (uint64_t)1 << (index_3 & 63);
             store64(r11_2, r20_2 | bits_3);
+            slot_3 = slots + (index_3 * SLOT_SIZE);
             if ((r20_2 & bits_3) == 0) {
                 store64(slot_3 + SLOT_HAS_FIRST, 1);
                 store64(slot_3 + SLOT_KEY, key_2);
@@ -2988,9 +3149,9 @@ static ALWAYS_INLINE struct word_word do_intmap_get(char *word, uint64_t key) {
 // The first pair of the walk from the cursor on, behind which the cursor moves.
 // intmap_step, in crates/intmap_c/src/read.rt
 static ALWAYS_INLINE char *do_intmap_step(char *result, char *word, char *at) {
-    char *map, *slot_2, *words, *slot_3, *pair, *value_at, *slot_4, *pair_2;
-    uint64_t key, value, slot, place, common_ret_op, index, place_2, r3_0, r1910, words_len, r39, r1_0, r46, bits,
-        r2_0, r1_0_2, r63, r69;
+    char *map, *slot_2, *slot_3, *pair, *value_at, *slot_4, *pair_2;
+    uint64_t key, value, slot, place, common_ret_op, index, place_2, r3_0, r115, words_len, r33, r1, r1_2, r1_3, r26,
+        bits, r49, r55;
     uint32_t r6;
     map = load_address(word);
     if (map == NULL) {
@@ -3013,49 +3174,45 @@ static ALWAYS_INLINE char *do_intmap_step(char *result, char *word, char *at) {
             if (place < common_ret_op) {
                 index = slot;
                 place_2 = place;
-                goto join_3_4;
+                goto join_3_3;
             }
         }
     join_3_2:;
         r3_0 = sum_or_most(slot, 1);
-        r1910 = r3_0 >> 6;
+        r115 = r3_0 >> 6;
         words_len = load64(map + INT_MAP_WORDS_LEN);
-        if (words_len <= r1910) {
-            key = 0;
-            value = 0;
-            r6 = 0;
-            goto after_read_intmap_step;
-        }
-        words = load_address(map + INT_MAP_WORDS);
-        r39 = load64(words + (r1910 << 3)) & (UINT64_C(18446744073709551615) << (r3_0 & 63));
-        if (r39 == 0) {
-            r1_0 = r1910;
-            for (;;) {
-                r46 = r1_0 + 1;
-                if (r46 == words_len) {
-                    key = 0;
-                    value = 0;
-                    r6 = 0;
-                    goto after_read_intmap_step;
-                }
-                bits = load64(words + (r46 << 3));
-                if (bits != 0) {
-                    r2_0 = bits;
-                    r1_0_2 = r46;
-                    break;
-                }
-                r1_0 = r46;
+        if (words_len > r115) {
+            r33 = load64(load_address(map + INT_MAP_WORDS) + (r115 << 3)) & (UINT64_C(18446744073709551615) << (r3_0 & 63));
+            if (r33 != 0) {
+                r1 = r115;
+                r1_2 = r33;
+                goto arm_4;
             }
-        } else {
-            r2_0 = r39;
-            r1_0_2 = r1910;
         }
-        r63 = low_zeros(r2_0);
-        r69 = (r1_0_2 << 6) | r63;
-        store64(at + CURSOR_SLOT, r69);
-        index = r69;
+        r1_3 = r115;
+        for (;;) {
+            r26 = r1_3 + 1;
+            if (words_len <= r26) {
+                key = 0;
+                value = 0;
+                r6 = 0;
+                goto after_read_intmap_step;
+            }
+            bits = load64(load_address(map + INT_MAP_WORDS) + (r26 << 3));
+            if (bits != 0) {
+                r1 = r26;
+                r1_2 = bits;
+                break;
+            }
+            r1_3 = r26;
+        }
+    arm_4:;
+        r49 = low_zeros(r1_2);
+        r55 = r49 | (r1 << 6);
+        store64(at + CURSOR_SLOT, r55);
+        index = r55;
         place_2 = 0;
-    join_3_4:;
+    join_3_3:;
         store64(at + CURSOR_PLACE, place_2 + 1);
         if (index < load64(map + INT_MAP_LONE_LEN)) {
             slot_3 = load_address(map + INT_MAP_LONE) + (index * LONE_SIZE);
@@ -3244,14 +3401,14 @@ static ALWAYS_INLINE void do_intmap_clear(char *handle) {
 // Removes the first pair of the walk from the cursor on and returns it.
 // intmap_cut, in crates/intmap_c/src/walk.rt
 static ALWAYS_INLINE char *do_intmap_cut(char *result, char *handle, char *at) {
-    uint64_t map_address, key, value, slot, place, r8, r6_2, r3051, rest_len, rest_len_2, r305061, place_2,
+    uint64_t map_address, key, value, slot, place, r8, r6_2, r3063, rest_len, rest_len_2, r306273, place_2,
         rest_room, r6_3, key_2, value_2, r28, r20, place_3, r0_05, r19, r29, place_4, r13, next_place, place_5,
-        r20_2, exit, r0_05_2, r19_2, r29_2, x9, r20_lcssa60, place_6, key_3, value_3, r305060, value_4, key_4, r3_0,
-        r1910, words_len, r39, r1_0, r46, key_5, value_5, bits, r2_0, r1_0_2, r63, index, exit_2, key_6, value_6,
+        r20_2, exit, r0_05_2, r19_2, r29_2, x9, r20_lcssa60, place_6, key_3, value_3, r306272, value_4, key_4, r3_0,
+        r115, words_len, r33, r1, r1_2, r1_3, r26, bits, key_5, value_5, r49, index, exit_2, key_6, value_6,
         rest_room_2, key_7, value_7, r28_2, place_7, place_8, r13_2, next_place_2, place_9, r20_3, exit_3, x18,
         r20_lcssa60_2, place_10, place_11, r13_3, next_place_3, key_8, value_8, key_9, value_9;
-    char *map, *lone, *lone_2, *slot_2, *r5, *slot_3, *rest, *pair, *pair_2, *pair_3, *pair_4, *words, *lone_3,
-        *slot_4, *rest_2, *pair_5, *pair_6, *pair_7, *r11, *slot_5, *r11_2;
+    char *map, *lone, *lone_2, *slot_2, *r5, *slot_3, *rest, *pair, *pair_2, *pair_3, *pair_4, *lone_3, *slot_4,
+        *rest_2, *pair_5, *pair_6, *pair_7, *r11, *slot_5, *r11_2;
     uint32_t r6, r8_2;
     uint8_t has_pair, has_pair_2, has_first;
     map_address = load64(handle);
@@ -3273,7 +3430,7 @@ static ALWAYS_INLINE char *do_intmap_cut(char *result, char *handle, char *at) {
                     has_pair_2 = has_pair;
                     r6_2 = r8;
                     lone_2 = lone;
-                    r3051 = slot;
+                    r3063 = slot;
                     goto then_1_4;
                 }
             } else {
@@ -3285,8 +3442,8 @@ static ALWAYS_INLINE char *do_intmap_cut(char *result, char *handle, char *at) {
                             rest_len_2 = rest_len;
                             r5 = slot_2 + SLOT_REST;
                             slot_3 = slot_2;
-                            r305061 = slot;
-                            goto join_3_5;
+                            r306273 = slot;
+                            goto join_3_4;
                         }
                         place_2 = place - 1;
                         rest = load_address(slot_2 + SLOT_REST);
@@ -3370,7 +3527,7 @@ static ALWAYS_INLINE char *do_intmap_cut(char *result, char *handle, char *at) {
                             value_3 = value_2;
                             goto x24;
                         }
-                        r305060 = slot;
+                        r306272 = slot;
                         value_4 = value_2;
                         key_4 = key_2;
                         goto then_1_3;
@@ -3379,40 +3536,36 @@ static ALWAYS_INLINE char *do_intmap_cut(char *result, char *handle, char *at) {
             }
         }
         r3_0 = sum_or_most(slot, 1);
-        r1910 = r3_0 >> 6;
+        r115 = r3_0 >> 6;
         words_len = load64(map + INT_MAP_WORDS_LEN);
-        if (words_len <= r1910) {
-            key_5 = 0;
-            r8_2 = 0;
-            value_5 = 0;
-            goto after_walk_cut;
-        }
-        words = load_address(map + INT_MAP_WORDS);
-        r39 = load64(words + (r1910 << 3)) & (UINT64_C(18446744073709551615) << (r3_0 & 63));
-        if (r39 == 0) {
-            r1_0 = r1910;
-            for (;;) {
-                r46 = r1_0 + 1;
-                if (r46 == words_len) {
-                    key_5 = 0;
-                    r8_2 = 0;
-                    value_5 = 0;
-                    goto after_walk_cut;
-                }
-                bits = load64(words + (r46 << 3));
-                if (bits != 0) {
-                    r2_0 = bits;
-                    r1_0_2 = r46;
-                    break;
-                }
-                r1_0 = r46;
+        if (words_len > r115) {
+            r33 = load64(load_address(map + INT_MAP_WORDS) + (r115 << 3)) & (UINT64_C(18446744073709551615) << (r3_0 & 63));
+            if (r33 != 0) {
+                r1 = r115;
+                r1_2 = r33;
+                goto join_3_thread;
             }
-        } else {
-            r2_0 = r39;
-            r1_0_2 = r1910;
         }
-        r63 = low_zeros(r2_0);
-        index = (r1_0_2 << 6) | r63;
+        r1_3 = r115;
+        for (;;) {
+            r26 = r1_3 + 1;
+            if (words_len <= r26) {
+                key_5 = 0;
+                r8_2 = 0;
+                value_5 = 0;
+                goto after_walk_cut;
+            }
+            bits = load64(load_address(map + INT_MAP_WORDS) + (r26 << 3));
+            if (bits != 0) {
+                r1 = r26;
+                r1_2 = bits;
+                break;
+            }
+            r1_3 = r26;
+        }
+    join_3_thread:;
+        r49 = low_zeros(r1_2);
+        index = r49 | (r1 << 6);
         store64(at + CURSOR_SLOT, index);
         store64(at + CURSOR_PLACE, 0);
         if (index < load64(map + INT_MAP_LONE_LEN)) {
@@ -3421,22 +3574,22 @@ static ALWAYS_INLINE char *do_intmap_cut(char *result, char *handle, char *at) {
             has_pair_2 = load8((lone_3 + exit_2) + LONE_HAS_PAIR);
             r6_2 = exit_2;
             lone_2 = lone_3;
-            r3051 = index;
+            r3063 = index;
             goto then_1_4;
         }
         slot_4 = load_address(map + INT_MAP_SHARED) + (index * SLOT_SIZE);
         rest_len_2 = load64(slot_4 + SLOT_REST_LEN);
         r5 = slot_4 + SLOT_REST;
         slot_3 = slot_4;
-        r305061 = index;
-    join_3_5:;
+        r306273 = index;
+    join_3_4:;
         if (rest_len_2 == 0) {
             has_first = load8(slot_3 + SLOT_HAS_FIRST);
             key_6 = load64(slot_3 + SLOT_KEY);
             value_6 = load64(slot_3 + SLOT_VALUE);
             memset(slot_3, 0, 24);
             if (has_first == 1) {
-                r305060 = r305061;
+                r306272 = r306273;
                 value_4 = value_6;
                 key_4 = key_6;
                 goto then_1_3;
@@ -3507,8 +3660,8 @@ static ALWAYS_INLINE char *do_intmap_cut(char *result, char *handle, char *at) {
         value_3 = value_8;
         goto x24;
     then_1_3:;
-        r11 = load_address(map + INT_MAP_WORDS) + ((r305060 >> 3) & UINT64_C(2305843009213693944));
-        store64(r11, load64(r11) & (((uint64_t)1 << (r305060 & 63)) ^ UINT64_C(18446744073709551615)));
+        r11 = load_address(map + INT_MAP_WORDS) + ((r306272 >> 3) & UINT64_C(2305843009213693944));
+        store64(r11, load64(r11) & (((uint64_t)1 << (r306272 & 63)) ^ UINT64_C(18446744073709551615)));
         key_3 = key_4;
         value_3 = value_4;
         goto x24;
@@ -3520,8 +3673,8 @@ static ALWAYS_INLINE char *do_intmap_cut(char *result, char *handle, char *at) {
         if (has_pair_2 != 1) {
             abort();
         }
-        r11_2 = load_address(map + INT_MAP_WORDS) + ((r3051 >> 3) & UINT64_C(2305843009213693944));
-        store64(r11_2, load64(r11_2) & (((uint64_t)1 << (r3051 & 63)) ^ UINT64_C(18446744073709551615)));
+        r11_2 = load_address(map + INT_MAP_WORDS) + ((r3063 >> 3) & UINT64_C(2305843009213693944));
+        store64(r11_2, load64(r11_2) & (((uint64_t)1 << (r3063 & 63)) ^ UINT64_C(18446744073709551615)));
         key_3 = key_9;
         value_3 = value_9;
     x24:;

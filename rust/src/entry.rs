@@ -138,7 +138,7 @@ impl<'a, K: IntKey, V> Entry<'a, K, V> {
     /// [`IntMap::try_insert`] does.
     ///
     /// Proved of `Entry::insert_entry`: `written`, `inserted`, `err`, `value_returned`, `refused`,
-    /// `lone`.
+    /// `succeeds`.
     #[inline]
     pub fn try_insert_entry(self, value: V) -> Result<OccupiedEntry<'a, K, V>, Refused<V>> {
         let (map, found) = self.proved().parted();

@@ -109,7 +109,7 @@ impl<K: IntKey> IntSet<K> {
     /// was. It never fails if the key is a member, nor if no member shares its slot and the capacity
     /// stays.
     ///
-    /// Proved of `IntSet::insert`: `new`, `inserted`, `state`, `err`, `refused`, `lone`.
+    /// Proved of `IntSet::insert`: `new`, `inserted`, `state`, `err`, `refused`, `succeeds`.
     #[inline]
     pub fn try_insert(&mut self, key: K) -> Result<bool, Cause> {
         guarded(&mut self.set, |set| set.insert(key))

@@ -81,7 +81,7 @@ pub fn five_answers(alloc: Global) -> Result<Vec<Answer<u64, u64, u64>>, Cause>
         ∷ Answer.Seen (Some 2) ∷ Answer.Old (Some 2) ∷ Answer.Number 0 ∷ []) }
     ensures err { IfErr result (λ cause. cause ≡ Cause.Memory) }
 {
-    laws::lone_pairs_are_never_refused::<u64, u64>();
+    laws::pairs_that_need_no_memory_are_never_refused::<u64, u64>();
     let mut map: IntMap<u64, u64> = IntMap::new(alloc)?;
     let Ok(commands) = vec![in alloc;
         Command::Insert(7, 1),

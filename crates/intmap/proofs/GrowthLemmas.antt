@@ -70,13 +70,6 @@ IsWanted-wanted_capacity C n F cap small =
       ];
     }
 
--- there is one least power at most
-pub IsLeastPower-unique : (n p q : ℕ) → IsLeastPower n p → IsLeastPower n q → p ≡ q
-IsLeastPower-unique n p q a b =
-    let lower : p ≤ 2 ^ b.power.0 = a.least b.power.0 (subst (λ x. n ≤ x) b.power.1 b.enough) in
-    let upper : q ≤ 2 ^ a.power.0 = b.least a.power.0 (subst (λ x. n ≤ x) a.power.1 a.enough) in
-    omega (arith, lower, upper, a.power.1, b.power.1)
-
 -- what `next_power_of_two` returns is the least
 pub IsLeastPower-up : (n p : ℕ) → IsPowerOfTwo p → n ≤ p → p / 2 < max 1 n → IsLeastPower n p
 IsLeastPower-up n p power enough below = record {

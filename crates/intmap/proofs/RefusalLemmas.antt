@@ -4,7 +4,7 @@ use Rattle.intmap_table.specs.Bindings.{value_of}
 use Rattle.intmap_table.specs.Classes.{IsCapacity}
 use Rattle.intmap_table.specs.Reach.{class_size}
 use Rattle.intmap.specs.Growth.{IsNext}
-use Rattle.intmap.specs.Map.{MapState, IsLone, after_search}
+use Rattle.intmap.specs.Map.{MapState, NeedsNoMemory, after_search}
 use Rattle.intmap.specs.PlainLists.{PlainList, RefusalIsDue, list_of}
 use Rattle.intmap.specs.declared.refusal.Cause.{Cause}
 use Rattle.intmap.specs.declared.refusal.Cause.TheVariants.{Memory, TooLarge}
@@ -25,9 +25,9 @@ module _ {K V : Type 0} (number : K → ℕ) (s : PlainList K V) (k : K) where
       memory = λ _. shared;
     }
 
-  pub lone-never_refused : IsCapacity s.capacity → IsLone number s.pairs s.capacity s.factor k → (cause : Cause) → RefusalIsDue number s k cause → ⊥
-  lone-never_refused capacity lone Memory may = let some = may.memory refl lone.stays in omega (arith, lone.alone, some)
-  lone-never_refused capacity lone TooLarge may = in_range-next s.pairs s.capacity s.factor s.capacity lone.count capacity lone.stays (may.too_large.0 refl).1
+  pub NeedsNoMemory-never_refused : IsCapacity s.capacity → NeedsNoMemory number s.pairs s.capacity s.factor k → (cause : Cause) → RefusalIsDue number s k cause → ⊥
+  NeedsNoMemory-never_refused capacity free Memory may = let some = may.memory refl free.stays in omega (arith, free.alone, some)
+  NeedsNoMemory-never_refused capacity free TooLarge may = in_range-next s.pairs s.capacity s.factor s.capacity free.count capacity free.stays (may.too_large.0 refl).1
 
 -- an insertion that fails behind a look-up may fail before it
 pub RefusalIsDue-searched : {K V : Type 0} (number : K → ℕ) (m : MapState K V) (q k : K) (cause : Cause) → RefusalIsDue number (list_of (after_search number m q)) k cause → RefusalIsDue number (list_of m) k cause

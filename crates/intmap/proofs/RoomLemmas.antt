@@ -17,13 +17,13 @@ use Rattle.intmap_table.proofs.WalkLemmas.{class_size-same, walk_of-walk_of}
 use Rattle.intmap.specs.Extending.{MapInsertsAll}
 use Rattle.intmap.specs.Insertions.{MapInserts}
 use Rattle.intmap.specs.Growth.{IsNext}
-use Rattle.intmap.specs.Map.{MapState, IsLone}
+use Rattle.intmap.specs.Map.{MapState, NeedsNoMemory}
 use Rattle.intmap.specs.PlainLists.{RefusalIsDue, list_of}
 use Rattle.intmap.specs.Room.{HasRoomFor}
 use Rattle.intmap.specs.declared.refusal.Cause.{Cause}
 use Rattle.intmap.proofs.CostLemmas.{class_size-in_row}
 use Rattle.intmap.proofs.LoadFactorLemmas.{IsNext-unique, IsNext-loaded}
-use Rattle.intmap.proofs.RefusalLemmas.{lone-never_refused}
+use Rattle.intmap.proofs.RefusalLemmas.{NeedsNoMemory-never_refused}
 
 module _ {K V : Type 0} (number : K → ℕ) where
   -- the class of a key in two lists
@@ -44,9 +44,9 @@ module _ {K V : Type 0} (number : K → ℕ) where
   put_pair-alone L C k v alone =
       ap (λ M. M ++ (k, v) ∷ []) (swap_out-none (λ p. same_key number k p.0) (λ p. agrees number C k p.0) L (position-from_none (same_key number k) L (value_of-alone L C k alone)))
 
-  -- the first of the pairs for which there is room is lone
-  pub IsLone-room : (L : List (K × V)) (C F : ℕ) (p : K × V) (ps : List (K × V)) → IsCapacity C → HasRoomFor number L C F (p ∷ ps) → IsLone number L C F p.0
-  IsLone-room L C F p ps capacity room =
+  -- the first of the pairs for which there is room needs no memory
+  pub NeedsNoMemory-room : (L : List (K × V)) (C F : ℕ) (p : K × V) (ps : List (K × V)) → IsCapacity C → HasRoomFor number L C F (p ∷ ps) → NeedsNoMemory number L C F p.0
+  NeedsNoMemory-room L C F p ps capacity room =
       let one : class_size number (L ++ p ∷ ps) C p.0 ≡ 1 = All-head (λ q. class_size number (L ++ p ∷ ps) C q.0 ≡ 1) p ps room.alone in
       let both = class_size-append L (p ∷ ps) C p.0 in
       let own = class_size-own C p ps in
@@ -61,18 +61,18 @@ module _ {K V : Type 0} (number : K → ℕ) where
 module _ {K V : Type 0} (number : K → ℕ) (is_valid : K → Type 0) where
   module _ (m l : MapState K V) (p : K × V) (ps : List (K × V)) (capacity : IsCapacity m.capacity) (room : HasRoomFor number m.walk m.capacity m.factor (p ∷ ps))
       (step : MapInserts number is_valid m p.0 p.1 l) where
-    lone : IsLone number m.walk m.capacity m.factor p.0
-    lone = IsLone-room number m.walk m.capacity m.factor p ps capacity room
+    free : NeedsNoMemory number m.walk m.capacity m.factor p.0
+    free = NeedsNoMemory-room number m.walk m.capacity m.factor p ps capacity room
 
     capacity-kept : l.capacity ≡ m.capacity
     capacity-kept =
-        let next : IsNext m.capacity (length m.walk + 1) m.factor l.capacity = rw (value_of-alone number m.walk m.capacity p.0 lone.alone) at step.inserted.fits.capacity in
-        IsNext-unique m.capacity (length m.walk + 1) m.factor l.capacity m.capacity next lone.stays
+        let next : IsNext m.capacity (length m.walk + 1) m.factor l.capacity = rw (value_of-alone number m.walk m.capacity p.0 free.alone) at step.inserted.fits.capacity in
+        IsNext-unique m.capacity (length m.walk + 1) m.factor l.capacity m.capacity next free.stays
 
     walk-after : l.walk ≡ walk_of number (m.walk ++ p ∷ []) m.capacity
     walk-after =
         ap (λ n. n.walk) step.state
-        ∙ ap (λ L. walk_of number L l.capacity) (put_pair-alone number m.walk m.capacity p.0 p.1 lone.alone)
+        ∙ ap (λ L. walk_of number L l.capacity) (put_pair-alone number m.walk m.capacity p.0 p.1 free.alone)
         ∙ ap (λ C. walk_of number (m.walk ++ p ∷ []) C) capacity-kept
 
     class_size-after : (q : K) → class_size number l.walk m.capacity q ≡ class_size number (m.walk ++ p ∷ []) m.capacity q
@@ -127,7 +127,7 @@ module _ {K V : Type 0} (number : K → ℕ) (is_valid : K → Type 0) where
   never_refused-room m n ps qs p cause capacity room steps may =
       let left : IsRoomLeft m (p ∷ qs) n = IsRoomLeft-from m n ps (p ∷ qs) capacity room steps in
       let here : IsCapacity n.capacity = rw left.capacity capacity in
-      lone-never_refused number (list_of n) p.0 here (IsLone-room number n.walk n.capacity n.factor p qs here left.room) cause may
+      NeedsNoMemory-never_refused number (list_of n) p.0 here (NeedsNoMemory-room number n.walk n.capacity n.factor p qs here left.room) cause may
 
 module _ {K V : Type 0} (number : K → ℕ) where
   -- distinct keys whose numbers stand in a row as long as the capacity each have a slot of their own

@@ -71,8 +71,8 @@ module _ {K V : Type 0} (number : K → ℕ) where
   abbrev pub IsOutOfRange : List (K × V) → ℕ → ℕ → K → Type 0
   IsOutOfRange L C F k = IsNone (value_of number L k) × ((2 ^ 64 ≤ length L + 1) ⊎ NeedsTooMuch (IsNext C (length L + 1) F))
 
-  -- k is lone: no key shares its slot, the capacity stays at the length after it, and that length is below 2^64
-  pub record IsLone (L : List (K × V)) (C F : ℕ) (k : K) : Type 0 where
+  -- the insertion of k, if it is new, needs no memory: no key shares its slot, the capacity stays at the length after it, and that length is below 2^64
+  pub record NeedsNoMemory (L : List (K × V)) (C F : ℕ) (k : K) : Type 0 where
     pub alone : class_size number L C k ≡ 0
     pub stays : IsNext C (length L + 1) F C
     pub count : length L + 1 < 2 ^ 64

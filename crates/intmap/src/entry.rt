@@ -6,7 +6,7 @@ ghost use Rattle.intmap_table.specs.Locations.{IsFound};
 ghost use Rattle.std.specs.Borrow.{sem, MutBor};
 ghost use Rattle.std.specs.Map.Calls.{ModifiesValue};
 ghost use Rattle.intmap.specs.Insertions.{IsInsertion};
-ghost use Rattle.intmap.specs.Map.{IsLone, IsMap, after_search};
+ghost use Rattle.intmap.specs.Map.{NeedsNoMemory, IsMap, after_search};
 ghost use Rattle.intmap.specs.PlainLists.{RefusalIsDue};
 
 mod insert;
@@ -167,7 +167,7 @@ impl<'a, K: IntKey, V, A: Allocator + Copy> Entry<'a, K, V, A> {
         // when it fails
         ensures refused { IfErr result (λ refused. RefusalIsDue K.number_of (entry_list self.entry)
             (entry_key self.entry) refused.cause) }
-        ensures lone { IsLone K.number_of (entry_map self.entry).walk
+        ensures succeeds { NeedsNoMemory K.number_of (entry_map self.entry).walk
             (entry_map self.entry).capacity (entry_map self.entry).factor (entry_key self.entry)
             → IsOk result }
     {

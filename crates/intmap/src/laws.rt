@@ -13,7 +13,7 @@ ghost use Rattle.intmap_table.specs.Figures.{load_of};
 ghost use Rattle.intmap.specs.Growth.{IsWanted, IsNext, MeetsLoad, NeedsTooMuch};
 ghost use Rattle.intmap.specs.Entries.{entry_map, entry_key, map_with_value};
 ghost use Rattle.intmap.specs.Insertions.{IsInsertion};
-ghost use Rattle.intmap.specs.Map.{MapState, IsCapacityAfter, IsLone, IsMap, after_remove};
+ghost use Rattle.intmap.specs.Map.{MapState, IsCapacityAfter, NeedsNoMemory, IsMap, after_remove};
 ghost use Rattle.intmap.specs.Equality.{maps_equal};
 ghost use Rattle.intmap.specs.PlainLists.{PlainList, RefusalIsDue, list_of};
 ghost use Rattle.intmap.specs.Extending.{IsExtended};
@@ -194,7 +194,7 @@ pub fn met_loads_keep_capacity()
 
 /// The insertion of a pair never fails if its slot holds no pair, the new length is below 2^64, and
 /// the capacity stays at that length.
-pub fn lone_pairs_are_never_refused<K: IntKey, V>()
+pub fn pairs_that_need_no_memory_are_never_refused<K: IntKey, V>()
     ensures { (s : PlainList K V) (k : K) (cause : Cause) → IsCapacity s.capacity
         → length s.pairs + 1 < 2 ^ 64
         → IsNext s.capacity (length s.pairs + 1) s.factor s.capacity
@@ -202,12 +202,12 @@ pub fn lone_pairs_are_never_refused<K: IntKey, V>()
         → RefusalIsDue K.number_of s k cause → ⊥ }
 {}
 
-/// If `n` pairs meet the load of a map, a key that shares its slot with none is lone in it at each
-/// length below `n`, so its insertion never fails.
+/// If `n` pairs meet the load of a map, the insertion of a key that shares its slot with none needs
+/// no memory at each length below `n`, so it never fails.
 pub fn met_loads_leave_room<K: IntKey, V>()
     ensures { (L : List (K × V)) (C F n : ℕ) (k : K) → IsCapacity C → MeetsLoad C n F
         → n < 2 ^ 64 → length L < n → class_size K.number_of L C k ≡ 0
-        → IsLone K.number_of L C F k }
+        → NeedsNoMemory K.number_of L C F k }
 {}
 
 /// If all keys have numbers below the capacity, an absent key with such a number shares its slot
@@ -235,10 +235,10 @@ pub fn pairs_with_room_are_inserted<K: IntKey, V>()
         → HasRoomFor K.number_of n.walk n.capacity n.factor qs }
 {}
 
-/// The first of the pairs for which a map has room is lone.
-pub fn pairs_with_room_are_lone<K: IntKey, V>()
+/// The insertion of the first of the pairs for which a map has room needs no memory.
+pub fn pairs_with_room_need_no_memory<K: IntKey, V>()
     ensures { (L : List (K × V)) (C F : ℕ) (p : K × V) (ps : List (K × V)) → IsCapacity C
-        → HasRoomFor K.number_of L C F (p ∷ ps) → IsLone K.number_of L C F p.0 }
+        → HasRoomFor K.number_of L C F (p ∷ ps) → NeedsNoMemory K.number_of L C F p.0 }
 {}
 
 /// A map has room for new pairs if their keys and its own have numbers in a row no longer than the
@@ -264,11 +264,11 @@ pub fn put_backs_are_never_refused<K: IntKey, V>()
     ensures shorter { (m n : MapState K V) (k : K) → IsMap K.number_of K.is_valid m
         → length n.walk < length m.walk → n.capacity ≡ m.capacity → n.factor ≡ m.factor
         → class_size K.number_of n.walk n.capacity k ≡ 0
-        → IsLone K.number_of n.walk n.capacity n.factor k }
+        → NeedsNoMemory K.number_of n.walk n.capacity n.factor k }
     ensures removed { (m n : MapState K V) (k : K) (v : V) → IsMap K.number_of K.is_valid m
         → n ≡ after_remove K.number_of m k → value_of K.number_of m.walk k ≡ Some v
         → class_size K.number_of m.walk m.capacity k ≡ 1
-        → IsLone K.number_of n.walk n.capacity n.factor k }
+        → NeedsNoMemory K.number_of n.walk n.capacity n.factor k }
 {}
 
 /// If every key with a number of at least `n` is absent, the numbers of all keys are below `n`.

@@ -8,7 +8,7 @@ use Rattle.intmap.specs.Insertions.{IsInsertion}
 use Rattle.intmap.specs.PlainLists.{RefusalIsDue, list_of}
 use Rattle.intmap.specs.Growing as of_map
 use Rattle.intmap.specs.Growing.{IsEnough, MayRefuseReserve}
-use Rattle.intmap.specs.Map.{MapState, IsLone, after_search, after_insert, after_remove, in_slots}
+use Rattle.intmap.specs.Map.{MapState, NeedsNoMemory, after_search, after_insert, after_remove, in_slots}
 use Rattle.intmap.specs.Reach.{reach}
 use Rattle.intmap.specs.Walk.{ArePassed}
 use Rattle.intmap_set.specs.Sets.{SetState, as_map, load_factor, looked_up, paired, set_of}
@@ -55,9 +55,9 @@ module _ {K : Type 0} (number : K → ℕ) (m n : MapState K (Unit {0})) (s : Se
   seen-ArePassed i passed = subst (λ x. ArePassed number x.walk x.capacity i) (sym (as_map-seen m s seen kept)) passed
 
   module _ (k : K) where
-    -- a lone key of the set is one of the map
-    pub IsLone-seen : IsLone number (paired s.walk) s.capacity load_factor k → IsLone number m.walk m.capacity m.factor k
-    IsLone-seen lone = subst (λ x. IsLone number x.walk x.capacity x.factor k) (sym (as_map-seen m s seen kept)) lone
+    -- a key that needs no memory in the set needs none in the map
+    pub NeedsNoMemory-seen : NeedsNoMemory number (paired s.walk) s.capacity load_factor k → NeedsNoMemory number m.walk m.capacity m.factor k
+    NeedsNoMemory-seen free = subst (λ x. NeedsNoMemory number x.walk x.capacity x.factor k) (sym (as_map-seen m s seen kept)) free
 
     -- why the map fails is why the set does
     pub RefusalIsDue-seen : (r : Result Bool Cause) (cause : Cause) → IsErrAnd r (λ e. e ≡ cause) → RefusalIsDue number (list_of m) k cause

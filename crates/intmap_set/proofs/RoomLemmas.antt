@@ -8,14 +8,14 @@ use Rattle.std.specs.Prelude.{◌==◌, ◌||◌, All, IsTrue, MatchOption}
 use Rattle.intmap.specs.Bindings.{HasDistinctKeys, value_of}
 use Rattle.intmap.specs.Classes.{IsCapacity, agrees}
 use Rattle.intmap.specs.Growth.{IsNext, MeetsLoad}
-use Rattle.intmap.specs.Map.{IsCapacityAfter, IsLone}
+use Rattle.intmap.specs.Map.{IsCapacityAfter, NeedsNoMemory}
 use Rattle.intmap.specs.PlainLists.{RefusalIsDue, list_of}
 use Rattle.intmap.specs.Reach.{class_size, reach}
 use Rattle.intmap.specs.declared.refusal.Cause.{Cause}
 use Rattle.intmap.proofs.CostLemmas.{class_size-below, reach-within_class}
 use Rattle.intmap.proofs.CountLemmas.{count_by-cons}
 use Rattle.intmap.proofs.LoadFactorLemmas.{IsNext-met, IsNext-unique, MeetsLoad-fewer}
-use Rattle.intmap.proofs.RefusalLemmas.{lone-never_refused}
+use Rattle.intmap.proofs.RefusalLemmas.{NeedsNoMemory-never_refused}
 use Rattle.intmap.proofs.SlotNumberLemmas.{capacity-greatest, capacity-positive}
 use Rattle.intmap_set.specs.Sets.{SetState, AreBelow, IsAlone, as_map, holds, load_factor, paired}
 use Rattle.intmap_set.proofs.MemberLemmas.{holds-paired, holds-same_number, length-paired, same_key-itself}
@@ -78,9 +78,9 @@ module _ {K : Type 0} (number : K → ℕ) where
         let up : length (paired W) + 1 ≤ n = (let same = length-paired W in omega (arith, same, few)) in
         IsNext-met C (length (paired W) + 1) load_factor capacity (MeetsLoad-fewer C n (length (paired W) + 1) load_factor (capacity-positive C capacity) meets up)
 
-    -- a key that is alone is lone
-    pub IsLone-met : IsAlone number W C k → IsLone number (paired W) C load_factor k
-    IsLone-met alone = record {
+    -- a key that is alone needs no memory
+    pub NeedsNoMemory-met : IsAlone number W C k → NeedsNoMemory number (paired W) C load_factor k
+    NeedsNoMemory-met alone = record {
       alone = class_size-alone W C k alone;
       stays = stays;
       count = (let same = length-paired W in let fits = few-met C n capacity meets in omega (arith, same, few, fits));
@@ -94,14 +94,14 @@ module _ {K : Type 0} (number : K → ℕ) where
         at None next = IsNext-unique C (length (paired W) + 1) load_factor D C next stays
         at (Some v) same = same
 
-  -- the insertion of a lone key never fails
-  pub lone-never_due : (s : SetState K) (k : K) (cause : Cause) → IsCapacity s.capacity → IsLone number (paired s.walk) s.capacity load_factor k
+  -- the insertion of a key that needs no memory never fails
+  pub NeedsNoMemory-never_due : (s : SetState K) (k : K) (cause : Cause) → IsCapacity s.capacity → NeedsNoMemory number (paired s.walk) s.capacity load_factor k
       → RefusalIsDue number (list_of (as_map s)) k cause → ⊥
-  lone-never_due s k cause capacity lone = lone-never_refused number (list_of (as_map s)) k capacity lone cause
+  NeedsNoMemory-never_due s k cause capacity free = NeedsNoMemory-never_refused number (list_of (as_map s)) k capacity free cause
 
   -- nor does that of any key among members below the capacity, if one member more meets the load
   pub small-never_due : (s : SetState K) (k : K) (cause : Cause) → IsCapacity s.capacity → AreBelow number s.walk s.capacity → number k < s.capacity
       → MeetsLoad s.capacity (length s.walk + 1) load_factor → RefusalIsDue number (list_of (as_map s)) k cause → ⊥
   small-never_due s k cause capacity below small meets due =
       let alone = IsAlone-below s.walk s.capacity k below small (holds-paired number s.walk k ∙ due.new_key) in
-      lone-never_due s k cause capacity (IsLone-met s.walk s.capacity (length s.walk + 1) k capacity meets (omega arith) alone) due
+      NeedsNoMemory-never_due s k cause capacity (NeedsNoMemory-met s.walk s.capacity (length s.walk + 1) k capacity meets (omega arith) alone) due

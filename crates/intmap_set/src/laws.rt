@@ -7,7 +7,7 @@ ghost use Rattle.std.specs.Prelude.{◌≡◌, ◌+◌, ◌*◌, ◌<◌, ◌≤
 ghost use Rattle.intmap.specs.Bindings.{HasDistinctKeys, value_of};
 ghost use Rattle.intmap.specs.Classes.{IsCapacity};
 ghost use Rattle.intmap.specs.Growth.{MeetsLoad};
-ghost use Rattle.intmap.specs.Map.{IsCapacityAfter, IsLone};
+ghost use Rattle.intmap.specs.Map.{IsCapacityAfter, NeedsNoMemory};
 ghost use Rattle.intmap.specs.PlainLists.{RefusalIsDue, list_of};
 ghost use Rattle.intmap.specs.Reach.{reach};
 ghost use Rattle.intmap.specs.declared.refusal.Cause.{Cause};
@@ -123,12 +123,12 @@ pub fn distinct_keys_are_new<K: IntKey>()
         → HasDistinctKeys K.number_of (paired ks) → new_keys K.number_of (paired W) (paired ks) ≡ ks }
 {}
 
-/// If `n` members meet the load of a set, a key that shares its slot with none is lone at each
-/// length below `n`, so its insertion never fails.
+/// If `n` members meet the load of a set, the insertion of a key that shares its slot with none
+/// needs no memory at each length below `n`, so it never fails.
 pub fn met_loads_leave_room<K: IntKey>()
     ensures { (W : List K) (C n : ℕ) (k : K) → IsCapacity C → MeetsLoad C n load_factor
         → length W < n → IsAlone K.number_of W C k
-        → IsLone K.number_of (paired W) C load_factor k }
+        → NeedsNoMemory K.number_of (paired W) C load_factor k }
 {}
 
 /// If `n` members meet the load of a set, an insertion at a length below `n` leaves its capacity.
@@ -137,11 +137,12 @@ pub fn met_loads_keep_capacity<K: IntKey>()
         → length W < n → IsCapacityAfter K.number_of (paired W) C load_factor k D → D ≡ C }
 {}
 
-/// The insertion of a lone key never fails. A caller of [`IntSet::extend`](crate::IntSet::extend)
-/// needs this; the contract of [`IntSet::insert`](crate::IntSet::insert) says it by `lone`.
-pub fn lone_keys_are_never_refused<K: IntKey>()
+/// An insertion that needs no memory never fails. A caller of
+/// [`IntSet::extend`](crate::IntSet::extend) needs this; the contract of
+/// [`IntSet::insert`](crate::IntSet::insert) says it by `succeeds`.
+pub fn keys_that_need_no_memory_are_never_refused<K: IntKey>()
     ensures { (s : SetState K) (k : K) (cause : Cause) → IsCapacity s.capacity
-        → IsLone K.number_of (paired s.walk) s.capacity load_factor k
+        → NeedsNoMemory K.number_of (paired s.walk) s.capacity load_factor k
         → RefusalIsDue K.number_of (list_of (as_map s)) k cause → ⊥ }
 {}
 

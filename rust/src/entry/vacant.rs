@@ -79,7 +79,7 @@ impl<'a, K: IntKey, V> VacantEntry<'a, K, V> {
     /// [`IntMap::try_insert`](crate::IntMap::try_insert) does.
     ///
     /// Proved of `VacantEntry::insert_entry`: `written`, `absent`, `inserted`, `err`,
-    /// `value_returned`, `refused`, `lone`.
+    /// `value_returned`, `refused`, `succeeds`.
     #[inline]
     pub fn try_insert_entry(self, value: V) -> Result<OccupiedEntry<'a, K, V>, Refused<V>> {
         let (map, key, slot) = self.0.parted();

@@ -35,7 +35,7 @@ impl<K: IntKey, V> IntMap<K, V> {
     /// value. [`try_insert_checked`](Self::try_insert_checked) keeps it.
     ///
     /// Proved of `IntMap::insert`: `old`, `inserted`, `state`, `err`, `value_returned`, `refused`,
-    /// `lone`.
+    /// `succeeds`.
     ///
     /// ```
     /// use intmap_proved::{IntMap, Refused};
@@ -70,7 +70,7 @@ impl<K: IntKey, V> IntMap<K, V> {
     /// value, as [`try_insert`](Self::try_insert) does.
     ///
     /// Proved of `IntMap::insert_checked`: `new`, `inserted`, `state`, `err`, `value_returned`,
-    /// `refused`, `lone`.
+    /// `refused`, `succeeds`.
     #[inline]
     pub fn try_insert_checked(&mut self, key: K, value: V) -> Result<bool, Refused<V>> {
         guarded(&mut self.map, |map| map.insert_checked(key, value))

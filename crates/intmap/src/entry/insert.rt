@@ -5,7 +5,7 @@ ghost use Rattle.std.specs.Borrow.{sem};
 ghost use Rattle.std.specs.Option.{UnwrapsOrElse};
 ghost use Rattle.intmap.specs.Entries.{entry_map, entry_key, entry_value, entry_list, map_with_value, entry_lends_ok, Vacant, IsMadeRefusal, Occupied, IsWritten, entry_rests};
 ghost use Rattle.intmap.specs.Insertions.{IsInsertion};
-ghost use Rattle.intmap.specs.Map.{IsLone};
+ghost use Rattle.intmap.specs.Map.{NeedsNoMemory};
 ghost use Rattle.intmap.specs.PlainLists.{RefusalIsDue};
 
 use crate::entry::{Entry, OccupiedEntry, VacantEntry};
@@ -42,7 +42,7 @@ impl<'a, K: IntKey, V: Drop, A: Allocator + Copy> VacantEntry<'a, K, V, A> {
         // when it fails
         ensures refused { IfErr result (λ refused. RefusalIsDue K.number_of
             (entry_list (Vacant self.entry)) (entry_key (Vacant self.entry)) refused.cause) }
-        ensures lone { IsLone K.number_of (entry_map (Vacant self.entry)).walk
+        ensures succeeds { NeedsNoMemory K.number_of (entry_map (Vacant self.entry)).walk
             (entry_map (Vacant self.entry)).capacity (entry_map (Vacant self.entry)).factor
             (entry_key (Vacant self.entry)) → IsOk result }
     {
@@ -74,7 +74,7 @@ impl<'a, K: IntKey, V: Drop, A: Allocator + Copy> VacantEntry<'a, K, V, A> {
         ensures err { IfErr result (λ e. (made ≡ Err e) ⊎ IsMadeRefusal (λ m. m ≡ made)
             E.from_gives (RefusalIsDue K.number_of (entry_list (Vacant self.entry))
             (entry_key (Vacant self.entry))) e) }
-        ensures lone { IsLone K.number_of (entry_map (Vacant self.entry)).walk
+        ensures succeeds { NeedsNoMemory K.number_of (entry_map (Vacant self.entry)).walk
             (entry_map (Vacant self.entry)).capacity (entry_map (Vacant self.entry)).factor
             (entry_key (Vacant self.entry)) → IfErr result (λ e. made ≡ Err e) }
     {
@@ -122,7 +122,7 @@ impl<'a, K: IntKey, V: Drop, A: Allocator + Copy> Entry<'a, K, V, A> {
         // when it fails
         ensures refused { IfErr result (λ refused. RefusalIsDue K.number_of (entry_list self.entry)
             (entry_key self.entry) refused.cause) }
-        ensures lone { IsLone K.number_of (entry_map self.entry).walk
+        ensures succeeds { NeedsNoMemory K.number_of (entry_map self.entry).walk
             (entry_map self.entry).capacity (entry_map self.entry).factor (entry_key self.entry)
             → IsOk result }
     {
@@ -161,7 +161,7 @@ impl<'a, K: IntKey, V: Drop, A: Allocator + Copy> Entry<'a, K, V, A> {
         // when it fails
         ensures refused { IfErr result (λ refused. RefusalIsDue K.number_of (entry_list self.entry)
             (entry_key self.entry) refused.cause) }
-        ensures lone { IsLone K.number_of (entry_map self.entry).walk
+        ensures succeeds { NeedsNoMemory K.number_of (entry_map self.entry).walk
             (entry_map self.entry).capacity (entry_map self.entry).factor (entry_key self.entry)
             → IsOk result }
     {
@@ -195,7 +195,7 @@ impl<'a, K: IntKey, V: Drop, A: Allocator + Copy> Entry<'a, K, V, A> {
         // when it fails
         ensures refused { IfErr result (λ refused. RefusalIsDue K.number_of (entry_list self.entry)
             (entry_key self.entry) refused.cause) }
-        ensures lone { IsLone K.number_of (entry_map self.entry).walk
+        ensures succeeds { NeedsNoMemory K.number_of (entry_map self.entry).walk
             (entry_map self.entry).capacity (entry_map self.entry).factor (entry_key self.entry)
             → IsOk result }
     {
@@ -245,7 +245,7 @@ impl<'a, K: IntKey, V: Drop, A: Allocator + Copy> Entry<'a, K, V, A> {
         ensures absent { OnErr result (entry_value self.entry ≡ None) }
         ensures err { IfErr result (λ e. F.post f (Err e) ⊎ IsMadeRefusal (F.post f) E.from_gives
             (RefusalIsDue K.number_of (entry_list self.entry) (entry_key self.entry)) e) }
-        ensures lone { IsLone K.number_of (entry_map self.entry).walk
+        ensures succeeds { NeedsNoMemory K.number_of (entry_map self.entry).walk
             (entry_map self.entry).capacity (entry_map self.entry).factor (entry_key self.entry)
             → IfErr result (λ e. F.post f (Err e)) }
     {
@@ -279,7 +279,7 @@ impl<'a, K: IntKey, V: Drop, A: Allocator + Copy> Entry<'a, K, V, A> {
         // when it fails
         ensures refused { IfErr result (λ refused. RefusalIsDue K.number_of (entry_list self.entry)
             (entry_key self.entry) refused.cause) }
-        ensures lone { IsLone K.number_of (entry_map self.entry).walk
+        ensures succeeds { NeedsNoMemory K.number_of (entry_map self.entry).walk
             (entry_map self.entry).capacity (entry_map self.entry).factor (entry_key self.entry)
             → IsOk result }
     {

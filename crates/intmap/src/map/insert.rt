@@ -5,7 +5,7 @@ ghost use Rattle.intmap_table.specs.Bindings.{value_of};
 ghost use Rattle.intmap_table.specs.Locations.{IsAt};
 ghost use Rattle.intmap.specs.Growth.{is_due};
 ghost use Rattle.intmap.specs.Insertions.{IsInsertion};
-ghost use Rattle.intmap.specs.Map.{IsLone, IsMap, after_search, after_insert, with_pair};
+ghost use Rattle.intmap.specs.Map.{NeedsNoMemory, IsMap, after_search, after_insert, with_pair};
 ghost use Rattle.intmap.specs.PlainLists.{RefusalIsDue, list_of};
 
 use crate::load::{has_outgrown, threshold_of, wanted_capacity};
@@ -56,7 +56,7 @@ impl<K: IntKey, V: Drop, A: Allocator + Copy> IntMap<K, V, A> {
         // when it fails
         ensures refused { IfErr result (λ refused. RefusalIsDue K.number_of (list_of self.old) key
             refused.cause) }
-        ensures lone { IsLone K.number_of self.old.walk self.old.capacity self.old.factor key
+        ensures succeeds { NeedsNoMemory K.number_of self.old.walk self.old.capacity self.old.factor key
             → IsOk result }
 
         ensures valid { IsMap K.number_of K.is_valid self.old }
@@ -99,7 +99,7 @@ impl<K: IntKey, V: Drop, A: Allocator + Copy> IntMap<K, V, A> {
         // when it fails
         ensures refused { IfErr result (λ refused. RefusalIsDue K.number_of (list_of self.old) key
             refused.cause) }
-        ensures lone { IsLone K.number_of self.old.walk self.old.capacity self.old.factor key
+        ensures succeeds { NeedsNoMemory K.number_of self.old.walk self.old.capacity self.old.factor key
             → IsOk result }
 
         ensures valid { IsMap K.number_of K.is_valid self.old }

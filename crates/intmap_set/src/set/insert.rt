@@ -2,7 +2,7 @@
 ghost use Rattle.std.specs.Prelude.{◌≡◌, ◌↔◌, ◌+◌, ◌^◌, ◌<◌, max, length, not, Err, IfOk, IfErr, OnOk, OnErr, IsOk, MatchBool};
 ghost use Rattle.intmap.specs.Growing.{MayRefuseReserve};
 ghost use Rattle.intmap.specs.Growth.{IsLeastPower};
-ghost use Rattle.intmap.specs.Map.{IsLone, after_insert, least_capacity};
+ghost use Rattle.intmap.specs.Map.{NeedsNoMemory, after_insert, least_capacity};
 ghost use Rattle.intmap.specs.PlainLists.{RefusalIsDue, list_of};
 ghost use Rattle.intmap_set.specs.Extending.{Inserts};
 ghost use Rattle.intmap_set.specs.Growing.{IsReservation};
@@ -78,7 +78,7 @@ impl<K: IntKey, A: Allocator + Copy> IntSet<K, A> {
 
         // when it fails
         ensures refused { IfErr result (RefusalIsDue K.number_of (list_of (as_map self.old)) key) }
-        ensures lone { IsLone K.number_of (paired self.old.walk) self.old.capacity load_factor key
+        ensures succeeds { NeedsNoMemory K.number_of (paired self.old.walk) self.old.capacity load_factor key
             → IsOk result }
 
         ensures valid { IsSet K.number_of K.is_valid self.old }

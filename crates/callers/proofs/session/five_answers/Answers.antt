@@ -56,5 +56,5 @@ module _ {A : Type 0} (never_refused : NeverRefused) where
 pub returns-in-Ok-run-clause-ok : goal.returns-in-Ok-run-clause-ok
 returns-in-Ok-run-clause-ok c =
     let run = c.in-Ok-run.ensures.ok (empty_list 4) (rw c.in_ok-map.ensures.state (record { walk = refl; capacity = refl; factor = refl; placed = refl; compared = refl })) in
-    let never_refused : NeverRefused = λ cause. c.lone_pairs_are_never_refused.ensures (empty_list 4) 7 cause (2, (omega arith), (omega arith), refl) (omega arith) refl refl in
+    let never_refused : NeverRefused = λ cause. c.pairs_that_need_no_memory_are_never_refused.ensures (empty_list 4) 7 cause (2, (omega arith), (omega arith), refl) (omega arith) refl refl in
     five never_refused _ run.0 (rw c.in-Ok.ensures.items at run.1)

@@ -1,8 +1,8 @@
-use Rattle.intmap.proofs.PutBackLemmas.{IsLone-shorter, IsLone-removed}
+use Rattle.intmap.proofs.PutBackLemmas.{NeedsNoMemory-shorter, NeedsNoMemory-removed}
 use Rattle.intmap.proofs.laws.put_backs_are_never_refused.Goals as goal
 
 pub returns-clause-shorter : goal.returns-clause-shorter
-returns-clause-shorter g c = IsLone-shorter g.K.IntKey.number_of g.K.IntKey.is_valid
+returns-clause-shorter g c = NeedsNoMemory-shorter g.K.IntKey.number_of g.K.IntKey.is_valid
 
 pub returns-clause-removed : goal.returns-clause-removed
-returns-clause-removed g c = IsLone-removed g.K.IntKey.number_of g.K.IntKey.is_valid
+returns-clause-removed g c = NeedsNoMemory-removed g.K.IntKey.number_of g.K.IntKey.is_valid

@@ -34,7 +34,7 @@ returns-in-Occupied g c =
         err = tt;
         value_returned = tt;
         refused = tt;
-        lone = λ lone. refl;
+        succeeds = λ free. refl;
       },
     )
 
@@ -50,6 +50,6 @@ returns-in-Vacant g c =
         err = tt;
         value_returned = told.value_returned;
         refused = told.refused;
-        lone = told.lone;
+        succeeds = told.succeeds;
       },
     )

@@ -15,7 +15,7 @@ returns-in-Occupied g c =
         inserted = λ v. IsInsertion-present g.K.IntKey.number_of g.K.IntKey.is_valid o.map.now (map_with_value (Occupied o) v) (occupied_key o) v _ told.value refl (told.updates v) (told.len v) (told.valid_after v);
         value_returned = tt;
         refused = tt;
-        lone = λ lone. refl;
+        succeeds = λ free. refl;
       },
     )
 
@@ -31,6 +31,6 @@ returns-in-Vacant g c =
         inserted = told.inserted;
         value_returned = told.value_returned;
         refused = told.refused;
-        lone = told.lone;
+        succeeds = told.succeeds;
       },
     )

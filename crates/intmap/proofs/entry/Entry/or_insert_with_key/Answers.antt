@@ -16,7 +16,7 @@ returns-in-Occupied g c =
         inserted = λ v. IsInsertion-present g.K.IntKey.number_of g.K.IntKey.is_valid o.map.now (map_with_value (Occupied o) v) (occupied_key o) v _ told.value refl (told.updates v) (told.len v) (told.valid_after v);
         value_returned = tt;
         refused = tt;
-        lone = λ lone. refl;
+        succeeds = λ free. refl;
       },
     )
 
@@ -34,6 +34,6 @@ returns-in-Vacant g c =
         inserted = told.inserted;
         value_returned = IfErr-weaker c.insert.result _ _ (λ refused is. subst Made (sym is) made) told.value_returned;
         refused = told.refused;
-        lone = told.lone;
+        succeeds = told.succeeds;
       },
     )

@@ -18,7 +18,7 @@ returns-in-Occupied g c =
         inserted = λ v. IsInsertion-present g.K.IntKey.number_of g.K.IntKey.is_valid o.map.now (map_with_value (Occupied o) v) (occupied_key o) v _ told.value refl (told.updates v) (told.len v) (told.valid_after v);
         absent = tt;
         err = tt;
-        lone = λ lone. tt;
+        succeeds = λ free. tt;
       },
     )
 
@@ -36,6 +36,6 @@ returns-in-Vacant g c =
         inserted = told.inserted;
         absent = OnErr-always c.insert_made.result e.missing;
         err = IfErr-weaker c.insert_made.result _ _ (λ error. made-so Made _ _ c.f-made.result error made) told.err;
-        lone = λ lone. IfErr-weaker c.insert_made.result _ _ (λ error is. subst Made is made) (told.lone lone);
+        succeeds = λ free. IfErr-weaker c.insert_made.result _ _ (λ error is. subst Made is made) (told.succeeds free);
       },
     )

@@ -5,7 +5,7 @@ use Rattle.intmap_table.specs.Bindings.{value_of}
 use Rattle.intmap.specs.Entries.{Vacant, entry_list}
 use Rattle.intmap.specs.Map.{MapState, written}
 use Rattle.intmap.proofs.EntryLemmas.{written-added, IsInsertion-lent}
-use Rattle.intmap.proofs.RefusalLemmas.{lone-never_refused}
+use Rattle.intmap.proofs.RefusalLemmas.{NeedsNoMemory-never_refused}
 use Rattle.intmap.proofs.entry.VacantEntry.insert.Goals as goal
 
 pub returns-in-Err : goal.returns-in-Err
@@ -19,7 +19,7 @@ returns-in-Err g c =
         inserted = tt;
         value_returned = c.in-Err.ensures.value_returned;
         refused = due;
-        lone = λ lone. absurd (lone-never_refused g.K.IntKey.number_of (entry_list (Vacant c.args.self)) c.args.self.key c.add.ensures.valid.capacity lone c.in-Err.refused.cause due);
+        succeeds = λ free. absurd (NeedsNoMemory-never_refused g.K.IntKey.number_of (entry_list (Vacant c.args.self)) c.args.self.key c.add.ensures.valid.capacity free c.in-Err.refused.cause due);
       },
     )
 
@@ -36,6 +36,6 @@ returns g c =
         inserted = IsInsertion-lent number valid m n k c.args.value c.args.self.missing c.add.ensures.valid told.inserted told.state;
         value_returned = tt;
         refused = tt;
-        lone = λ lone. refl;
+        succeeds = λ free. refl;
       },
     )

@@ -6,7 +6,7 @@ use Rattle.intmap.specs.Map.{MapState, with_pair}
 use Rattle.intmap_table.proofs.WrittenLemmas.{the_key-same}
 use Rattle.intmap.proofs.EntryLemmas.{next_capacity-inserted}
 use Rattle.intmap_table.proofs.Tables.FoundLemmas.{IsFound-located, key_at-located}
-use Rattle.intmap.proofs.RefusalLemmas.{lone-never_refused}
+use Rattle.intmap.proofs.RefusalLemmas.{NeedsNoMemory-never_refused}
 use Rattle.intmap.proofs.entry.VacantEntry.insert_entry.Goals as goal
 use Rattle.intmap.proofs.entry.VacantEntry.insert_entry.Goals.{In-Ok}
 
@@ -21,7 +21,7 @@ returns-in-Err g c =
         err = tt;
         value_returned = c.in-Err.ensures.value_returned;
         refused = due;
-        lone = λ lone. absurd (lone-never_refused g.K.IntKey.number_of (entry_list (Vacant c.args.self)) c.args.self.key c.add.ensures.valid.capacity lone c.in-Err.refused.cause due);
+        succeeds = λ free. absurd (NeedsNoMemory-never_refused g.K.IntKey.number_of (entry_list (Vacant c.args.self)) c.args.self.key c.add.ensures.valid.capacity free c.in-Err.refused.cause due);
       },
     )
 
@@ -55,6 +55,6 @@ returns g c =
         err = tt;
         value_returned = tt;
         refused = tt;
-        lone = λ lone. refl;
+        succeeds = λ free. refl;
       },
     )

@@ -5,7 +5,7 @@ use Rattle.intmap_table.specs.Bindings.{value_of}
 use Rattle.intmap.specs.Entries.{Vacant, entry_list}
 use Rattle.intmap.specs.Map.{MapState, written}
 use Rattle.intmap.proofs.EntryLemmas.{written-added, IsInsertion-lent}
-use Rattle.intmap.proofs.RefusalLemmas.{lone-never_refused}
+use Rattle.intmap.proofs.RefusalLemmas.{NeedsNoMemory-never_refused}
 use Rattle.intmap.proofs.entry.VacantEntry.insert_made.Goals as goal
 
 pub returns-in-Err-add : goal.returns-in-Err-add
@@ -22,7 +22,7 @@ returns-in-Err-add g c =
           due = told.refused;
           error = c.from.ensures;
         });
-        lone = λ lone. absurd (lone-never_refused g.K.IntKey.number_of (entry_list (Vacant c.args.self)) c.args.self.key c.add.ensures.valid.capacity lone c.in-Err-add.refused.cause told.refused);
+        succeeds = λ free. absurd (NeedsNoMemory-never_refused g.K.IntKey.number_of (entry_list (Vacant c.args.self)) c.args.self.key c.add.ensures.valid.capacity free c.in-Err-add.refused.cause told.refused);
       },
     )
 
@@ -37,6 +37,6 @@ returns g c =
         value = c.in-Ok.is ∙ ap Ok (let found : value_of number n.walk k ≡ Some c.value_mut_at.result.now = ap (value_of number n.walk) (sym told.key) ∙ c.value_mut_at.ensures.value in let is = told.inserted.updates.1 in cc);
         inserted = IsInsertion-lent number valid m n k c.in-Ok.value c.args.self.missing c.add.ensures.valid told.inserted told.state;
         err = tt;
-        lone = λ lone. tt;
+        succeeds = λ free. tt;
       },
     )

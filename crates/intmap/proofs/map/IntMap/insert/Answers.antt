@@ -3,7 +3,7 @@ use Rattle.intmap_table.specs.Bindings.{value_of}
 use Rattle.intmap.specs.Map.{MapState, after_insert}
 use Rattle.intmap.specs.PlainLists.{list_of}
 use Rattle.intmap.proofs.InsertionLemmas.{IsInsertion-replaced, IsInsertion-searched}
-use Rattle.intmap.proofs.RefusalLemmas.{RefusalIsDue-searched, lone-never_refused}
+use Rattle.intmap.proofs.RefusalLemmas.{RefusalIsDue-searched, NeedsNoMemory-never_refused}
 use Rattle.intmap.proofs.map.IntMap.insert.Goals as goal
 
 -- the key is present, and its pair is replaced
@@ -23,7 +23,7 @@ returns-in-Ok g c =
       err = tt;
       value_returned = tt;
       refused = tt;
-      lone = λ lone. refl;
+      succeeds = λ free. refl;
       valid = found.valid;
       valid_after = told.valid_after;
     }
@@ -40,7 +40,7 @@ returns-in-Err-add g c =
       err = told.err ∙ found.state;
       value_returned = told.value_returned;
       refused = due;
-      lone = λ lone. absurd (lone-never_refused g.K.IntKey.number_of (list_of c.args.self.now) c.args.key found.valid.capacity lone c.in-Err-add.refused.cause due);
+      succeeds = λ free. absurd (NeedsNoMemory-never_refused g.K.IntKey.number_of (list_of c.args.self.now) c.args.key found.valid.capacity free c.in-Err-add.refused.cause due);
       valid = found.valid;
       valid_after = c.add.ensures.valid_after;
     }

@@ -3,7 +3,7 @@ use Rattle.std.specs.Prelude.{is_ok}
 use Rattle.intmap_table.specs.Bindings.{value_of}
 use Rattle.intmap.specs.PlainLists.{list_of}
 use Rattle.intmap.proofs.InsertionLemmas.{IsInsertion-kept, IsInsertion-searched}
-use Rattle.intmap.proofs.RefusalLemmas.{RefusalIsDue-searched, lone-never_refused}
+use Rattle.intmap.proofs.RefusalLemmas.{RefusalIsDue-searched, NeedsNoMemory-never_refused}
 use Rattle.intmap.proofs.WriteLemmas.{some_from}
 use Rattle.intmap.proofs.map.IntMap.insert_checked.Goals as goal
 
@@ -18,7 +18,7 @@ returns-in_default g c =
       err = tt;
       value_returned = tt;
       refused = tt;
-      lone = λ lone. refl;
+      succeeds = λ free. refl;
       valid = c.locate.ensures.valid;
       valid_after = c.locate.ensures.valid;
     }
@@ -35,7 +35,7 @@ returns-in-Err-add g c =
       err = told.err ∙ found.state;
       value_returned = told.value_returned;
       refused = due;
-      lone = λ lone. absurd (lone-never_refused g.K.IntKey.number_of (list_of c.args.self.now) c.args.key found.valid.capacity lone c.in-Err-add.refused.cause due);
+      succeeds = λ free. absurd (NeedsNoMemory-never_refused g.K.IntKey.number_of (list_of c.args.self.now) c.args.key found.valid.capacity free c.in-Err-add.refused.cause due);
       valid = found.valid;
       valid_after = c.add.ensures.valid_after;
     }
@@ -51,7 +51,7 @@ returns g c =
       err = tt;
       value_returned = tt;
       refused = tt;
-      lone = λ lone. refl;
+      succeeds = λ free. refl;
       valid = found.valid;
       valid_after = c.add.ensures.valid_after;
     }

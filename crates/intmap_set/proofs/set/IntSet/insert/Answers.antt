@@ -1,7 +1,7 @@
 use Rattle.std.proofs.Common.{◌∙◌, sym, ap, refl, rules}
 use Rattle.std.specs.Prelude.{not}
 use Rattle.intmap_set.proofs.MemberLemmas.{IsSet-seen, holds-seen, not-is_some}
-use Rattle.intmap_set.proofs.CallLemmas.{Inserts-seen, IsLone-seen, RefusalIsDue-seen, looked_up-seen, on_err_given, state-seen}
+use Rattle.intmap_set.proofs.CallLemmas.{Inserts-seen, NeedsNoMemory-seen, RefusalIsDue-seen, looked_up-seen, on_err_given, state-seen}
 use Rattle.intmap_set.proofs.set.IntSet.insert.Goals as goal
 
 pub returns-in_err-insert_checked-clause-err : goal.returns-in_err-insert_checked-clause-err
@@ -12,9 +12,9 @@ pub returns-in_err-insert_checked-clause-refused : goal.returns-in_err-insert_ch
 returns-in_err-insert_checked-clause-refused g c =
     RefusalIsDue-seen _ c.self.inside.map c.insert_checked.new.self _ c.self.view_is c.self.invariant _ c.from_residual.result _ c.from_residual.ensures.1 c.in_err-insert_checked.ensures.refused
 
-pub returns-in_err-insert_checked-clause-lone : goal.returns-in_err-insert_checked-clause-lone
-returns-in_err-insert_checked-clause-lone g c lone =
-    let ok = c.in_err-insert_checked.ensures.lone (IsLone-seen _ c.self.inside.map c.insert_checked.new.self _ c.self.view_is c.self.invariant _ lone) in cc
+pub returns-in_err-insert_checked-clause-succeeds : goal.returns-in_err-insert_checked-clause-succeeds
+returns-in_err-insert_checked-clause-succeeds g c free =
+    let ok = c.in_err-insert_checked.ensures.succeeds (NeedsNoMemory-seen _ c.self.inside.map c.insert_checked.new.self _ c.self.view_is c.self.invariant _ free) in cc
 
 pub returns-in_err-insert_checked-clause-valid : goal.returns-in_err-insert_checked-clause-valid
 returns-in_err-insert_checked-clause-valid g c = IsSet-seen _ _ c.self.inside.map _ c.self.view_is c.self.invariant c.insert_checked.ensures.valid

@@ -1,6 +1,0 @@
-use Rattle.intmap.proofs.RefusalLemmas.{lone-never_refused}
-use Rattle.intmap.proofs.laws.lone_pairs_are_never_refused.Goals as goal
-
-pub returns : goal.returns
-returns g c s k cause capacity count stays alone may =
-    lone-never_refused g.K.IntKey.number_of s k capacity (record { alone = alone; stays = stays; count = count }) cause may
