@@ -45,7 +45,7 @@ QUOTED = {
     "intmap": {
         "IntMap::with_capacity": "",
         "IntMap::get": "how many keys it compares: reach_is_within_class; of dense keys small_keys_are_found_at_once",
-        "IntMap::insert": "`lone`: met_loads_leave_room, small_new_keys_are_alone; a sum of all values: insertions_change_sum",
+        "IntMap::insert": "`succeeds`: met_loads_leave_room, small_new_keys_are_alone; a sum of all values: insertions_change_sum",
         "IntMap::insert_checked": "a sum of all values: checked_insertions_change_sum",
         "IntMap::get_mut": "a sum of all values: updates_change_sum",
         "IntMap::remove": "a sum of all values: updates_change_sum; putting the pair back: put_backs_are_never_refused",
@@ -58,7 +58,7 @@ QUOTED = {
     },
     "intmap_set": {
         "IntSet::contains": "",
-        "IntSet::insert": "`lone`: met_loads_leave_room, small_new_keys_are_alone, small_keys_are_never_refused",
+        "IntSet::insert": "`succeeds`: met_loads_leave_room, small_new_keys_are_alone, small_keys_are_never_refused",
         "IntSet::remove": "",
         "IntSet::union": "`members`: union_holds; sizes: union_and_intersection_count_both",
         "IntSet::to_union": "",
