@@ -200,7 +200,7 @@ const CALLS_OF_FORMS: &[(&str, u64, [u64; 3], MapCall)] = &[
     ("insert a second pair that parts", 14, [2, 2, 2], |map| {
         Ok(map.try_insert(28, 1).map(drop)?)
     }),
-    ("insert a second pair that stays", 14, [5, 4, 5], |map| {
+    ("insert a second pair that stays", 14, [5, 3, 5], |map| {
         Ok(map.try_insert(44, 1).map(drop)?)
     }),
     ("reserve", 13, [3, 2, 4], |map| map.try_reserve(100)),

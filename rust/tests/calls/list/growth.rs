@@ -20,15 +20,15 @@ impl List {
         self.pairs.sort_by_key(|it| slot_among(it.0, slots));
     }
 
-    /// Growth with a new pair: for its new slot, for each pair of its old one, up to one that comes
-    /// to the same, and for the last pair of its new slot. If the slots are shared and such a pair is
-    /// there, it moves with the others.
+    /// Growth with a new pair: for its new slot, and for each pair of its old one, up to one that comes
+    /// to the same. If the slots are shared and such a pair is there, it moves with the others. Else
+    /// it is placed behind them.
     pub(super) fn store_and_grow(&mut self, key: Key, value: u64, slots: usize) {
         let (old, new) = (self.slot(key.0), slot_among(key.0, slots));
         let beside: Vec<u64> =
             self.pairs.iter().map(|it| it.0).filter(|it| self.slot(*it) == old).collect();
         let met = beside.iter().position(|it| slot_among(*it, slots) == new);
-        self.read(2 + met.map_or(beside.len(), |it| it + 1) as u64);
+        self.read(1 + met.map_or(beside.len(), |it| it + 1) as u64);
         let moves_too = met.is_some() && !self.are_lone;
         if moves_too {
             self.pairs.push((key.0, value));
@@ -38,6 +38,7 @@ impl List {
         }
         self.grow(slots);
         if !moves_too {
+            self.read(1);
             self.are_lone &= met.is_none();
             self.pairs.push((key.0, value));
         }
