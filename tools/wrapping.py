@@ -42,7 +42,7 @@ LEFT = {
 }
 
 # A proved call under the guard that mends a map or a set after a panic.
-GUARDED = re.compile(r"guarded\(&mut (self\.\w+), \|(\w+)\| \2\.(\w+\((?:[^()]|\(\))*\))\)")
+GUARDED = re.compile(r"guarded!\(&mut (self\.\w+), \|(\w+)\| \2\.(\w+\((?:[^()]|\(\))*\))\)")
 # A name that a body gives to one call and returns.
 NAMED = re.compile(r"let (\w+) = ([^;{}]*); ([^;]*\b\1\b[^;]*)$")
 

@@ -142,7 +142,7 @@ impl<'a, K: IntKey, V> Entry<'a, K, V> {
     #[inline]
     pub fn try_insert_entry(self, value: V) -> Result<OccupiedEntry<'a, K, V>, Refused<V>> {
         let (map, found) = self.proved().parted();
-        let place = guarded(&mut *map, |map| {
+        let place = guarded!(&mut *map, |map| {
             map.entry_of(found).insert_entry(value).map(|entry| entry.place())
         })?;
         Ok(OccupiedEntry(map.entry_at(place)))

@@ -112,7 +112,7 @@ impl<K: IntKey> IntSet<K> {
     /// Proved of `IntSet::insert`: `new`, `inserted`, `state`, `err`, `refused`, `succeeds`.
     #[inline]
     pub fn try_insert(&mut self, key: K) -> Result<bool, Cause> {
-        guarded(&mut self.set, |set| set.insert(key))
+        guarded!(&mut self.set, |set| set.insert(key))
     }
 
     /// Returns whether the key is a member. The cost is *O*(*s*).

@@ -83,7 +83,7 @@ impl<'a, K: IntKey, V> VacantEntry<'a, K, V> {
     #[inline]
     pub fn try_insert_entry(self, value: V) -> Result<OccupiedEntry<'a, K, V>, Refused<V>> {
         let (map, key, slot) = self.0.parted();
-        let place = guarded(&mut *map, |map| {
+        let place = guarded!(&mut *map, |map| {
             map.vacant_entry(key, slot).insert_entry(value).map(|entry| entry.place())
         })?;
         Ok(OccupiedEntry(map.entry_at(place)))

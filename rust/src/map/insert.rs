@@ -47,7 +47,7 @@ impl<K: IntKey, V> IntMap<K, V> {
     /// ```
     #[inline(always)]
     pub fn try_insert(&mut self, key: K, value: V) -> Result<Option<V>, Refused<V>> {
-        guarded(&mut self.map, |map| map.insert(key, value))
+        guarded!(&mut self.map, |map| map.insert(key, value))
     }
 
     /// Inserts the pair if the key is absent, and returns whether it was. A present key keeps its
@@ -73,6 +73,6 @@ impl<K: IntKey, V> IntMap<K, V> {
     /// `refused`, `succeeds`.
     #[inline]
     pub fn try_insert_checked(&mut self, key: K, value: V) -> Result<bool, Refused<V>> {
-        guarded(&mut self.map, |map| map.insert_checked(key, value))
+        guarded!(&mut self.map, |map| map.insert_checked(key, value))
     }
 }

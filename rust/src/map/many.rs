@@ -25,7 +25,7 @@ impl<K: IntKey, V> IntMap<K, V> {
     /// assert_eq!(format!("{map:?}"), "{4: 'b', 8: 'c'}");
     /// ```
     pub fn retain<F: FnMut(K, &V) -> bool>(&mut self, keep: F) {
-        guarded(&mut self.map, |map| map.retain(keep))
+        guarded!(&mut self.map, |map| map.retain(keep))
     }
 
     /// The same as [`retain`](Self::retain), but `keep` may change each value that it sees. The cost
@@ -55,7 +55,7 @@ impl<K: IntKey, V> IntMap<K, V> {
     /// assert_eq!((map.len(), map.capacity()), (0, 2));
     /// ```
     pub fn clear(&mut self) {
-        guarded(&mut self.map, |map| map.clear())
+        guarded!(&mut self.map, |map| map.clear())
     }
 
     /// Returns an iterator that removes one pair at each step and returns it, in iteration order.
@@ -134,7 +134,7 @@ impl<K: IntKey, V> IntMap<K, V> {
     where
         I: IntoIterator<Item = (K, V)>,
     {
-        guarded(&mut self.map, |map| map.extend(pairs.into_iter()))
+        guarded!(&mut self.map, |map| map.extend(pairs.into_iter()))
     }
 
     /// The same as [`from_iter`](FromIterator::from_iter), but it returns a failure: that of

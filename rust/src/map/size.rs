@@ -79,7 +79,7 @@ impl<K: IntKey, V> IntMap<K, V> {
     /// assert_eq!(map.capacity(), 2);
     /// ```
     pub fn try_reserve(&mut self, additional: usize) -> Result<(), Cause> {
-        guarded(&mut self.map, |map| map.reserve(additional))
+        guarded!(&mut self.map, |map| map.reserve(additional))
     }
 
     /// Returns the load factor: how many pairs there may be for each slot. It is 0.909 at first. The
@@ -148,7 +148,7 @@ impl<K: IntKey, V> IntMap<K, V> {
     /// assert_eq!(map.capacity(), 32);
     /// ```
     pub fn try_set_load_factor_thousandths(&mut self, thousandths: usize) -> Result<(), Cause> {
-        guarded(&mut self.map, |map| map.set_load_factor(thousandths))
+        guarded!(&mut self.map, |map| map.set_load_factor(thousandths))
     }
 
     /// Returns the number of slots that have a pair. The cost is *O*(*c*), by 64 slots at a time.

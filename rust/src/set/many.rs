@@ -32,7 +32,7 @@ impl<K: IntKey> IntSet<K> {
     /// assert_eq!(set.len(), 2);
     /// ```
     pub fn retain<F: FnMut(K) -> bool>(&mut self, keep: F) {
-        guarded(&mut self.set, |set| set.retain(keep))
+        guarded!(&mut self.set, |set| set.retain(keep))
     }
 
     /// Removes all members. The capacity and the memory stay. The cost is *O*(*n* + *c*).
@@ -101,7 +101,7 @@ impl<K: IntKey> IntSet<K> {
     where
         I: IntoIterator<Item = K>,
     {
-        guarded(&mut self.set, |set| set.extend(keys.into_iter()))
+        guarded!(&mut self.set, |set| set.extend(keys.into_iter()))
     }
 
     /// The same as [`from_iter`](FromIterator::from_iter), but it returns a failure: that of

@@ -59,7 +59,7 @@ impl<K: IntKey> IntSet<K> {
     ///
     /// Proved of `IntSet::reserve`: `reserved`, `err`, `refused`, `updates`, `len`.
     pub fn try_reserve(&mut self, additional: usize) -> Result<(), Cause> {
-        guarded(&mut self.set, |set| set.reserve(additional))
+        guarded!(&mut self.set, |set| set.reserve(additional))
     }
 
     /// Makes room for `additional` members more, as
@@ -144,7 +144,7 @@ impl<K: IntKey> IntSet<K> {
     ///
     /// Proved in part: it is the map's, on the map from each member to `()`.
     pub fn try_set_load_factor_thousandths(&mut self, thousandths: usize) -> Result<(), Cause> {
-        guarded(&mut self.set, |set| set.set_load_factor(thousandths))
+        guarded!(&mut self.set, |set| set.set_load_factor(thousandths))
     }
 
     /// Returns the number of slots that have a member. The cost is *O*(*c*), by 64 slots at a time.
