@@ -18,7 +18,7 @@ impl<K: IntKey, X, A: Allocator> Slots<K, X, A> {
     /// returns how many pairs they have. It calls no `number`. The slots have the form that they had
     /// before the call, or are shared if a growth was to make them so.
     pub(in crate::proved::table) fn mend(&mut self) -> usize {
-        self.undo_parting();
+        self.undo_new_form();
         self.undo_lone_growth();
         self.undo_shared_growth();
         let mut count = 0;
@@ -36,7 +36,7 @@ impl<K: IntKey, X, A: Allocator> Slots<K, X, A> {
 
     /// Moves the pairs of lone slots to shared ones, if a panic has ended a growth that changes the
     /// form of slots. A pair's slot was its present one modulo the number of slots before.
-    fn undo_parting(&mut self) {
+    fn undo_new_form(&mut self) {
         if self.shared.is_empty() {
             return;
         }
