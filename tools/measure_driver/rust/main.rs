@@ -35,9 +35,10 @@ impl Hasher for Multiplying {
 
 type Multiplied = HashMap<u64, u64, BuildHasherDefault<Multiplying>>;
 
-/// The keys that maps are filled with, and as many others.
+/// The keys that maps are filled with, the same in another order, and as many others.
 struct Work {
     keys: Vec<u64>,
+    mixed: Vec<u64>,
     others: Vec<u64>,
 }
 
@@ -67,6 +68,17 @@ fn phase(name: &str, work: impl FnOnce() -> u64) {
     let start = Instant::now();
     let sum = work();
     println!("{name} {} {sum}", start.elapsed().as_nanos());
+}
+
+/// Times each of some calls, and prints the longest time.
+#[inline(never)]
+fn longest(keys: &[u64], mut call: impl FnMut(u64)) {
+    let times = keys.iter().map(|key| {
+        let start = Instant::now();
+        call(*key);
+        start.elapsed().as_nanos()
+    });
+    println!("longest {} 0", times.max().unwrap_or(0));
 }
 
 /// A function of this name that goes through the phases with maps of this type: how one with room is made, how an entry
@@ -108,6 +120,11 @@ macro_rules! goes_through {
             made("entry", || count(&mut map, keys));
             phase("over", || put(&mut map, keys));
             phase("remove", || take(&mut map, keys));
+            put(&mut map, keys);
+            phase("mixed", || take(&mut map, &work.mixed));
+            let mut other = <$map>::default();
+            longest(keys, |key| _ = other.insert(key, key));
+            drop(other);
             put(&mut map, keys);
 
             let mut twin = made("clone", || map.clone());
@@ -171,7 +188,8 @@ goes_through!(
 fn key_at(kind: &str, place: u64) -> u64 {
     match kind {
         "random" => mixed(place.wrapping_mul(11400714819323198485)),
-        "dense" => place,
+        "dense" | "shuffled" => place,
+        "runs" => mixed(place / 16) << 4 | place % 16,
         "shared" => place.wrapping_mul(1048576),
         _ => panic!("no kind of keys: {kind}"),
     }
@@ -184,10 +202,17 @@ fn mixed(number: u64) -> u64 {
     number ^ (number >> 31)
 }
 
+/// The same keys in another order.
+fn shuffled(keys: &[u64]) -> Vec<u64> {
+    let mut sorted: Vec<_> = (1..).map(mixed).zip(keys.iter().copied()).collect();
+    sorted.sort_unstable();
+    sorted.into_iter().map(|(_, key)| key).collect()
+}
+
 fn main() {
     let words: Vec<String> = env::args().skip(1).collect();
     let [map, kind, count, times, rest @ ..] = words.as_slice() else {
-        panic!("arguments: MAP random|dense|shared COUNT TIMES [fill]");
+        panic!("arguments: MAP random|dense|shuffled|runs|shared COUNT TIMES [fill]");
     };
     let go = match map.as_str() {
         "std" => std,
@@ -200,8 +225,12 @@ fn main() {
         _ => panic!("no such map: {map}"),
     };
     let (count, times): (u64, u64) = (count.parse().unwrap(), times.parse().unwrap());
-    let keys: Vec<u64> = (0..count).map(|at| key_at(kind, at)).collect();
+    let mut keys: Vec<u64> = (0..count).map(|at| key_at(kind, at)).collect();
+    let mixed = shuffled(&keys);
+    if kind == "shuffled" {
+        keys = shuffled(&mixed);
+    }
     let others = (count..2 * count).map(|at| key_at(kind, at)).collect();
-    let work = Work { keys, others };
+    let work = Work { keys, mixed, others };
     (0..times).for_each(|_| go(&work, !rest.is_empty()));
 }
