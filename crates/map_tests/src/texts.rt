@@ -232,7 +232,7 @@ const ROWS: [Row; 19] = [
     (
         (4, 200, &[0, 4, 1, 5, 2, 3]),
         Call::OrInsert(64),
-        "4 times text 64: Memory; text 0, text 5, text 2, text 4, text 1, text 3, 32 slots, factor 200\n\
+        "3 times text 64: Memory; text 0, text 5, text 2, text 4, text 1, text 3, 32 slots, factor 200\n\
          then \"text 64\"; text 0, text 64, text 4, text 1, text 5, text 2, text 3, 64 slots, factor 200",
     ),
     (
