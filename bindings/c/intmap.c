@@ -294,8 +294,9 @@ static inline u128 u128_div(u128 x, u128 by) {
 }
 #endif
 
-// Where things without bytes lie.
-static uint64_t no_bytes[1];
+// Where things without bytes lie. It has the bytes of a slot, since gcc warns of stores that it sees
+// there, though no run comes to them.
+static uint64_t no_bytes[6];
 #define address_of(x) ((char *)(uintptr_t)(x))
 
 // What functions return. The fields have no names in the module.
