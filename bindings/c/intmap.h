@@ -66,7 +66,7 @@
 // row * columns + column. If strangers choose the keys, they can make each call linear. Then
 // scramble each key by intmap_scramble. intmap_filled_slots tells of shared slots. An insertion that
 // adds slots or enlarges them moves all pairs, which is constant time a pair over all insertions. If
-// intmap_reserve, intmap_reserve_pairs or intmap_set_load_factor adds slots, it takes time in the
+// intmap_reserve_slots, intmap_reserve or intmap_set_load_factor adds slots, it takes time in the
 // pairs and slots, and otherwise constant time.
 //
 // MEMORY. It comes from malloc. Only a call that may return INTMAP_NO_MEMORY requests any: 48 bytes
@@ -138,7 +138,7 @@ extern "C" {
 #define intmap_get intmap_debug_get
 #define intmap_contains_key intmap_debug_contains_key
 #define intmap_insert intmap_debug_insert
-#define intmap_insert_checked intmap_debug_insert_checked
+#define intmap_find_or_insert intmap_debug_find_or_insert
 #define intmap_replace intmap_debug_replace
 #define intmap_add_present intmap_debug_add_present
 #define intmap_add_or_insert intmap_debug_add_or_insert
@@ -149,7 +149,7 @@ extern "C" {
 #define intmap_capacity intmap_debug_capacity
 #define intmap_load_factor intmap_debug_load_factor
 #define intmap_filled_slots intmap_debug_filled_slots
-#define intmap_reserve intmap_debug_reserve
+#define intmap_reserve_slots intmap_debug_reserve_slots
 #define intmap_set_load_factor intmap_debug_set_load_factor
 #define intmap_step intmap_debug_step
 #define intmap_cut intmap_debug_cut
@@ -269,11 +269,10 @@ INTMAP_NONNULL bool intmap_contains_key(const intmap *map, uint64_t key) INTMAP_
 INTMAP_NONNULL INTMAP_MUST_USE intmap_found_value intmap_insert(intmap *map, uint64_t key,
                                                                 uint64_t value) INTMAP_CALL;
 
-// Inserts an absent key with the value. It returns INTMAP_PRESENT if the key was present, which
-// keeps its value, and INTMAP_ABSENT if it was absent. For an absent key it fails like
-// intmap_insert. The status is 0 for a new key, so `if (intmap_insert_checked(..))` is true where
-// the key was present before, or the call failed.
-INTMAP_NONNULL INTMAP_MUST_USE intmap_status intmap_insert_checked(intmap *map, uint64_t key,
+// Finds the key, or inserts it with the value. It returns INTMAP_PRESENT if it found the key, which
+// keeps its value, and INTMAP_ABSENT, which is 0, if it inserted the key. For an absent key it fails
+// like intmap_insert.
+INTMAP_NONNULL INTMAP_MUST_USE intmap_status intmap_find_or_insert(intmap *map, uint64_t key,
                                                                    uint64_t value) INTMAP_CALL;
 
 // Replaces the value of a present key, whose pair keeps its place in the walk. It returns
@@ -330,7 +329,7 @@ INTMAP_NONNULL INTMAP_MUST_USE static inline intmap_status intmap_at_or_insert(
     if (*at != NULL) {
         return INTMAP_PRESENT;
     }
-    intmap_status status = intmap_insert_checked(map, key, value);
+    intmap_status status = intmap_find_or_insert(map, key, value);
     if (!intmap_failed(status)) {
         *at = intmap_at(map, key);
     }
@@ -360,12 +359,12 @@ INTMAP_NONNULL size_t intmap_load_factor(const intmap *map) INTMAP_CALL;
 // share slots. It takes time in a 64th of the slots.
 INTMAP_NONNULL size_t intmap_filled_slots(const intmap *map) INTMAP_CALL;
 
-// Adds slots; intmap_reserve_pairs makes room for pairs. The number of slots becomes at least the
-// least power of two that is no less than the number of pairs plus `additional`. It ignores the load
-// factor, so the map may still grow before it has that many pairs. It returns INTMAP_OK;
+// Makes slots for the pairs and `additional` more: at least the least power of two that is no less
+// than their sum. It ignores the load factor, so the map may still grow before it has that many
+// pairs. To make room for pairs, call intmap_reserve. This call returns INTMAP_OK;
 // INTMAP_TOO_LARGE exactly if the pairs and `additional` are above 2^63; or INTMAP_NO_MEMORY, but
 // never if the map has memory, and slots enough.
-INTMAP_NONNULL INTMAP_MUST_USE intmap_status intmap_reserve(intmap *map, size_t additional)
+INTMAP_NONNULL INTMAP_MUST_USE intmap_status intmap_reserve_slots(intmap *map, size_t additional)
     INTMAP_CALL;
 
 // Sets the load factor, in thousandths. A number of slots meets it if 1000 * pairs / slots, rounded
@@ -386,19 +385,18 @@ INTMAP_NONNULL INTMAP_MUST_USE intmap_status intmap_set_load_factor(intmap *map,
 // A load factor above 10^16 counts as 10^16. It returns INTMAP_OK; INTMAP_TOO_LARGE exactly if no
 // number up to 2^63 meets it or there would be more than 2^64 - 1 pairs; or INTMAP_NO_MEMORY, but
 // never if the map has memory, and its slots meet it.
-INTMAP_NONNULL INTMAP_MUST_USE static inline intmap_status intmap_reserve_pairs(intmap *map,
-                                                                                size_t more)
+INTMAP_NONNULL INTMAP_MUST_USE static inline intmap_status intmap_reserve(intmap *map, size_t more)
     INTMAP_CALL {
     const size_t most = (size_t)10000000000000000u;
     size_t len = intmap_len(map), factor = intmap_load_factor(map), pairs = len + more;
     // Slots meet the factor if 1000 * pairs < bound * slots. No sum or product overflows below.
     size_t bound = (factor < most ? factor : most) + 1;
     if (pairs < more || pairs / bound >= SIZE_MAX / 1000) {
-        return intmap_reserve(map, SIZE_MAX);
+        return intmap_reserve_slots(map, SIZE_MAX);
     }
     size_t least = pairs / bound * 1000 + pairs % bound * 1000 / bound + 1;
     if (least > len) {
-        return intmap_reserve(map, least - len);
+        return intmap_reserve_slots(map, least - len);
     }
     // A slot for each pair is too many. So for a moment the factor is one that these slots are the
     // first to meet.
@@ -479,7 +477,7 @@ INTMAP_NONNULL INTMAP_MUST_USE static inline intmap_status intmap_shrink_to_fit(
     }
     intmap_status status = intmap_set_load_factor(&made, intmap_load_factor(map));
     while (!intmap_failed(status) && (next = intmap_step(map, &at)).status == INTMAP_PRESENT) {
-        status = intmap_insert_checked(&made, next.pair.key, next.pair.value);
+        status = intmap_find_or_insert(&made, next.pair.key, next.pair.value);
     }
     if (intmap_failed(status)) {
         intmap_free(&made);

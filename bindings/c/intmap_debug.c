@@ -284,11 +284,11 @@ static const intmap_found_value NO_VALUE = {0, INTMAP_NO_MEMORY};
 
 FIRST_CALL(intmap_found_value, insert, (intmap *map, uint64_t key, uint64_t value),
            (&one->map, key, value), NO_VALUE)
-FIRST_CALL(intmap_status, insert_checked, (intmap *map, uint64_t key, uint64_t value),
+FIRST_CALL(intmap_status, find_or_insert, (intmap *map, uint64_t key, uint64_t value),
            (&one->map, key, value), INTMAP_NO_MEMORY)
 FIRST_CALL(intmap_found_value, add_or_insert, (intmap *map, uint64_t key, uint64_t more),
            (&one->map, key, more), NO_VALUE)
-FIRST_CALL(intmap_status, reserve, (intmap *map, size_t additional), (&one->map, additional),
+FIRST_CALL(intmap_status, reserve_slots, (intmap *map, size_t additional), (&one->map, additional),
            INTMAP_NO_MEMORY)
 FIRST_CALL(intmap_status, set_load_factor, (intmap *map, size_t thousandths),
            (&one->map, thousandths), INTMAP_NO_MEMORY)

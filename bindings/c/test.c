@@ -306,7 +306,7 @@ static bool fails(intmap_status status, side *changed) {
     return was_refused();
 }
 
-enum { INSERT, INSERT_CHECKED, ADD_OR_INSERT, AT_OR_INSERT, INSERTIONS };
+enum { INSERT, FIND_OR_INSERT, ADD_OR_INSERT, AT_OR_INSERT, INSERTIONS };
 
 // Writes a present key's value in its place.
 static intmap_found_value at_or_insert(uint64_t key, uint64_t value) {
@@ -323,7 +323,7 @@ static intmap_found_value at_or_insert(uint64_t key, uint64_t value) {
     intmap_found_value old = intmap_replace(&it->map, key, value);
     return old.status == INTMAP_PRESENT
                ? old
-               : (intmap_found_value){0, intmap_insert_checked(&it->map, key, value)};
+               : (intmap_found_value){0, intmap_find_or_insert(&it->map, key, value)};
 #endif
 }
 
@@ -337,7 +337,7 @@ static intmap_found_value insertion(unsigned kind, uint64_t key, uint64_t value)
     if (kind == AT_OR_INSERT) {
         return at_or_insert(key, value);
     }
-    return (intmap_found_value){0, intmap_insert_checked(&it->map, key, value)};
+    return (intmap_found_value){0, intmap_find_or_insert(&it->map, key, value)};
 }
 
 // What an insertion does to a present key.
@@ -362,7 +362,7 @@ static void call_insertion(unsigned kind, uint64_t key, uint64_t value) {
     intmap_found_value answer = insertion(kind, key, value);
     EXPECT(!requested_more() || (is_new && (slots > plain->capacity || shares(plain, key))));
     if (!is_new) {
-        EXPECT(is(answer, INTMAP_PRESENT, kind == INSERT_CHECKED ? 0 : plain->pairs[place].value));
+        EXPECT(is(answer, INTMAP_PRESENT, kind == FIND_OR_INSERT ? 0 : plain->pairs[place].value));
         insert_present(kind, place, value);
     } else if (fails(answer.status, it)) {
         EXPECT(answer.value == 0);
@@ -431,10 +431,10 @@ static void call_get(uint64_t key, uint64_t otherwise) {
     EXPECT(!requested());
 }
 
-static void call_reserve(size_t additional) {
+static void call_reserve_slots(size_t additional) {
     size_t slots = least_power(it->plain.len + additional, it->plain.capacity);
     begin();
-    intmap_status status = intmap_reserve(&it->map, additional);
+    intmap_status status = intmap_reserve_slots(&it->map, additional);
     EXPECT(!requested_more() || slots > it->plain.capacity);
     if (!fails(status, it)) {
         EXPECT(status == INTMAP_OK);
@@ -442,11 +442,11 @@ static void call_reserve(size_t additional) {
     }
 }
 
-static void call_reserve_pairs(size_t more) {
+static void call_reserve(size_t more) {
     model *plain = &it->plain;
     size_t slots = enough_slots(plain->len + more, plain->capacity, plain->factor);
     begin();
-    intmap_status status = intmap_reserve_pairs(&it->map, more);
+    intmap_status status = intmap_reserve(&it->map, more);
     EXPECT(!requested_more() || slots > plain->capacity);
     if (!fails(status, it)) {
         EXPECT(status == INTMAP_OK);
@@ -652,8 +652,8 @@ static void call_insert(size_t key) {
     call_insertion(INSERT, key, 7);
 }
 
-static void call_insert_checked(size_t key) {
-    call_insertion(INSERT_CHECKED, key, 7);
+static void call_find_or_insert(size_t key) {
+    call_insertion(FIND_OR_INSERT, key, 7);
 }
 
 static void call_add_or_insert(size_t key) {
@@ -664,7 +664,7 @@ static void call_add_or_insert(size_t key) {
 static void test_first_too_large(void) {
     while (refuse_in_turn()) {
         call_free(it);
-        EXPECT(intmap_reserve(&it->map, SIZE_MAX) == INTMAP_TOO_LARGE);
+        EXPECT(intmap_reserve_slots(&it->map, SIZE_MAX) == INTMAP_TOO_LARGE);
         check(it);
     }
     call_insertion(INSERT, 3, 4);
@@ -762,7 +762,7 @@ static void test_growth(void) {
     call_set_load_factor(5000);
     insert_some(200, 1);
     while (refuse_in_turn()) {
-        call_reserve(100);
+        call_reserve_slots(100);
     }
     check(it);
     while (refuse_in_turn()) {
@@ -778,7 +778,7 @@ static void test_room_for(size_t factor, size_t len, size_t more) {
     call_set_load_factor(factor);
     insert_some(len, 1);
     while (refuse_in_turn()) {
-        call_reserve_pairs(more);
+        call_reserve(more);
     }
     size_t slots = intmap_capacity(&it->map);
     for (size_t key = len; key < len + more; key++) {
@@ -828,10 +828,10 @@ static void test_limits_of_room(void) {
         call_make(4);
         call_set_load_factor(rooms[at].factor);
         insert_some(3, 1);
-        EXPECT(intmap_reserve_pairs(&it->map, SIZE_MAX - 2) == INTMAP_TOO_LARGE);
-        EXPECT(intmap_reserve_pairs(&it->map, SIZE_MAX) == INTMAP_TOO_LARGE);
+        EXPECT(intmap_reserve(&it->map, SIZE_MAX - 2) == INTMAP_TOO_LARGE);
+        EXPECT(intmap_reserve(&it->map, SIZE_MAX) == INTMAP_TOO_LARGE);
         check(it);
-        EXPECT(intmap_reserve_pairs(&it->map, rooms[at].pairs - 3) == rooms[at].status);
+        EXPECT(intmap_reserve(&it->map, rooms[at].pairs - 3) == rooms[at].status);
         set_slots(&it->plain, rooms[at].status == INTMAP_OK ? 1024 : it->plain.capacity);
         check(it);
         end_test();
@@ -871,11 +871,11 @@ static void insert_new_key(void) {
 }
 
 static void reserve_4096_slots(void) {
-    call_reserve(4096 - it->plain.len);
+    call_reserve_slots(4096 - it->plain.len);
 }
 
 static void reserve_8192_slots(void) {
-    call_reserve(8192 - it->plain.len);
+    call_reserve_slots(8192 - it->plain.len);
 }
 
 static void set_load_factor_10(void) {
@@ -917,7 +917,7 @@ static void test_too_many_slots(void) {
     begin();
     EXPECT(intmap_with_capacity(&it->map, slots) == INTMAP_NO_MEMORY && was_refused_at_once());
     begin();
-    EXPECT(intmap_reserve(&it->map, slots) == INTMAP_NO_MEMORY && was_refused_at_once());
+    EXPECT(intmap_reserve_slots(&it->map, slots) == INTMAP_NO_MEMORY && was_refused_at_once());
     largest_request = LARGEST_REQUEST;
     check(it);
     end_test();
@@ -935,10 +935,10 @@ static void test_limits(void) {
     EXPECT(intmap_with_capacity(&it->map, SIZE_MAX) == INTMAP_TOO_LARGE);
     EXPECT(intmap_with_capacity(&it->map, half) == INTMAP_NO_MEMORY);
     EXPECT(intmap_with_capacity(&it->map, above_32_bits) == INTMAP_NO_MEMORY);
-    EXPECT(intmap_reserve(&it->map, SIZE_MAX) == INTMAP_TOO_LARGE);
-    EXPECT(intmap_reserve(&it->map, half - 2) == INTMAP_TOO_LARGE);
-    EXPECT(intmap_reserve(&it->map, half - 3) == INTMAP_NO_MEMORY);
-    EXPECT(intmap_reserve(&it->map, above_32_bits) == INTMAP_NO_MEMORY);
+    EXPECT(intmap_reserve_slots(&it->map, SIZE_MAX) == INTMAP_TOO_LARGE);
+    EXPECT(intmap_reserve_slots(&it->map, half - 2) == INTMAP_TOO_LARGE);
+    EXPECT(intmap_reserve_slots(&it->map, half - 3) == INTMAP_NO_MEMORY);
+    EXPECT(intmap_reserve_slots(&it->map, above_32_bits) == INTMAP_NO_MEMORY);
     check(it);
     call_set_load_factor(above_32_bits + 7);
     call_set_load_factor(SIZE_MAX);
@@ -971,7 +971,7 @@ static void test_equal(void) {
         call_insertion(INSERT, key * 64, it->plain.pairs[place_of(&it->plain, key * 64)].value);
     }
     call_equal();
-    call_reserve(400);
+    call_reserve_slots(400);
     call_set_load_factor(400);
     call_equal();
     call_replace_or_add(true, 64, 1);
@@ -1245,10 +1245,10 @@ static void test_each(void) {
     RUN(test_statuses());
     RUN(test_calls_without_memory());
     RUN(test_first(call_insert));
-    RUN(test_first(call_insert_checked));
+    RUN(test_first(call_find_or_insert));
     RUN(test_first(call_add_or_insert));
+    RUN(test_first(call_reserve_slots));
     RUN(test_first(call_reserve));
-    RUN(test_first(call_reserve_pairs));
     RUN(test_first(call_set_load_factor));
     RUN(test_first_too_large());
     RUN(test_one_without_memory());
@@ -1315,9 +1315,9 @@ static void call_on_all(uint64_t value, unsigned which) {
     } else if (which < 50) {
         check_walk(it, 1 + value % LARGEST_ROOM);
     } else if (which < 55) {
-        call_reserve(value % 100);
+        call_reserve_slots(value % 100);
     } else if (which < 60) {
-        call_reserve_pairs(value % 300);
+        call_reserve(value % 300);
     } else if (which < 70) {
         call_set_load_factor(200 + value % 3000);
     } else if (which < 80) {

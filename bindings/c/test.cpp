@@ -14,7 +14,7 @@ static bool makes_and_reads(intmap *map) {
     return intmap_version() == INTMAP_VERSION && intmap_len(map) == 0
            && intmap_with_capacity(map, 20) == INTMAP_OK && intmap_capacity(map) == 32
            && is(intmap_insert(map, 21, 7), INTMAP_ABSENT, 0)
-           && intmap_insert_checked(map, 21, 8) == INTMAP_PRESENT
+           && intmap_find_or_insert(map, 21, 8) == INTMAP_PRESENT
            && is(intmap_get(map, 21), INTMAP_PRESENT, 7) && intmap_get_or(map, 22, 9) == 9
            && intmap_contains_key(map, 21) && intmap_len(map) == 1
            && intmap_load_factor(map) == 909 && intmap_filled_slots(map) == 1;
@@ -25,8 +25,8 @@ static bool changes(intmap *map) {
            && is(intmap_add_present(map, 21, 2), INTMAP_PRESENT, 1)
            && is(intmap_add_or_insert(map, 5, 3), INTMAP_ABSENT, 0)
            && is(intmap_remove(map, 6), INTMAP_ABSENT, 0)
+           && intmap_reserve_slots(map, 100) == INTMAP_OK
            && intmap_reserve(map, 100) == INTMAP_OK
-           && intmap_reserve_pairs(map, 100) == INTMAP_OK
            && intmap_set_load_factor(map, 500) == INTMAP_OK;
 }
 

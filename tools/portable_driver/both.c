@@ -25,9 +25,9 @@
 
 #define EACH_CALL(IT)                                                                              \
     IT(version) IT(with_capacity) IT(clone) IT(free) IT(get) IT(contains_key) IT(insert)           \
-    IT(insert_checked) IT(replace) IT(add_present) IT(add_or_insert) IT(remove) IT(clear) IT(len)  \
-    IT(capacity) IT(load_factor) IT(filled_slots) IT(reserve) IT(set_load_factor) IT(step) IT(cut) \
-    IT(equal) PLACE_CALL(IT)
+    IT(find_or_insert) IT(replace) IT(add_present) IT(add_or_insert) IT(remove) IT(clear) IT(len)  \
+    IT(capacity) IT(load_factor) IT(filled_slots) IT(reserve_slots) IT(set_load_factor) IT(step)   \
+    IT(cut) IT(equal) PLACE_CALL(IT)
 
 enum { MAPS = 2 };
 
@@ -122,9 +122,9 @@ static uint64_t number(void) {
 // One call, of each form.
 
 enum {
-    INSERT, INSERT_CHECKED, ADD_OR_INSERT, GET, CONTAINS_KEY, REPLACE, ADD_PRESENT, PLACE, REMOVE,
+    INSERT, FIND_OR_INSERT, ADD_OR_INSERT, GET, CONTAINS_KEY, REPLACE, ADD_PRESENT, PLACE, REMOVE,
     STEP, CUT, FIGURES,
-    OFTEN, START = OFTEN, CLONE, RESERVE, SET_LOAD_FACTOR, EQUAL,
+    OFTEN, START = OFTEN, CLONE, RESERVE_SLOTS, SET_LOAD_FACTOR, EQUAL,
     SOMETIMES, CLEAR = SOMETIMES, WITH_CAPACITY, FREE,
     KINDS
 };
@@ -178,8 +178,8 @@ static void change_pair(form *one, const call *it) {
     case PLACE: change_in_place(one, it); break;
     case REMOVE: found_value(one, one->remove(map, it->key)); break;
     case CUT: found_pair(one, one->cut(map, &one->at[it->map])); break;
-    case INSERT_CHECKED:
-        one->answer[0] = (uint64_t)one->insert_checked(map, it->key, it->value);
+    case FIND_OR_INSERT:
+        one->answer[0] = (uint64_t)one->find_or_insert(map, it->key, it->value);
         break;
     }
 }
@@ -189,7 +189,7 @@ static void change_map(form *one, const call *it) {
     uint64_t *status = &one->answer[0];
     switch (it->kind) {
     case CLONE: *status = (uint64_t)one->clone(map, &one->maps[!it->map]); break;
-    case RESERVE: *status = (uint64_t)one->reserve(map, it->value); break;
+    case RESERVE_SLOTS: *status = (uint64_t)one->reserve_slots(map, it->value); break;
     case SET_LOAD_FACTOR: *status = (uint64_t)one->set_load_factor(map, it->value); break;
     case CLEAR: one->clear(map); break;
     case WITH_CAPACITY: *status = (uint64_t)one->with_capacity(map, it->value); break;
@@ -252,7 +252,7 @@ static uint64_t value_for(unsigned kind, unsigned map) {
     // now and then a number at a limit
     static const uint64_t great[] = {UINT64_MAX, (uint64_t)1 << 63, ((uint64_t)1 << 63) - 3,
                                      UINT64_MAX / 48, UINT64_MAX / 48 + 1, (uint64_t)1 << 57};
-    if (kind == RESERVE || kind == WITH_CAPACITY) {
+    if (kind == RESERVE_SLOTS || kind == WITH_CAPACITY) {
         return number() % 4 == 0 ? great[number() % 6] : number() % slots;
     }
     if (kind == SET_LOAD_FACTOR) {

@@ -49,9 +49,9 @@ ALIGNED intmap_found_value intmap_insert(intmap *map, uint64_t key, uint64_t val
     return found_value(do_intmap_insert(BYTES(map), key, value));
 }
 
-ALIGNED intmap_status intmap_insert_checked(intmap *map, uint64_t key,
+ALIGNED intmap_status intmap_find_or_insert(intmap *map, uint64_t key,
                                             uint64_t value) INTMAP_CALL {
-    return STATUS(do_intmap_insert_checked(BYTES(map), key, value));
+    return STATUS(do_intmap_find_or_insert(BYTES(map), key, value));
 }
 
 ALIGNED intmap_found_value intmap_replace(intmap *map, uint64_t key, uint64_t value) INTMAP_CALL {
@@ -98,8 +98,8 @@ size_t intmap_filled_slots(const intmap *map) INTMAP_CALL {
     return do_intmap_filled_slots(BYTES(map));
 }
 
-intmap_status intmap_reserve(intmap *map, size_t additional) INTMAP_CALL {
-    return STATUS(do_intmap_reserve(BYTES(map), additional));
+intmap_status intmap_reserve_slots(intmap *map, size_t additional) INTMAP_CALL {
+    return STATUS(do_intmap_reserve_slots(BYTES(map), additional));
 }
 
 intmap_status intmap_set_load_factor(intmap *map, size_t thousandths) INTMAP_CALL {

@@ -8,8 +8,8 @@ use crate::handle::{Handle, put, take_or_make};
 use intmap::IntMap;
 use std::alloc::Global;
 
-/// Makes slots, and returns what [`intmap_reserve`] returns.
-fn reserve(map: &mut IntMap<u64, u64>, additional: usize) -> i32
+/// Makes slots, and returns what [`intmap_reserve_slots`] returns.
+fn reserve_slots(map: &mut IntMap<u64, u64>, additional: usize) -> i32
     ensures { Reserves map.old map.new additional result }
 {
     match map.reserve(additional) {
@@ -42,14 +42,14 @@ fn set_load_factor(map: &mut IntMap<u64, u64>, thousandths: usize) -> i32
 /// pairs plus `additional`. It fails with `TOO_LARGE` exactly if that sum is above 2^63, and
 /// otherwise with `NO_MEMORY` if an allocation fails. A failed call leaves the map.
 #[unsafe(no_mangle)]
-pub extern "C" fn intmap_reserve(alloc: Global, handle: &mut Handle, additional: usize) -> i32
+pub extern "C" fn intmap_reserve_slots(alloc: Global, handle: &mut Handle, additional: usize) -> i32
     ensures { OnMapOrNew handle.old.value handle.new.value (MakesNone additional result)
         (λ m n. Reserves m n additional result) }
 {
     match take_or_make(handle, alloc) {
         None => none_made(additional),
         Some(mut map) => {
-            let status = reserve(&mut map, additional);
+            let status = reserve_slots(&mut map, additional);
             put(handle, map);
             status
         }

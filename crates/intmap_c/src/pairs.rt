@@ -21,8 +21,8 @@ fn insert(map: &mut IntMap<u64, u64>, key: u64, value: u64) -> FoundValue
     }
 }
 
-/// Inserts the pair of a new key, and returns what [`intmap_insert_checked`] returns.
-fn insert_checked(map: &mut IntMap<u64, u64>, key: u64, value: u64) -> i32
+/// Inserts the pair of a new key, and returns what [`intmap_find_or_insert`] returns.
+fn find_or_insert(map: &mut IntMap<u64, u64>, key: u64, value: u64) -> i32
     ensures { InsertsNew map.old map.new key value result }
 {
     match map.insert_checked(key, value) {
@@ -111,7 +111,7 @@ pub extern "C" fn intmap_insert(
 /// Inserts the pair if the key is absent, and returns whether it was present. A present key keeps
 /// its value. The insertion of a new key fails as `intmap_insert` does.
 #[unsafe(no_mangle)]
-pub extern "C" fn intmap_insert_checked(
+pub extern "C" fn intmap_find_or_insert(
     alloc: Global,
     handle: &mut Handle,
     key: u64,
@@ -123,7 +123,7 @@ pub extern "C" fn intmap_insert_checked(
     match take_or_make(handle, alloc) {
         None => NO_MEMORY,
         Some(mut map) => {
-            let status = insert_checked(&mut map, key, value);
+            let status = find_or_insert(&mut map, key, value);
             put(handle, map);
             status
         }
