@@ -1,6 +1,8 @@
 """The pages of a release's archives: what they name has to be packed. A link to what isn't packed becomes its text. A path may be
 named that isn't packed if its paragraph says that it is of the repository, or in a clone."""
+import collections
 import fnmatch
+import functools
 import os
 import re
 
@@ -35,10 +37,21 @@ def is_packed(page, path, packed):
     return False
 
 
+@functools.lru_cache(None)
+def headings(text):
+    """The headings of a page: how deep, what it says, and its anchor, which has a number if the same was there before."""
+    found, times = [], collections.Counter()
+    for depth, head in re.findall(r"^(#+) (.+)$", BLOCK.sub("", text), re.M):
+        anchor = re.sub(r"[^\w\- ]", "", head.lower()).replace(" ", "-")
+        found.append((len(depth), head, f"{anchor}-{times[anchor]}" if times[anchor] else anchor))
+        times[anchor] += 1
+    return found
+
+
+@functools.lru_cache(None)
 def anchors(text):
     """The anchors of a page's headings."""
-    heads = re.findall(r"^#+ (.+)$", BLOCK.sub("", text), re.M)
-    return {re.sub(r"[^\w\- ]", "", it.lower()).replace(" ", "-") for it in heads}
+    return {anchor for _, _, anchor in headings(text)}
 
 
 def lost(pages, packed, counts):

@@ -1,12 +1,13 @@
-"""What other crates can name of the sources: types, functions and methods, each with its comment, its signature without
-contracts, and its clauses."""
+"""What other crates can name of the sources: types, functions and methods, each with its comment, its signature and its
+contract."""
 import functools
 import re
 
 # a function's head up to its name, at the indentation of a group
-HEAD = re.compile(r"^( *)pub fn (\w+)", re.M)
-CLAUSE = re.compile(r"^ +(requires|ensures\*?) (?:(\w+) )?\{", re.M)
+HEAD = re.compile(r'^( *)pub (?:unsafe )?(?:extern "C" )?fn (\w+)', re.M)
+CLAUSE = re.compile(r"^ +(?:requires|ensures|ghost)\b", re.M)
 TYPE = re.compile(r"^pub (?:struct|enum|trait) (\w+)", re.M)
+GHOST = re.compile(r"^    ghost (?!use )\w+ = \{", re.M)
 IMPL = re.compile(r"^(?:unsafe )?impl(.*?) \{(\}?)$", re.M | re.S)
 # a method of a trait with a comment of its own
 OF_TRAIT = re.compile(r"(?<=\n)    fn (\w+).*?(?= \{\n|;\n|\n    \{)", re.S)
@@ -19,15 +20,11 @@ LINK = re.compile(r"\[(`[^`]+`)\](?:\([^)]*\))?")
 class Item:
     """A type or a call: of which type, by which name, from which file, and what its source says."""
 
-    def __init__(self, owner, name, path, comment, signature, clauses=()):
+    def __init__(self, owner, name, path, comment, signature, contract="", traits=()):
         self.owner, self.name, self.path = owner, name, path
         self.comment = LINK.sub(r"\1", EXAMPLE.sub("", comment)).strip("\n")
         self.example = EXAMPLE.findall(comment)
-        self.signature, self.clauses = signature, clauses
-
-    def labels(self, words):
-        """The names of the clauses that begin with one of these words, each once."""
-        return [*dict.fromkeys(label or word for word, label, _ in self.clauses if word in words)]
+        self.signature, self.contract, self.traits = signature, contract, traits
 
 
 def comment_above(text, at):
@@ -51,35 +48,26 @@ def closed(text, at):
     raise ValueError(f"no brace closes that at {at}")
 
 
-def clauses_of(head):
-    """The clauses of a function's head: `requires` or `ensures`, the name, and the text on one line."""
-    found, at = [], 0
-    while clause := CLAUSE.search(head, at):
-        at = closed(head, clause.end() - 1)
-        found.append((clause[1], clause[2] or "", " ".join(head[clause.end() : at - 1].split())))
-    return found
-
-
 def dedented(lines):
-    margin = min(len(it) - len(it.lstrip()) for it in lines if it.strip())
+    margin = min((len(it) - len(it.lstrip()) for it in lines if it.strip()), default=0)
     return "\n".join(it[margin:].rstrip() for it in lines)
 
 
-def signature_of(head):
-    """A function's head without contracts, comments and its brace."""
-    first = CLAUSE.search(head)
-    lines = head[: first.start()].splitlines() if first else head.splitlines()
-    while lines and (not lines[-1].strip() or lines[-1].strip().startswith("//")):
-        lines.pop()
-    return dedented(lines).rstrip().removesuffix("{").rstrip().removesuffix(",")
+def halves_of(head):
+    """The signature of a function's head, and its contract with the comments in it."""
+    lines = head.rstrip().splitlines()
+    at = next((at for at, it in enumerate(lines) if CLAUSE.match(it)), len(lines))
+    while lines[at - 1].strip().startswith("//"):
+        at -= 1
+    return dedented(lines[:at]).rstrip().removesuffix(","), dedented(lines[at:])
 
 
 def functions(text, path, owner_at):
     """The public functions of a file."""
     for mark in HEAD.finditer(text):
-        body = re.compile(rf"^{mark[1]}\{{$|^{mark[1]}pub fn .*\{{$|^{mark[1]}(?:\)|where).*\{{$", re.M).search(text, mark.start())
-        head = text[mark.start() : body.end() if body else len(text)].removesuffix("{")
-        yield Item(owner_at(mark.start()), mark[2], path, comment_above(text, mark.start()), signature_of(head), clauses_of(head))
+        body = re.compile(rf"^{mark[1]}\{{\}}?$|^{mark[1]}pub .*fn .*\{{$|^{mark[1]}(?:\)|where).*\{{$", re.M).search(text, mark.start())
+        head = text[mark.start() : body.end() if body else len(text)].removesuffix("}").removesuffix("{")
+        yield Item(owner_at(mark.start()), mark[2], path, comment_above(text, mark.start()), *halves_of(head))
 
 
 def type_of(header):
@@ -123,22 +111,20 @@ def declared(text, path):
         signature = "\n".join([first, *shown, "}"]) if shown else first.removesuffix(" {")
         derived = DERIVED.search(text[: mark.start()])
         traits = derived[1].split(", ") if derived else []
-        yield Item(mark[1], "", path, comment_above(text, mark.start()), without_contracts(signature), traits)
+        yield Item(mark[1], "", path, comment_above(text, mark.start()), signature, traits=traits)
 
 
-def without_contracts(text):
-    """A type or a trait without what proofs alone see."""
-    while found := re.search(r"(?:^ *///.*\n)*^ *ghost \w+: \{", text, re.M):
-        text = text[: found.start()] + re.sub(r"^;\n*", "", text[closed(text, found.end() - 1) :])
-    while found := re.search(r"\n? +ensures(?: \w+)? \{", text):
-        text = text[: found.start()] + text[closed(text, found.end() - 1) :]
-    return re.sub(r"\n+\}$", "\n}", re.sub(r"\n{3,}", "\n\n", text).replace("{\n\n", "{\n"))
+def promised(text):
+    """What an `impl` promises: its head, what it has for proofs alone, and the methods with a contract."""
+    parts = [f"{text[it.start() : closed(text, it.end() - 1)]};" for it in GHOST.finditer(text)]
+    parts += [it[0] for it in OF_TRAIT.finditer(text) if CLAUSE.search(it[0])]
+    return "\n".join([text.partition(" {\n")[0], *parts]) if parts else ""
 
 
 @functools.lru_cache(None)
 def of_file(path, text):
-    """The calls, the types and the traits of a file. A trait has its type, its name, the whole type, its text, and the
-    methods that have a comment."""
+    """The calls, the types and the traits of a file. A trait has its type, its name, the whole type, what its `impl` says, and
+    the methods that have a comment."""
     groups, traits = [*impls(text)], []
 
     def owner_at(place):
@@ -148,8 +134,8 @@ def of_file(path, text):
         if trait:
             body = text[start:end]
             heads = ((it, comment_above(body, it.start())) for it in OF_TRAIT.finditer(body))
-            methods = [Item(kind, it[1], path, told, signature_of(it[0]), clauses_of(it[0])) for it, told in heads if told]
-            traits.append((kind, trait, whole, body, methods))
+            methods = [Item(kind, it[1], path, told, halves_of(it[0])[0], promised(body)) for it, told in heads if told]
+            traits.append((kind, trait, whole, Item(kind, trait, path, comment_above(text, start), "", promised(body)), methods))
     return [*functions(text, path, owner_at)], [*declared(text, path)], traits
 
 
@@ -163,4 +149,4 @@ class Sources:
             self.calls += calls
             self.types |= {it.owner: it for it in types if it.owner not in self.types}
             for it in traits:
-                self.traits.setdefault(it[0], []).append((*it[1:], path))
+                self.traits.setdefault(it[0], []).append(it[1:])
