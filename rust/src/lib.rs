@@ -49,14 +49,14 @@
 //! as it was. The README names what a reader trusts beside the proof, and has a table of the calls of
 //! this crate that are one proved call, and of those that have code by hand.
 //!
-//! A call that makes a proved one has a line such as "Proved of `IntMap::get`: `value`". It names
-//! that one and the clauses of its contract, which `docs/reference` of the repository shows. The text
-//! above says in words what these clauses say of the answer, of what the call leaves, and of
-//! failures. "Proved in part" is a call by hand over proved calls, which the line names. But for the
-//! calls of the next paragraph, one without such a line is the other call that its text links, and no
-//! more. What holds of every map is proved of each call too: no key is there twice, the pairs are in
-//! the order of their slots, the capacity is a power of two from 2 to 2^63, and the load factor is
-//! met at the last length at which insertions check it.
+//! A call that makes a proved call has a line such as "Proved of `IntMap::get`: `value`". The line
+//! names the proved call and the clauses of its contract, which stand in the crates `intmap` and
+//! `intmap_set` of the repository. The text above the line says in words what these clauses say of
+//! the answer, of what the call leaves, and of failures. "Proved in part" marks code by hand over the
+//! proved calls that the line names. Except for the calls of the next paragraph, a call without such
+//! a line only makes the call that its text links. What holds of every map is proved of each call
+//! too: no key is there twice, the pairs are in the order of their slots, the capacity is a power of
+//! two from 2 to 2^63, and the load factor is met at the last length at which insertions check it.
 //!
 //! Not proved, but tested: mutable references to several values, which [`IntMap::iter_mut`],
 //! [`IntMap::values_mut`], `&mut map` and [`IntMap::get_disjoint_mut`] hand out; what mends a map

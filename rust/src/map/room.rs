@@ -37,9 +37,10 @@ impl<K: IntKey, V> IntMap<K, V> {
     /// *O*(*n* + *c*), or *O*(1) if the capacity stays.
     ///
     /// Insertions of so many new keys then add no slots. Keys that share a slot still allocate. Ids
-    /// that follow one another share none, if they and the present keys lie within as many numbers in
-    /// a row as there are slots: their insertions can't fail then, as is proved. With a load factor above 1, a map that has too few slots gets one for each present pair at
-    /// least. The slots keep their [size](IntMap#memory). Where
+    /// that follow one another share no slot if they and the present keys lie within as many numbers
+    /// in a row as there are slots: it is proved that their insertions can't fail then. With a load
+    /// factor above 1, a map that has too few slots gets at least one for each present pair. The
+    /// slots keep their [size](IntMap#memory). Where
     /// [`try_reserve_pairs`](Self::try_reserve_pairs) fails, this call panics or ends the process.
     ///
     /// ```

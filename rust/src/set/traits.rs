@@ -16,8 +16,8 @@ impl<K: IntKey> Default for IntSet<K> {
 }
 
 /// The same members in the same order, with the same capacity and load factor.
-/// [`IntSet::try_clone`] returns a failure. The cost is *O*(*n* + *c*). `clone_from` of a set with as many slots keeps the slots and
-/// their memory.
+/// [`IntSet::try_clone`] returns a failure. The cost is *O*(*n* + *c*). `clone_from` of a set with
+/// as many slots keeps the slots and their memory.
 ///
 /// ```
 /// let set = intmap_proved::IntSet::from([21u64]);
