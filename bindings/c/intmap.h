@@ -2,15 +2,16 @@
 // Copyright (c) 2026 the intmap authors
 //
 // A hash map from 64-bit keys to 64-bit values, version 1.0.0. Each function that is declared here
-// has a contract in crates/intmap_c, and its code is proved to keep it. The functions that are
-// defined here, and that memory is given back, are tested.
+// has a contract in crates/intmap_c of the repository, and its code is proved to keep it. Tests
+// show the rest: the functions that are defined here, which calls request no memory, and that
+// memory is given back.
 //
 // For C99 and C++11, on machines with addresses of 64 bits. Take this file and intmap.c:
 //
 //     cc -O2 program.c intmap.c
 //
-// A map is one word. Define it as INTMAP_INIT, which is an empty map, hand its address to the calls,
-// and free it:
+// A map is one word. Define it as INTMAP_INIT, which is an empty map. Hand its address to the
+// calls, and free it at the end:
 //
 //     intmap map = INTMAP_INIT;
 //     if (intmap_failed(intmap_insert(&map, 21, 7).status)) {
@@ -19,83 +20,97 @@
 //     printf("%" PRIu64 "\n", intmap_get_or(&map, 21, 0));
 //     intmap_free(&map);
 //
-// WHAT THE CALLER OWES. Nothing checks these. If one is broken, anything may happen.
+// SLOTS. The number of slots is a power of two. The low bits of a key choose its slot, and a slot
+// holds any number of pairs. The walk is the order of the pairs: slot after slot, and each slot
+// from front to back. It depends only on the calls that succeeded. intmap_reserve makes room for
+// pairs; intmap_with_capacity and intmap_reserve_slots count slots.
 //
-// - No address that is passed is null. A word is INTMAP_INIT, or all zero bits, before the first
-//   call with it, and then only calls write it.
+// WHAT THE CALLER OWES. Nothing checks these rules. If a program breaks one, anything may happen.
+//
+// - No address that is passed is null, unless the call says that it may be.
+// - Before the first call with a word it is INTMAP_INIT, or all its bits are zero. After that only
+//   calls write it.
 // - A word isn't copied, since a copy is the same map. It may be moved, if its old place is then
 //   set to INTMAP_NONE.
 // - No signal handler makes a call, and neither does the forked child of a process with several
 //   threads. Nothing jumps out of a call: no longjmp, no exception, no cancellation of its thread.
-// - malloc, realloc and free belong to one allocator, make no call on a map, and align blocks like
-//   the C library.
-// - The two words of intmap_clone differ. intmap_copy_pairs has an array for all `room` pairs.
-// - An address from intmap_at or intmap_at_or_insert isn't used after the next call with the map,
-//   whatever that call does.
-// - There is some stack: a call takes less than 1 KB, besides malloc's; less than 5 KB if the
-//   compiler doesn't optimise.
+// - malloc, realloc and free belong to one allocator, make no call on a map, and align blocks as
+//   those of the C library do.
+// - The two words of intmap_clone differ. The array of intmap_copy_pairs has room for `room` pairs.
+// - An address from intmap_place, intmap_at or intmap_at_or_insert isn't used after the next call
+//   with the map, whatever that call does.
+// - There is enough stack: a call takes less than 1 KB of it, or less than 5 KB if the compiler
+//   doesn't optimise, besides what malloc takes.
 //
 // THREADS. Any number of threads may make calls with `const intmap *` at once, as long as no other
-// call has the map. A call with `intmap *` has it alone: the calls before it have ended, and the
-// next ones come after it, for example by a lock or a join. A call that gives an address lasts until
-// the last use of that address. A map may be used in one thread and then in another. Different maps
-// are independent.
+// call has the map. A call with `intmap *` has the map alone: the calls before it have ended, and
+// the next ones come after it, for example by a lock or a join. A call that gives an address lasts
+// until the last use of that address. A map may be used in one thread and then in another.
+// Different maps are independent.
 //
-// WHEN A CALL FAILS. Its status is negative, and the map is as it was. But it may keep memory that
-// it was granted before the refusal, of which a second try makes use.
+// WHEN A CALL FAILS. Its status is negative, and the map is as it was. The map may keep memory that
+// was granted before the refusal. A second try uses that memory.
 //
-// - INTMAP_NO_MEMORY: malloc or realloc returned NULL, or a block would need 2^63 bytes or more, which
-//   is not requested.
+// - INTMAP_NO_MEMORY: malloc or realloc returned NULL; or a block would need 2^63 bytes or more,
+//   and no request was made for it.
 // - INTMAP_TOO_LARGE: the map would have more than 2^63 slots or 2^64 - 1 pairs.
 //
 // THE FIRST CALL. INTMAP_INIT is a map of 4 slots without pairs, with a load factor of 909
-// thousandths, that has no memory yet. The first call that inserts a key, makes room or sets the
-// load factor requests it. If that is refused, the call fails. intmap_with_capacity requests it in
+// thousandths. It has no memory yet. The first call that inserts a key, makes room or sets the load
+// factor requests that memory, and fails if it is refused. intmap_with_capacity requests it in
 // advance.
 //
-// ORDER. The pairs lie in slots, whose number is a power of two. The walk is the order of the
-// pairs: slot after slot, and each slot from front to back. It depends only on the calls that were
-// made.
+// KEYS AND VALUES. Each 64-bit number is a key, and each is a value. intmap_from_pointer makes a
+// number of an address. No call follows the address, so the caller frees what it leads to.
 //
-// KEYS AND VALUES. Each number of 64 bits is a key, and each is a value. An address is stored by
-// intmap_from_pointer. No call follows it, so what it leads to is the caller's to free.
+// COST. A call on one key takes time in the number of pairs in the key's slot. That number is about
+// one, unless many keys share their low bits. Then shift those bits away, or number the keys anew:
+// in place of multiples of 4096 take key >> 12; in place of addresses that malloc returned take
+// address >> 4; in place of row << 32 | column take row * columns + column. If strangers choose the
+// keys, they can make each call linear. Then scramble each key by intmap_scramble. If keys share
+// slots, intmap_filled_slots is far below intmap_len.
 //
-// COST. A call on one key takes time in the number of pairs that share its slot. That is about one,
-// unless many keys share their low bits. Shift those away, or number the keys anew: in place of
-// multiples of 4096 take key >> 12, of what malloc returned address >> 4, of row << 32 | column
-// row * columns + column. If strangers choose the keys, they can make each call linear. Then
-// scramble each key by intmap_scramble. intmap_filled_slots tells of shared slots. An insertion that
-// adds slots or enlarges them moves all pairs, which is constant time a pair over all insertions. If
-// intmap_reserve_slots, intmap_reserve or intmap_set_load_factor adds slots, it takes time in the
-// pairs and slots, and otherwise constant time.
+// An insertion that adds slots, or makes them larger, moves all pairs. Over all insertions that
+// takes constant time for each pair, and for each slot that was made in advance. If intmap_reserve,
+// intmap_reserve_slots or intmap_set_load_factor adds slots, it takes time in the pairs and slots,
+// and otherwise constant time.
 //
-// MEMORY. It comes from malloc. Only a call that may return INTMAP_NO_MEMORY requests any: 48 bytes
-// a slot, so some 50 to 120 a pair in a map that has grown, and up to 140 if many keys share slots.
-// Slots that an insertion has added take 24 while no two keys share one, so ids that count up take
-// 27 to 54 a pair. A clone has as many slots. intmap_with_capacity writes each slot, which takes
-// time in their number. So on Linux, where malloc may not fail, too large a number may end the
-// process. Memory is given back by intmap_free, by intmap_shrink_to_fit, and by a call that replaces a
-// map, adds slots or enlarges them.
+// MEMORY. Only a call that may return INTMAP_NO_MEMORY requests memory, from malloc or realloc. A
+// slot takes 48 bytes, so a map that has grown takes some 50 to 120 a pair, and up to 140 if many
+// keys share slots. A slot that an insertion has added takes 24 while no two keys share one, so ids
+// that count up take 27 to 54 a pair. A clone has as many slots.
+//
+// A call that makes slots in advance writes each of them, which takes time in their number. Linux
+// may grant more memory than there is, so too large a number of slots may end the process. Memory
+// is given back by intmap_free, by intmap_shrink_to_fit, and by a call that replaces a map, adds
+// slots or makes them larger.
 //
 // DEBUGGING. With intmap_debug.c in place of intmap.c, some calls that break the rules end the
 // program, by a line on standard error and abort():
 //
 //     cc -g -DINTMAP_DEBUG program.c intmap_debug.c
 //
-// It notices a call with a copied word whose map was freed or replaced, also if the memory has
-// another map by then; with a word that no call wrote, unless its bits are by chance those of a
-// word; with a null address of a word; with one map as both of intmap_clone; and two calls on one
-// map at once of which one changes it, in two threads, by a signal handler, by malloc, or since a
-// jump left the first. It doesn't notice a copy as long as its map lives, calls that might meet but
-// don't, two first calls on one word, an address of intmap_at that is used too late, or what a
-// cursor or an array breaks. A call on a word that intmap_free has left is no mistake: it is an
-// empty map.
+// These are:
 //
-// All files that have maps must be compiled so, by gcc or clang. No installed library has it, so
-// compile intmap_debug.c, which includes intmap.c, beside them. The message names the call; run the
-// program in a debugger for its place. Each map takes 24 bytes more, in blocks from 1,536 bytes on
-// that stay in use, and the call that makes it may fail for want of them. Else calls answer as
-// without. A map that is lost isn't reported by a tool that looks for leaks.
+// - a call with a copy of a word whose map was freed or replaced, also if the memory has another
+//   map by then;
+// - a call with a word that no call wrote, unless its bits are by chance those of a word;
+// - a call with a null address of a word;
+// - intmap_clone with one map twice;
+// - a call on a map while another call on it hasn't ended, if one of them changes it: in another
+//   thread, in a signal handler, in malloc, or after a jump out of a call.
+//
+// It doesn't notice a copy as long as its map lives, calls that might meet but don't, two first
+// calls on one word, a wrong address of a cursor or an array, or an address of intmap_at that is
+// used too late. AddressSanitizer notices such an address if its memory was freed meanwhile. A call
+// on a word that intmap_free has left is no mistake: it is an empty map.
+//
+// Compile each file that has maps with INTMAP_DEBUG, by gcc or clang. No installed library notices
+// anything, so compile intmap_debug.c, which includes intmap.c, beside them. The message names the
+// call. A debugger shows where the program made it. Each map takes 24 bytes more, in blocks of
+// 1,536 bytes and more that are never given back. The call that makes a map may fail for want of
+// them. Otherwise calls answer as they do without INTMAP_DEBUG. A tool that looks for leaks doesn't
+// report a map that is lost.
 #ifndef INTMAP_H
 #define INTMAP_H
 
@@ -122,15 +137,15 @@ extern "C" {
 #endif
 
 // A compiler warns of a status that isn't read, if the call may fail for want of memory, or writes
-// a value only where the key is present. With gcc a cast to void doesn't help. To have no warning,
-// define INTMAP_NO_MUST_USE before this file.
+// a value only if the key is present. With gcc a cast to void doesn't help. To have no such
+// warning, define INTMAP_NO_MUST_USE before this file is included.
 #if (defined(__GNUC__) || defined(__clang__)) && !defined(INTMAP_NO_MUST_USE)
 #define INTMAP_MUST_USE __attribute__((warn_unused_result))
 #else
 #define INTMAP_MUST_USE
 #endif
 
-// DEBUGGING, above, says what this does.
+// DEBUGGING, above, says what these names are for.
 #ifdef INTMAP_DEBUG
 #define intmap_with_capacity intmap_debug_with_capacity
 #define intmap_clone intmap_debug_clone
@@ -170,8 +185,8 @@ typedef struct intmap {
 #endif
 
 // What a call did. If it didn't fail, the status is true exactly if the key, or a pair, was present
-// before. A failure is negative, and so it is true as well: ask intmap_failed first, or compare
-// with INTMAP_PRESENT. A later version may add negative ones for new failures.
+// before. The status of a failure is negative, and so it is true as well: ask intmap_failed first,
+// or compare with INTMAP_PRESENT. A later version may add negative statuses for new failures.
 typedef int32_t intmap_status;
 
 enum {
@@ -199,15 +214,15 @@ typedef struct intmap_pair {
     uint64_t value;
 } intmap_pair;
 
-// How far a walk has come. It goes on at this place of this slot or, if there is no pair, at the
-// next slot that has one. Any two numbers will do.
+// How far a walk has come. It goes on at this place of this slot. If no pair is there, it goes on
+// at the next slot that has one. Any two numbers will do.
 typedef struct intmap_cursor {
     size_t slot;
     size_t place;
 } intmap_cursor;
 
-// The start of a walk, where a definition needs a constant, as outside functions. All zero bits are
-// it too.
+// The start of a walk, for a definition that needs a constant, as outside functions. A cursor whose
+// bits are all zero is at the start too.
 #define INTMAP_START {0, 0}
 
 // Returns the start of a walk, in C as in C++.
@@ -222,25 +237,27 @@ typedef struct intmap_found_pair {
     intmap_status status;
 } intmap_found_pair;
 
-// Returns the version of the code: 10000 times the first number, 100 times the second, plus the
-// third.
+// Returns the version of the code: 10000 times its first number, plus 100 times the second, plus
+// the third.
 uint32_t intmap_version(void) INTMAP_CALL;
 
 // Makes an empty map, with a load factor of 909 thousandths. Its number of slots is the least power
-// of two that is at least `capacity`, and at least 2. For n pairs without growth, ask for
-// n + n / 10 + 1. A map that the word had is freed. It returns INTMAP_OK; INTMAP_TOO_LARGE exactly
-// if `capacity` is above 2^63; or INTMAP_NO_MEMORY. If it fails, it leaves the word as it was.
+// of two that is at least `capacity`, and at least 2. To insert n pairs without growth, ask for
+// n + n / 10 + 1 slots. If the word had a map, that map is freed. The call returns INTMAP_OK;
+// INTMAP_TOO_LARGE exactly if `capacity` is above 2^63; or INTMAP_NO_MEMORY. If it fails, it leaves
+// the word as it was.
 INTMAP_NONNULL INTMAP_MUST_USE intmap_status intmap_with_capacity(intmap *map, size_t capacity)
     INTMAP_CALL;
 
-// Makes a map in `to`, which is another word: the same pairs in the same order, as many slots, the
-// same load factor; or INTMAP_INIT, of INTMAP_INIT. It frees a map that `to` had. It returns
-// INTMAP_OK; or INTMAP_NO_MEMORY, which leaves `to` as it was. It takes time in the pairs and slots.
+// Copies the map into `to`, which is another word. The copy has the same pairs in the same order,
+// as many slots and the same load factor. The copy of INTMAP_INIT is INTMAP_INIT. If `to` had a
+// map, that map is freed. The call returns INTMAP_OK; or INTMAP_NO_MEMORY, and then leaves `to` as
+// it was. It takes time in the pairs and slots.
 INTMAP_NONNULL INTMAP_MUST_USE intmap_status intmap_clone(const intmap *map, intmap *to)
     INTMAP_CALL;
 
-// Frees all that the map took from malloc. The word is then INTMAP_INIT, and may be used again. It
-// takes time in the slots.
+// Frees all memory of the map. The word is then INTMAP_INIT, and may be used again. The call takes
+// time in the slots.
 INTMAP_NONNULL void intmap_free(intmap *map) INTMAP_CALL;
 
 // Returns INTMAP_PRESENT with the value of the key, or INTMAP_ABSENT.
@@ -257,21 +274,21 @@ INTMAP_NONNULL static inline uint64_t intmap_get_or(const intmap *map, uint64_t 
 INTMAP_NONNULL bool intmap_contains_key(const intmap *map, uint64_t key) INTMAP_CALL;
 
 // Inserts the pair, or gives a present key this value. It returns INTMAP_PRESENT with the value
-// before, or INTMAP_ABSENT if the key was absent. The pair is then the last of its slot. Where the
-// key was present, the pair that was the last takes the old place. If a new key makes the pairs
-// exceed the load factor, the slots are doubled until they don't. That is checked if the pairs,
-// with the new one, are 4 to 7, 12 to 15, 20 to 23, and so on.
+// before, or INTMAP_ABSENT if the key was absent. The pair is then the last of its slot. If the key
+// was present, the pair that was the last takes its old place. If the pairs exceed the load factor
+// with a new key, the slots are doubled until they don't. That is checked if the pairs, with the
+// new one, are 4 to 7, 12 to 15, 20 to 23, and so on.
 //
 // For a present key it never fails, and requests no memory. For an absent key it returns
 // INTMAP_TOO_LARGE exactly if there are 2^64 - 1 pairs or growth needs more than 2^63 slots, and
-// otherwise INTMAP_NO_MEMORY if an allocation fails. The key is then absent. Behind the first call
-// it requests no memory if no slots are added and the key's slot holds no pair.
+// otherwise INTMAP_NO_MEMORY if an allocation fails. The key is then absent. If the map has memory,
+// no slots are added and the key's slot holds no pair, it requests no memory.
 INTMAP_NONNULL INTMAP_MUST_USE intmap_found_value intmap_insert(intmap *map, uint64_t key,
                                                                 uint64_t value) INTMAP_CALL;
 
 // Finds the key, or inserts it with the value. It returns INTMAP_PRESENT if it found the key, which
-// keeps its value, and INTMAP_ABSENT, which is 0, if it inserted the key. For an absent key it fails
-// like intmap_insert.
+// then keeps its value; or INTMAP_ABSENT, which is 0, if it inserted the key. For an absent key it
+// fails as intmap_insert does.
 INTMAP_NONNULL INTMAP_MUST_USE intmap_status intmap_find_or_insert(intmap *map, uint64_t key,
                                                                    uint64_t value) INTMAP_CALL;
 
@@ -281,28 +298,28 @@ INTMAP_NONNULL INTMAP_MUST_USE intmap_status intmap_find_or_insert(intmap *map, 
 INTMAP_NONNULL INTMAP_MUST_USE intmap_found_value intmap_replace(intmap *map, uint64_t key,
                                                                  uint64_t value) INTMAP_CALL;
 
-// Adds to the value of a present key, modulo 2^64. It returns what intmap_replace does, by one
-// lookup, and inserts nothing either.
+// Adds to the value of a present key, modulo 2^64, by one lookup. It returns INTMAP_PRESENT with
+// the value before; or INTMAP_ABSENT, and inserts nothing. It requests no memory.
 INTMAP_NONNULL INTMAP_MUST_USE intmap_found_value intmap_add_present(intmap *map, uint64_t key,
                                                                      uint64_t more) INTMAP_CALL;
 
-// Adds to the value of a present key, as intmap_add_present does, and inserts an absent key with
+// Adds to the value of a present key, as intmap_add_present does, or inserts an absent key with
 // `more`, by one lookup. It returns INTMAP_PRESENT with the value before, or INTMAP_ABSENT if the
-// key was absent. For an absent key it fails like intmap_insert.
+// key was absent. For an absent key it fails as intmap_insert does.
 INTMAP_NONNULL INTMAP_MUST_USE intmap_found_value intmap_add_or_insert(intmap *map, uint64_t key,
                                                                        uint64_t more) INTMAP_CALL;
 
-// A map's numbers begin with the low byte. So machines whose own begin with the high one don't have
-// the next two calls.
+// A number in a map begins with its low byte. A machine whose numbers begin with the high byte
+// doesn't have the next three calls.
 #if !defined(__BYTE_ORDER__) || __BYTE_ORDER__ != __ORDER_BIG_ENDIAN__
 #define INTMAP_HAS_AT 1
 
-// Writes what intmap_at returns to `at`, which has some address, or NULL, before. A library exports
-// this call, and not intmap_at.
+// Writes the address that intmap_at returns to `*at`, which must have some address, or NULL,
+// before. A library exports this call, and not intmap_at.
 INTMAP_NONNULL void intmap_place(intmap *map, uint64_t key, uint64_t **at) INTMAP_CALL;
 
-// Returns the address of the value of a present key, or NULL. The value may be read and written
-// there until the next call with the map. It requests no memory:
+// Returns the address of the value of a present key, or NULL if the key is absent. The value may be
+// read and written there until the next call with the map. The call requests no memory:
 //
 //     uint64_t *at = intmap_at(&map, 21);
 //     if (at != NULL) {
@@ -314,10 +331,10 @@ INTMAP_NONNULL static inline uint64_t *intmap_at(intmap *map, uint64_t key) INTM
     return at;
 }
 
-// Writes the address of the value of the key to `at`, and inserts the key with `value` first if it is
-// absent. It returns INTMAP_PRESENT or INTMAP_ABSENT, as the key was before. For an absent key it
-// fails like intmap_insert, and writes NULL. A present key takes one lookup, and an absent one three.
-// This keeps the greatest number for each key:
+// Inserts the key with `value` if the key is absent, and then writes the address of its value to
+// `*at`. It returns INTMAP_PRESENT or INTMAP_ABSENT, as the key was before. For an absent key it
+// fails as intmap_insert does, and then writes NULL. It takes one lookup for a present key, and
+// three for an absent one. This keeps the greatest number for each key:
 //
 //     uint64_t *most;
 //     if (!intmap_failed(intmap_at_or_insert(&map, 21, number, &most)) && *most < number) {
@@ -337,16 +354,16 @@ INTMAP_NONNULL INTMAP_MUST_USE static inline intmap_status intmap_at_or_insert(
 }
 #endif
 
-// Removes the pair of the key. It returns INTMAP_PRESENT with its value, and the last pair of the
-// slot moves into its place; or INTMAP_ABSENT. It requests no memory. The number of slots stays, and
-// the slots keep their memory.
+// Removes the pair of the key. It returns INTMAP_PRESENT with the value, or INTMAP_ABSENT if the
+// key was absent. The last pair of the slot moves into the place of the removed one. The call
+// requests no memory. The number of slots stays, and the slots keep their memory.
 INTMAP_NONNULL intmap_found_value intmap_remove(intmap *map, uint64_t key) INTMAP_CALL;
 
-// Removes all pairs. The number of slots stays, and the slots keep their memory. It takes time in
-// the pairs and a 64th of the slots.
+// Removes all pairs. The number of slots stays, and the slots keep their memory. The call takes
+// time in the pairs and a 64th of the slots.
 INTMAP_NONNULL void intmap_clear(intmap *map) INTMAP_CALL;
 
-// Returns the number of pairs. Like the next two it takes constant time.
+// Returns the number of pairs. Like the next two calls it takes constant time.
 INTMAP_NONNULL size_t intmap_len(const intmap *map) INTMAP_CALL;
 
 // Returns the number of slots, a power of two from 2 to 2^63.
@@ -356,35 +373,36 @@ INTMAP_NONNULL size_t intmap_capacity(const intmap *map) INTMAP_CALL;
 INTMAP_NONNULL size_t intmap_load_factor(const intmap *map) INTMAP_CALL;
 
 // Returns the number of slots that hold a pair. If it is far below the number of pairs, many keys
-// share slots. It takes time in a 64th of the slots.
+// share slots. The call takes time in a 64th of the slots.
 INTMAP_NONNULL size_t intmap_filled_slots(const intmap *map) INTMAP_CALL;
 
-// Makes slots for the pairs and `additional` more: at least the least power of two that is no less
-// than their sum. It ignores the load factor, so the map may still grow before it has that many
-// pairs. To make room for pairs, call intmap_reserve. This call returns INTMAP_OK;
-// INTMAP_TOO_LARGE exactly if the pairs and `additional` are above 2^63; or INTMAP_NO_MEMORY, but
-// never if the map has memory, and slots enough.
+// Makes slots; to make room for pairs, call intmap_reserve, below. If the slots are fewer than the
+// pairs and `additional` together, their number becomes the least power of two that isn't below
+// that sum. The load factor isn't considered, so the map may still grow before it has that many
+// pairs. The call returns INTMAP_OK; INTMAP_TOO_LARGE exactly if the sum is above 2^63; or
+// INTMAP_NO_MEMORY, but never if the map has memory and slots enough.
 INTMAP_NONNULL INTMAP_MUST_USE intmap_status intmap_reserve_slots(intmap *map, size_t additional)
     INTMAP_CALL;
 
-// Sets the load factor, in thousandths. A number of slots meets it if 1000 * pairs / slots, rounded
-// down, is no more. The number of slots becomes the least of itself and its doublings that meets
-// it: with a factor of 0, more than 1000 slots a pair. It returns INTMAP_OK; INTMAP_TOO_LARGE
-// exactly if no number up to 2^63 meets it; or INTMAP_NO_MEMORY, but never if the map has memory,
-// and its slots meet it. If it fails, the load factor stays.
+// Sets the load factor, in thousandths. A number of slots meets the load factor if 1000 * pairs /
+// slots, rounded down, isn't above it. The slots are doubled until their number meets it: with a
+// load factor of 0, until there are more than 1000 slots a pair. The call returns INTMAP_OK;
+// INTMAP_TOO_LARGE exactly if that takes more than 2^63 slots; or INTMAP_NO_MEMORY, but never if
+// the map has memory and its slots meet the load factor. If the call fails, the load factor stays.
 INTMAP_NONNULL INTMAP_MUST_USE intmap_status intmap_set_load_factor(intmap *map, size_t thousandths)
     INTMAP_CALL;
 
-// Makes room for `more` pairs more: the number of slots becomes the least of itself and its
-// doublings that meets the load factor with them. Insertions of so many new keys then add no slots,
-// while the load factor stays. But one into a slot that holds a pair may request memory, and fail.
-// Insertions of ids that follow one another can't fail: if these and the keys of the map lie within
-// as many numbers in a row as there are slots, each has a slot of its own. The law
-// keys_in_a_row_have_room of the sources proves it.
+// Makes room for `more` pairs more: the slots are doubled until their number meets the load factor
+// with these pairs. Insertions of as many new keys then add no slots, as long as the load factor
+// stays. But the insertion of a key whose slot holds a pair may request memory, and fail.
 //
-// A load factor above 10^16 counts as 10^16. It returns INTMAP_OK; INTMAP_TOO_LARGE exactly if no
-// number up to 2^63 meets it or there would be more than 2^64 - 1 pairs; or INTMAP_NO_MEMORY, but
-// never if the map has memory, and its slots meet it.
+// Insertions of ids that follow one another can't fail then, if these and the keys of the map lie
+// within as many numbers in a row as there are slots. Each of them has a slot of its own. The law
+// keys_in_a_row_have_room of the sources proves that.
+//
+// A load factor above 10^16 counts as 10^16. The call returns INTMAP_OK; INTMAP_TOO_LARGE exactly
+// if that takes more than 2^63 slots, or there would be more than 2^64 - 1 pairs; or
+// INTMAP_NO_MEMORY, but never if the map has memory and slots enough.
 INTMAP_NONNULL INTMAP_MUST_USE static inline intmap_status intmap_reserve(intmap *map, size_t more)
     INTMAP_CALL {
     const size_t most = (size_t)10000000000000000u;
@@ -409,18 +427,18 @@ INTMAP_NONNULL INTMAP_MUST_USE static inline intmap_status intmap_reserve(intmap
 }
 
 // Returns INTMAP_PRESENT with the first pair of the walk from the cursor on, and moves the cursor
-// behind it; or INTMAP_ABSENT if none is left, and leaves the cursor. A whole walk takes time in the
-// pairs and a 64th of the slots.
+// behind that pair. If no pair is left, it returns INTMAP_ABSENT, and leaves the cursor. A whole
+// walk takes time in the pairs and a 64th of the slots.
 //
 // Any cursor will do, whatever has happened to the map since. But intmap_remove moves the last pair
 // of a slot to another place of it, and so does intmap_insert with a present key. A growing map
 // moves pairs to other slots. A walk that goes on after that may miss pairs, or show some again. To
-// remove along a walk and miss none, call intmap_cut.
+// remove pairs along a walk and miss none, call intmap_retain or intmap_cut.
 INTMAP_NONNULL intmap_found_pair intmap_step(const intmap *map, intmap_cursor *at) INTMAP_CALL;
 
 // Copies pairs of the walk from the cursor on, at most `room`, and moves the cursor behind them. It
-// returns how many it copied: fewer than `room` only if none is left. `pairs` is an array of at
-// least `room`, which needs no values before. The rest of it stays.
+// returns how many it copied: fewer than `room` only if no pair is left. `pairs` is an array of at
+// least `room` pairs, which may be uninitialised. What lies behind the copied pairs stays.
 INTMAP_NONNULL static inline size_t intmap_copy_pairs(const intmap *map, intmap_cursor *at,
                                                       intmap_pair *pairs,
                                                       size_t room) INTMAP_CALL {
@@ -435,19 +453,20 @@ INTMAP_NONNULL static inline size_t intmap_copy_pairs(const intmap *map, intmap_
     return count;
 }
 
-// Removes the first pair of the walk from the cursor on. It returns INTMAP_PRESENT with the pair, or
-// INTMAP_ABSENT if none is left, and leaves the cursor. Otherwise the cursor is where the pair was:
-// the pairs before it stay, and those behind it come next, in the same order. The number of slots
-// stays. It requests no memory, and takes time in the pairs that follow in the slot, and in what
-// intmap_step would pass. intmap_retain removes some pairs of a walk.
+// Removes the first pair of the walk from the cursor on, and returns INTMAP_PRESENT with it. The
+// cursor is then where the pair was: the pairs before it stay, and those behind it come next, in
+// the same order. If no pair is left, the call returns INTMAP_ABSENT, and leaves the cursor. The
+// number of slots stays. The call requests no memory. It takes time in the pairs that follow in the
+// slot, and in what intmap_step would pass.
 INTMAP_NONNULL intmap_found_pair intmap_cut(intmap *map, intmap_cursor *at) INTMAP_CALL;
 
-// Asks `keep` of each pair, in the order of the walk, and removes the pair if the answer is false. It
-// returns how many it removed. The other pairs stay in the same order, and the number of slots stays.
-// `keep` is handed `argument`, which may be null, and makes no call that changes the map.
-// intmap_retain requests no memory.
+// Calls `keep` with each pair, in the order of the walk, and removes the pair if `keep` returns
+// false. It returns how many it removed. The other pairs stay in the same order, and the number of
+// slots stays. `keep` is handed `argument`, which may be null. It makes no call that changes the
+// map. intmap_retain requests no memory.
 INTMAP_NONNULL_TWO static inline size_t intmap_retain(intmap *map,
-                                                      bool (*keep)(intmap_pair pair, void *argument),
+                                                      bool (*keep)(intmap_pair pair,
+                                                                   void *argument),
                                                       void *argument) INTMAP_CALL {
     intmap_cursor at = intmap_start(), next = at;
     intmap_found_pair seen;
@@ -464,9 +483,10 @@ INTMAP_NONNULL_TWO static inline size_t intmap_retain(intmap *map,
     return removed;
 }
 
-// Gives memory back. It makes another map, of 4 slots with the same load factor, inserts the pairs in
-// the order of the walk, and frees the old map. So the pairs may be in another order then. It returns
-// INTMAP_OK; or INTMAP_NO_MEMORY, which leaves the map. If the map has no memory, it does nothing.
+// Gives memory back. It makes another map, of 4 slots with the same load factor, inserts the pairs
+// in the order of the walk, and then frees the old map. So the pairs may have another order. The
+// call returns INTMAP_OK; or INTMAP_NO_MEMORY, and then leaves the map. If the map has no memory,
+// the call does nothing.
 INTMAP_NONNULL INTMAP_MUST_USE static inline intmap_status intmap_shrink_to_fit(intmap *map)
     INTMAP_CALL {
     intmap made = INTMAP_INIT;
@@ -492,19 +512,20 @@ INTMAP_NONNULL INTMAP_MUST_USE static inline intmap_status intmap_shrink_to_fit(
 // load factors. It takes a lookup for each pair, and time in a 64th of the slots.
 INTMAP_NONNULL bool intmap_equal(const intmap *map, const intmap *other) INTMAP_CALL;
 
-// Returns an address as a key or a value. It may be null.
+// Returns an address, which may be null, as a key or a value.
 static inline uint64_t intmap_from_pointer(const void *pointer) INTMAP_CALL {
     return (uint64_t)(uintptr_t)pointer;
 }
 
-// Returns the address again.
+// Returns the address of which intmap_from_pointer made this number.
 static inline void *intmap_to_pointer(uint64_t number) INTMAP_CALL {
     return (void *)(uintptr_t)number;
 }
 
-// Scrambles a key by a secret, so that a stranger can't choose the low bits, by which it has its
-// slot. Different keys stay different. It is no cipher: who sees walks, or times calls, may learn
-// the secret.
+// Scrambles a key by a secret. Strangers who don't know the secret then don't know the low bits, by
+// which the key has its slot. Nobody has shown that such strangers can't choose many keys of one
+// slot. Different keys stay different. It is no cipher: whoever sees walks, or times calls, may
+// learn the secret.
 static inline uint64_t intmap_scramble(uint64_t key, uint64_t secret) INTMAP_CALL {
     key ^= secret;
     key = (key ^ key >> 30) * 0xBF58476D1CE4E5B9u;
@@ -512,7 +533,7 @@ static inline uint64_t intmap_scramble(uint64_t key, uint64_t secret) INTMAP_CAL
     return key ^ key >> 31;
 }
 
-// Returns the key again, of which intmap_scramble made this number with the same secret.
+// Returns the key of which intmap_scramble made this number with the same secret.
 static inline uint64_t intmap_unscramble(uint64_t scrambled, uint64_t secret) INTMAP_CALL {
     uint64_t key = (scrambled ^ scrambled >> 31 ^ scrambled >> 62) * 0x319642B2D24D8EC3u;
     key = (key ^ key >> 27 ^ key >> 54) * 0x96DE1B173F119089u;

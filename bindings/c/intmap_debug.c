@@ -7,9 +7,10 @@
 //
 // It is for gcc and clang, as C99 and as C++11. Nothing here is proved.
 //
-// A word has a handle in place of a map's address. It is no place in memory, and leads to a record,
-// which has the map. A record tells for ever whether its map was freed, since no handle is given
-// twice. What a record counts orders nothing between threads, so that other tools see as much.
+// A word has a handle in place of a map's address. The handle is no place in memory. It leads to a
+// record, which has the map. No handle is given twice, so a record tells for ever whether its map
+// was freed. What a record counts orders nothing between threads, so a tool that looks for races
+// sees as many as it does without.
 #ifndef INTMAP_DEBUG
 #error "compile this file and each file that has maps with INTMAP_DEBUG"
 #endif
@@ -98,8 +99,8 @@ static debug_record *record_of(const char *call, const intmap *word) {
     bool is_ours = number < __atomic_load_n(&debug_count, __ATOMIC_RELAXED);
     debug_record *one = is_ours ? record_at(number) : NULL;
     if (one == NULL) {
-        debug_end(call, "no call wrote the word, and it isn't INTMAP_INIT; or a file was compiled without "
-                        "INTMAP_DEBUG");
+        debug_end(call, "no call wrote the word, and it isn't INTMAP_INIT; "
+                        "or a file was compiled without INTMAP_DEBUG");
     }
     return one;
 }

@@ -315,8 +315,8 @@ static void make_many(void) {
 }
 
 static const char COPY[] = "the word is a copy, and its map was freed or replaced";
-static const char UNKNOWN[] = "no call wrote the word, and it isn't INTMAP_INIT; or a file was compiled without "
-                              "INTMAP_DEBUG";
+static const char UNKNOWN[] = "no call wrote the word, and it isn't INTMAP_INIT; "
+                              "or a file was compiled without INTMAP_DEBUG";
 static const char NOWHERE[] = "the address of the word is null";
 static const char SAME[] = "both words have one map";
 static const char CHANGING[] = "another call is changing the map";

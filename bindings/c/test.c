@@ -294,8 +294,8 @@ static bool was_refused_at_once(void) {
     return was_refused() && granted_bytes == granted_before;
 }
 
-// Whether a call failed, which it has to exactly if a request was refused. Then nothing changes, but
-// the memory of a first call may stay.
+// Whether a call failed, which it has to exactly if a request was refused. Then nothing changes,
+// but the memory of a first call may stay.
 static bool fails(intmap_status status, side *changed) {
     EXPECT(was_refused() == (status == INTMAP_NO_MEMORY));
     EXPECT(intmap_failed(status) == was_refused());
@@ -497,7 +497,8 @@ typedef struct retained {
 
 static bool has_no_bit(intmap_pair pair, void *argument) {
     retained *so_far = (retained *)argument;
-    if (!EXPECT(so_far->passed < it->plain.len && same_pair(pair, it->plain.pairs[so_far->passed]))) {
+    if (!EXPECT(so_far->passed < it->plain.len
+                && same_pair(pair, it->plain.pairs[so_far->passed]))) {
         return true;
     }
     if (pair.value & so_far->mask) {
@@ -739,8 +740,8 @@ static void test_insertions(unsigned kind, uint64_t factor) {
     end_test();
 }
 
-// Each request is refused where a key comes to the slot of another one among keys that have a slot each,
-// and where all of these have a slot of their own again.
+// Each request is refused where a key comes to the slot of another one among keys that have a slot
+// each, and where each key has a slot of its own again.
 static void test_stray_keys(unsigned kind) {
     call_make(4);
     for (uint64_t key = 0; key < 300; key++) {
@@ -838,11 +839,11 @@ static void test_limits_of_room(void) {
     }
 }
 
-// The bytes of a slot: of one that has room for several pairs, and of one that has room for a pair alone.
+// The bytes of a slot: of one with room for several pairs, and of one with room for a pair alone.
 enum { SHARED = 48, LONE = 24 };
 
-// A call asks for its slots first. So with larger requests refused it gets them, and with one byte less
-// nothing is granted, and so nothing written.
+// A call asks for its slots first. So it gets them if larger requests are refused. If requests of
+// their size are refused too, nothing is granted, and so nothing is written.
 static void test_slots_first(size_t slots, size_t slot, void (*call)(void)) {
     const size_t all = slot * slots, bits = slots / 8 < 8 ? 8 : slots / 8;
     const size_t bounds[] = {0, bits, all / 2, all - 1};
@@ -1151,29 +1152,15 @@ static void test_writes_in_walk(void) {
     end_test();
 }
 
-// Values that are addresses of blocks, as docs/C.md frees them.
-
-static void free_value(uint64_t value) {
-    free(intmap_to_pointer(value));
-}
+// Values that are addresses of blocks, as README.md frees them.
 
 // Keeps a pair with an even key, and frees what the value of another one points to.
 static bool is_even(intmap_pair pair, void *argument) {
     (void)argument;
     if (pair.key % 2 > 0) {
-        free_value(pair.value);
+        free(intmap_to_pointer(pair.value));
     }
     return pair.key % 2 == 0;
-}
-
-// Frees what all values point to, and then the map.
-static void free_all(intmap *map) {
-    intmap_cursor at = intmap_start();
-    intmap_found_pair cut;
-    while ((cut = intmap_cut(map, &at)).status == INTMAP_PRESENT) {
-        free_value(cut.pair.value);
-    }
-    intmap_free(map);
 }
 
 static void test_addresses(void) {
@@ -1188,7 +1175,12 @@ static void test_addresses(void) {
     EXPECT(intmap_retain(&map, is_even, NULL) == 50);
     EXPECT(intmap_len(&map) == 50 && live_blocks == blocks - 50);
     EXPECT(intmap_contains_key(&map, 98) && !intmap_contains_key(&map, 99));
-    free_all(&map);
+    intmap_cursor at = intmap_start();
+    intmap_found_pair cut;
+    while ((cut = intmap_cut(&map, &at)).status == INTMAP_PRESENT) {
+        free(intmap_to_pointer(cut.pair.value));
+    }
+    intmap_free(&map);
     EXPECT(map.at == NULL && live_blocks == 0);
 }
 

@@ -1,5 +1,8 @@
 -- A `Handle` as what it owns: nothing at null, and else a map and the right to free its block. Assumes `Logic`.
-use Rattle.intmap_c.proofs.Words.{◌≡◌, ℕ, List, [], ◌∷◌, refl, lit<, Ura, bare, Val, vstruct, vcons, vnil, ent, guard, guard_i, never, via, fst∗, snd∗, fact_use, Logic, sem, Item, Goal, Seq, Step, step, ‵, ◌$◌, fjoin, fjoin3, fpack, feq_i, feq_l, given, use1, learn, RattleType, Valss, RawPtr, lone, layout, Ptr, block_ptr, null_ptr, ptr_val, in_a_block, Testable, lies_at, nothing, shape, to, within, box_owns, Option, None, Some, Good}
+use Rattle.intmap_c.proofs.Words.{◌≡◌, ℕ, List, [], ◌∷◌, refl, lit<, Ura, bare, Val, vstruct, vcons, vnil, ent, guard, guard_i, never, via, fst∗}
+use Rattle.intmap_c.proofs.Words.{snd∗, fact_use, Logic, sem, Item, Goal, Seq, Step, step, ‵, ◌$◌, fjoin, fjoin3, fpack, feq_i, feq_l, given, use1}
+use Rattle.intmap_c.proofs.Words.{learn, RattleType, Valss, RawPtr, lone, layout, Ptr, block_ptr, null_ptr, ptr_val, in_a_block, Testable, lies_at}
+use Rattle.intmap_c.proofs.Words.{nothing, shape, to, within, box_owns, Option, None, Some, Good}
 use base.Fraction.{full_share}
 use Rattle.std.specs.contracts.alloc.Global.{the_row as Global}
 use Rattle.std.proofs.Handle.{handle as global, heap_val}

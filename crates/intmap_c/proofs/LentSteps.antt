@@ -1,5 +1,7 @@
 -- What is lent: nothing at null, and else a map that is shared. Assumes `Logic`.
-use Rattle.intmap_c.proofs.Words.{◌≡◌, ℕ, List, [], ◌∷◌, refl, lit<, T, Ura, vstruct, vcons, vnil, has_ty, WT, Logic, sem, Item, Goal, Seq, ‵, given, ◌$◌, ◌∵◌, !, qed, done, move, drop, fsplit, fjoin, feq_l, use0, use1, learn, layout, Laws, Ptr, block_ptr, null_ptr, ptr_val, Testable, Option, None, Some, Good, shape, to}
+use Rattle.intmap_c.proofs.Words.{◌≡◌, ℕ, List, [], ◌∷◌, refl, lit<, T, Ura, vstruct, vcons, vnil, has_ty, WT, Logic, sem, Item, Goal, Seq, ‵, given}
+use Rattle.intmap_c.proofs.Words.{◌$◌, ◌∵◌, !, qed, done, move, drop, fsplit, fjoin, feq_l, use0, use1, learn, layout, Laws, Ptr, block_ptr, null_ptr}
+use Rattle.intmap_c.proofs.Words.{ptr_val, Testable, Option, None, Some, Good, shape, to}
 use Rattle.std.specs.Prelude.{◌^◌}
 use base.Fml.{Lft, ftrue, feq, flt}
 use base.Logic.{ent, never_e}

@@ -3,7 +3,8 @@
 --     ends         that right, with the whole of the loan, is the handle again
 --     cuts, joins  a loan is two, of which each may be passed to a call, in whichever thread; and the two are one again
 --     gives        the value at the address that `intmap_place` wrote, whatever was left there, is given up for the map
-use Rattle.intmap_c.proofs.Words.{ℕ, [], ◌∷◌, Ura, Logic, sem, ‵, raw, ◌⊛◌, given, later, ◌$◌, ◌∵◌, !, qed, done, move, drop, use1, split, fsplit, fjoin, learn, await, fact_use, guard_i, bare, lone, Ptr, null_ptr, Testable, Option, None, Some}
+use Rattle.intmap_c.proofs.Words.{ℕ, [], ◌∷◌, Ura, Logic, sem, ‵, raw, ◌⊛◌, given, later, ◌$◌, ◌∵◌, !, qed, done, move, drop, use1, split, fsplit}
+use Rattle.intmap_c.proofs.Words.{fjoin, learn, await, fact_use, guard_i, bare, lone, Ptr, null_ptr, Testable, Option, None, Some}
 use Rattle.std.specs.Prelude.{◌^◌}
 use base.Fraction.{full_share}
 use base.Share
@@ -51,7 +52,8 @@ module _ {M : Type 1} {𝓤 : Ura M} (𝓛 : Logic 𝓤) where
   pub lends : (p : Ptr) (v : Option Map.Denot)
       → ent 𝓤 (sem 𝓛 (owns_map p v)) (H.⇛ (ex 𝓤 (λ (α : ℕ). sep 𝓤 (sem 𝓛 (is_lent (loan (α ∷ []) full_share v) p)) (sem 𝓛 (flent (α ∷ []) (owns_map p v))))))
   lends p v = qed 𝓛 (‵ (owns_map p v) ∷ []) ∵ updating ! $ lft_new ! tt (λ α. move ! (1 ∷ []) $ bor_new ! tt (α ∷ []) $ move ! (0 ∷ 2 ∷ []) $
-      use2 𝓛 (later (‵ (shares_map p v (α ∷ [])) ⊛ ‵ (flft (α ∷ []) full_share))) (Lends-map p v (α ∷ []) ((α ∷ [], full_share) ∷ []) (⊑_static (α ∷ [])) (Incl-refl (α ∷ []))) $ await ! tt $ split ! $
+      use2 𝓛 (later (‵ (shares_map p v (α ∷ [])) ⊛ ‵ (flft (α ∷ []) full_share)))
+      (Lends-map p v (α ∷ []) ((α ∷ [], full_share) ∷ []) (⊑_static (α ∷ [])) (Incl-refl (α ∷ []))) $ await ! tt $ split ! $
       move ! (1 ∷ 0 ∷ []) $ fjoin ! $ now ! $ show ! (λ (β : ℕ). sep 𝓤 (sem 𝓛 (is_lent (loan (β ∷ []) full_share v) p)) (sem 𝓛 (flent (β ∷ []) (owns_map p v)))) α $ done !)
 
   pub ends : (α : ℕ) (p : Ptr) (v : Option Map.Denot)
@@ -76,4 +78,5 @@ module _ {M : Type 1} {𝓤 : Ura M} (𝓛 : Logic 𝓤) where
       → ent 𝓤 (sep 𝓤 (sem 𝓛 (lies_at u64 full_share at w)) (gives_back 𝓛 p m k at)) (H.⇛ (sem 𝓛 (owns_map p (Some (left_in m k w)))))
   gives p m k at w = let Left = λ (v : ℕ). wand 𝓤 (sem 𝓛 (lies_at u64 full_share at v)) (H.⇛ (sem 𝓛 (owns_map p (Some (left_in m k v))))) in
       qed 𝓛 (‵ (lies_at u64 full_share at w) ∷ raw (all 𝓤 Left) ∷ []) ∵ updating ! $ move ! (1 ∷ []) $ use1 𝓛 (raw (Left w)) (all_e 𝓤 Left w) $ move ! (1 ∷ 0 ∷ []) $
-      use2 𝓛 (later (‵ (owns_map p (Some (left_in m k w))))) (apply∗ 𝓤 (sem 𝓛 (lies_at u64 full_share at w)) (H.⇛ (sem 𝓛 (owns_map p (Some (left_in m k w)))))) $ await ! tt $ now ! $ done !
+      use2 𝓛 (later (‵ (owns_map p (Some (left_in m k w)))))
+      (apply∗ 𝓤 (sem 𝓛 (lies_at u64 full_share at w)) (H.⇛ (sem 𝓛 (owns_map p (Some (left_in m k w)))))) $ await ! tt $ now ! $ done !

@@ -1,5 +1,9 @@
 -- The names that the proofs of calls that only read cite.
-pub use Rattle.intmap_c.proofs.Words.{◌≡◌, ℕ, [], ◌∷◌, refl, sym, ap, List, Val, ftrue, tables, ‵, raw, ◌⊛◌, some, later, ◌$◌, ◌∵◌, !, qed, done, move, keep, drop, use1, split, join, fsplit, fjoin, pick, await, rewrite, suffices, enter, stop, fld, of_opd, no_more, and_then, returns, alloc_all, pass_all, free_all, look_at, get, sets, lands_as, agg, sub, whole, owns, types_at, plain, yes, nothing, only, calls_at, Lasts, lasts, triple_of, framed, Stays, stay_dropped, Goes-dropped, walk_of, says, ends_at, proved}
+pub use Rattle.intmap_c.proofs.Words.{◌≡◌, ℕ, [], ◌∷◌, refl, sym, ap, List, Val, ftrue, tables, ‵, raw, ◌⊛◌, some, later, ◌$◌, ◌∵◌, !, qed, done}
+pub use Rattle.intmap_c.proofs.Words.{move, keep, drop, use1, split, join, fsplit, fjoin, pick, await, rewrite, suffices, enter, stop, fld, of_opd}
+pub use Rattle.intmap_c.proofs.Words.{no_more, and_then, returns, alloc_all, pass_all, free_all, look_at, get, sets, lands_as, agg, sub, whole, owns}
+pub use Rattle.intmap_c.proofs.Words.{types_at, plain, yes, nothing, only, calls_at, Lasts, lasts, triple_of, framed, Stays, stay_dropped}
+pub use Rattle.intmap_c.proofs.Words.{Goes-dropped, walk_of, says, ends_at, proved}
 pub use base.Fml.{Lft, flft}
 pub use base.Logic.{id⊢}
 pub use mir.Val.{vptr, vint}

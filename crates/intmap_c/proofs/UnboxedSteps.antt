@@ -1,5 +1,8 @@
 -- An `Unboxed` as what it owns: a value at its place, the right to free the block, and an allocator. Assumes `Logic`.
-use Rattle.intmap_c.proofs.Words.{◌≡◌, ℕ, List, [], ◌∷◌, ◌++◌, refl, ap, ◌∙◌, Ura, T, true, ◌&&◌, impl, tnil, dnil, bare, Val, vptr, vstruct, vcons, vnil, of_list, has_ty, WT, never, fst∗, Logic, sem, Item, Goal, Seq, Step, step, ‵, ◌$◌, move, drop, fsplit, fsplit3, fjoin, fjoin3, fpick, fpack, feq_i, feq_l, RattleType, Valss, RawPtr, lone, layout, Laws, block_ptr, null_ptr, ptr_val, in_a_block, nothing, shape, within, box_owns, Ghosts, Al, handle_tells, Good, and_tt}
+use Rattle.intmap_c.proofs.Words.{◌≡◌, ℕ, List, [], ◌∷◌, ◌++◌, refl, ap, ◌∙◌, Ura, T, true, ◌&&◌, impl, tnil, dnil, bare, Val, vptr, vstruct, vcons}
+use Rattle.intmap_c.proofs.Words.{vnil, of_list, has_ty, WT, never, fst∗, Logic, sem, Item, Goal, Seq, Step, step, ‵, ◌$◌, move, drop, fsplit}
+use Rattle.intmap_c.proofs.Words.{fsplit3, fjoin, fjoin3, fpick, fpack, feq_i, feq_l, RattleType, Valss, RawPtr, lone, layout, Laws, block_ptr}
+use Rattle.intmap_c.proofs.Words.{null_ptr, ptr_val, in_a_block, nothing, shape, within, box_owns, Ghosts, Al, handle_tells, Good, and_tt}
 use Rattle.intmap_c.specs.contracts.unboxed.Unboxed as unboxed
 
 -- the machine value: a pointer and an allocator

@@ -14,7 +14,8 @@ pub use contract.BorrowLft.{◌⊑◌}
 pub use contract.Running.{tables}
 pub use prog.Wp.{WpFn}
 pub use types.Logic.{Logic, sem}
-pub use types.Kit.{Item, Goal, Seq, Step, step, ‵, raw, ◌⊛◌, given, some, later, prop, at_ret, ◌$◌, ◌∵◌, !, qed, done, move, keep, drop, use0, use1, split, split3, join, fsplit, fsplit3, fjoin, fjoin3, fpick, fpack, feq_i, feq_l, learn, pick, await, rewrite, regoal, suffices}
+pub use types.Kit.{Item, Goal, Seq, Step, step, ‵, raw, ◌⊛◌, given, some, later, prop, at_ret, ◌$◌, ◌∵◌, !, qed, done, move, keep, drop, use0, use1}
+pub use types.Kit.{split, split3, join, fsplit, fsplit3, fjoin, fjoin3, fpick, fpack, feq_i, feq_l, learn, pick, await, rewrite, regoal, suffices}
 pub use types.Run.{stop, fld, lit, of_opd, bin, no_more, and_then, first, blocks, branches, skips, exec, returns, returns_within, enter}
 pub use types.ByLocal.{alloc_all, pass_all, free_all, look_at, get, get_in, sets, lands_as, lands_last, env}
 pub use types.Match.{live}

@@ -18,7 +18,7 @@ fn reserve_slots(map: &mut IntMap<u64, u64>, additional: usize) -> i32
     }
 }
 
-/// The status where no first map could be made, which was to have room for `additional` pairs.
+/// The status where no first map could be made, which was to have slots for `additional` pairs.
 fn none_made(additional: usize) -> i32
     ensures { MakesNone additional result }
 {
@@ -38,9 +38,9 @@ fn set_load_factor(map: &mut IntMap<u64, u64>, thousandths: usize) -> i32
     }
 }
 
-/// Makes the number of slots at least the least power of two that is no less than the number of
-/// pairs plus `additional`. It fails with `TOO_LARGE` exactly if that sum is above 2^63, and
-/// otherwise with `NO_MEMORY` if an allocation fails. A failed call leaves the map.
+/// Makes slots for the pairs and `additional` more. If there are fewer, their number becomes the
+/// least power of two that isn't below that sum. It fails with `TOO_LARGE` exactly if the sum is
+/// above 2^63, and otherwise with `NO_MEMORY` if an allocation fails. A failed call leaves the map.
 #[unsafe(no_mangle)]
 pub extern "C" fn intmap_reserve_slots(alloc: Global, handle: &mut Handle, additional: usize) -> i32
     ensures { OnMapOrNew handle.old.value handle.new.value (MakesNone additional result)
@@ -56,9 +56,9 @@ pub extern "C" fn intmap_reserve_slots(alloc: Global, handle: &mut Handle, addit
     }
 }
 
-/// Sets the load factor in thousandths, and makes the number of slots the least doubling that meets
-/// it. It fails with `TOO_LARGE` exactly if no number up to 2^63 meets it, and otherwise with
-/// `NO_MEMORY` if an allocation fails. A failed call leaves the map and its load factor.
+/// Sets the load factor in thousandths, and doubles the slots until their number meets it. It fails
+/// with `TOO_LARGE` exactly if that takes more than 2^63 slots, and otherwise with `NO_MEMORY` if an
+/// allocation fails. A failed call leaves the map and its load factor.
 #[unsafe(no_mangle)]
 pub extern "C" fn intmap_set_load_factor(
     alloc: Global,

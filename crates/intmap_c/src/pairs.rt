@@ -21,7 +21,7 @@ fn insert(map: &mut IntMap<u64, u64>, key: u64, value: u64) -> FoundValue
     }
 }
 
-/// Inserts the pair of a new key, and returns what [`intmap_find_or_insert`] returns.
+/// Finds the key or inserts the pair, and returns what [`intmap_find_or_insert`] returns.
 fn find_or_insert(map: &mut IntMap<u64, u64>, key: u64, value: u64) -> i32
     ensures { InsertsNew map.old map.new key value result }
 {
@@ -108,8 +108,8 @@ pub extern "C" fn intmap_insert(
     }
 }
 
-/// Inserts the pair if the key is absent, and returns whether it was present. A present key keeps
-/// its value. The insertion of a new key fails as `intmap_insert` does.
+/// Finds the key, or inserts the pair if the key is absent, and returns whether the key was present.
+/// A present key keeps its value. The insertion of a new key fails as [`intmap_insert`] does.
 #[unsafe(no_mangle)]
 pub extern "C" fn intmap_find_or_insert(
     alloc: Global,

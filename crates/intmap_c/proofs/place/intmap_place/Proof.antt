@@ -1,6 +1,13 @@
 -- By hand, since the map is required of the caller, and its pointer is followed.
-use Rattle.intmap_c.proofs.ReaderWords.{◌≡◌, ℕ, [], ◌∷◌, refl, sym, ap, List, Val, ftrue, tables, ‵, raw, ◌⊛◌, some, later, ◌$◌, ◌∵◌, !, qed, done, move, keep, drop, use1, split, join, fsplit, fjoin, pick, await, rewrite, suffices, enter, stop, fld, of_opd, no_more, and_then, returns, alloc_all, pass_all, free_all, look_at, get, sets, lands_as, sub, whole, owns, types_at, plain, yes, nothing, calls_at, Lasts, lasts, triple_of, framed, Stays, stay_dropped, Goes-dropped, walk_of, says, ends_at, proved, Lft, flft, id⊢, vptr, named, w64, fact, use2, frame, group, load, through, look_in, u64, Is, shows, cell_at, uint_Makes, uint_vals, uint_Tells, peeks, heard, owned, Word, word_lowers, ptr_fits}
-use Rattle.intmap_c.proofs.Words.{lit<, subst, ◌∙◌, RawPtr, Ptr, block_ptr, null_ptr, ptr_val, tests_null, prop, at_ret, lit, bin, first, blocks, branches, skips, exec, returns_within, env, Option, None, Some}
+use Rattle.intmap_c.proofs.ReaderWords.{◌≡◌, ℕ, [], ◌∷◌, refl, sym, ap, List, Val, ftrue, tables, ‵, raw, ◌⊛◌, some, later, ◌$◌, ◌∵◌, !, qed, done}
+use Rattle.intmap_c.proofs.ReaderWords.{move, keep, drop, use1, split, join, fsplit, fjoin, pick, await, rewrite, suffices, enter, stop, fld, of_opd}
+use Rattle.intmap_c.proofs.ReaderWords.{no_more, and_then, returns, alloc_all, pass_all, free_all, look_at, get, sets, lands_as, sub, whole, owns}
+use Rattle.intmap_c.proofs.ReaderWords.{types_at, plain, yes, nothing, calls_at, Lasts, lasts, triple_of, framed, Stays, stay_dropped, Goes-dropped}
+use Rattle.intmap_c.proofs.ReaderWords.{walk_of, says, ends_at, proved, Lft, flft, id⊢, vptr, named, w64, fact, use2, frame, group, load, through}
+use Rattle.intmap_c.proofs.ReaderWords.{look_in, u64, Is, shows, cell_at, uint_Makes, uint_vals, uint_Tells, peeks, heard, owned, Word, word_lowers}
+use Rattle.intmap_c.proofs.ReaderWords.{ptr_fits}
+use Rattle.intmap_c.proofs.Words.{lit<, subst, ◌∙◌, RawPtr, Ptr, block_ptr, null_ptr, ptr_val, tests_null, prop, at_ret, lit, bin, first, blocks}
+use Rattle.intmap_c.proofs.Words.{branches, skips, exec, returns_within, env, Option, None, Some}
 use mathlib.Core.Bool.{true≢false}
 use base.Fraction.{full_share}
 use base.Fml.{GName, flent}
@@ -39,14 +46,18 @@ stayed = (stay_ref (0 ∷ []) tt (plain (λ _. Word)), (stay_dropped _ yes, (sta
 pub intmap_place_spec : {M : Type 1} → statement M
 intmap_place_spec {M = M} 𝓤 𝓛 𝓜 𝓡 wired =
     let c = f.clauses 𝓛 𝓜.mem 𝓡.returns in let W = walk_of 𝓛 f.ended stayed c in let 𝓣 = tables 𝓤 𝓛.H 𝓜 𝓡 𝓡.env in
-    proved 𝓛 f.ended stayed c 𝓜 𝓡 (Goes-ref 𝓛 2 0 tt (plain (λ _. Word)), (Goes-dropped 𝓛 2 (plain (λ _. u64)) yes (λ κs x w. refl), (Goes-ref 𝓛 2 1 tt (plain (λ _. RawPtr)), tt)))
+    proved 𝓛 f.ended stayed c 𝓜 𝓡 (
+      Goes-ref 𝓛 2 0 tt (plain (λ _. Word)),
+      (Goes-dropped 𝓛 2 (plain (λ _. u64)) yes (λ κs x w. refl), (Goes-ref 𝓛 2 1 tt (plain (λ _. RawPtr)), tt)),
+    )
     f.Key.name code.function (code.unfolded 𝓤 𝓛.H 𝓜 𝓡 wired)
     (λ κs. (mut_vals, (uint_vals w64, (mut_vals, tt)))) (λ κs. (mut_Tells (named 0) κs.0 Word, (uint_Tells w64, (mut_Tells (named 1) κs.1.0 RawPtr, tt)))) (λ κs qs bounds a value are.
     let word = a.0 in let b = word.ref_ptr.0 in let o = word.ref_ptr.1 in let κ : Lft = κs.0 in let d = word.now in let p = d.at in let k = a.1.0 in
     let Whole = (MutRef (named 0) κ Word).own_val word (mut_vals word) in
     let r = a.1.1.0 in let rs = mut_vals r in let Ref = λ (n : Ptr). (MutRef (named 1) κs.1.0 RawPtr).own_val (record r { now = n }) rs in
     let y : W.Ghost = ((κs, qs, bounds, a, (mut_vals word, (uint_vals w64 k, (rs, tt)))), value) in
-    let out : Leaves (map_of value) k → (n : Ptr) → Sq 𝓛 (raw (lends_place 𝓛 p value k n) ∷ ‵ Whole ∷ ‵ (flft κ qs.0) ∷ ‵ (Ref n) ∷ ‵ (flft κs.1.0 qs.1.0) ∷ []) (prop (W.post y vunit)) = λ leaves n.
+    let out : Leaves (map_of value) k → (n : Ptr)
+    → Sq 𝓛 (raw (lends_place 𝓛 p value k n) ∷ ‵ Whole ∷ ‵ (flft κ qs.0) ∷ ‵ (Ref n) ∷ ‵ (flft κs.1.0 qs.1.0) ∷ []) (prop (W.post y vunit)) = λ leaves n.
     suffices ! _ (ends_at 𝓛 f.ended stayed c y vunit tt (d, (tt, (n, tt))) (tt, (tt, (tt, tt)))) $
     feq_i ! _ (vunit ∷ []) _ refl $ nothing ! $ move ! (5 ∷ 0 ∷ []) $ join ! $ nothing ! $ join ! $ move ! (3 ∷ 0 ∷ []) $ join ! $
     nothing ! $ move ! (5 ∷ 0 ∷ []) $ join ! $ move ! (4 ∷ 0 ∷ []) $ join ! $ group ! 3 $ frame ! $ says ! leaves $ done ! in
@@ -75,7 +86,8 @@ intmap_place_spec {M = M} 𝓤 𝓛 𝓜 𝓡 wired =
     keep ! (2 ∷ 3 ∷ 0 ∷ 1 ∷ []) $
     feq_i ! Ptr null_ptr null_ptr refl $ feq_i ! Ptr null_ptr null_ptr refl $ fjoin ! $ use1 𝓛 (raw (lends_place 𝓛 null_ptr None k null_ptr)) (id⊢ 𝓤 _) $
     rewrite ! 0 (λ (v : Option Map.Denot). raw (lends_place 𝓛 null_ptr v k null_ptr)) (sym none) refl $
-    rewrite ! 0 (λ (n : Ptr). raw (lends_place 𝓛 n value k null_ptr)) (sym at) refl $ out (subst (λ (v : Option Map.Denot). Leaves (map_of v) k) (sym none) (λ never w. absurd (true≢false (sym never)))) null_ptr)
+    rewrite ! 0 (λ (n : Ptr). raw (lends_place 𝓛 n value k null_ptr)) (sym at) refl $
+    out (subst (λ (v : Option Map.Denot). Leaves (map_of v) k) (sym none) (λ never w. absurd (true≢false (sym never)))) null_ptr)
     (λ other. absurd other))
     (λ b' o' x at some_map test.
     let whole_map = block_ptr b' o' in
@@ -94,7 +106,8 @@ intmap_place_spec {M = M} 𝓤 𝓛 𝓜 𝓡 wired =
     sets ! (of_opd ! (get ! refl)) refl (tt, tt) $ sets ! (of_opd ! (get ! refl)) refl (tt, record { fits = are.1.0.1 }) $
     -- [the map and the right to free it; the word; its token; the address; the rest of its `&mut`]
     fsplit ! $ lft_new ! tt (λ α. move ! (1 ∷ []) $
-    use1 𝓛 (later (some (λ (γ : GName). ‵ ((MutRef (named 0) (α ∷ []) Map).own_val (record { ref_ptr = (b', o'); ghost_name = γ; now = x }) (vptr b' o' ∷ [])) ⊛ ‵ (flent (α ∷ []) (Held (mem Map) b' o' γ)))))
+    use1 𝓛 (later (some (λ (γ : GName).
+    ‵ ((MutRef (named 0) (α ∷ []) Map).own_val (record { ref_ptr = (b', o'); ghost_name = γ; now = x }) (vptr b' o' ∷ [])) ⊛ ‵ (flent (α ∷ []) (Held (mem Map) b' o' γ)))))
     (lends_ref 𝓛 Map (named 0) (α ∷ []) x b' o') $ await ! tt $ pick ! (λ γ. split ! $
     -- [the map, lent; what the lender keeps; the token of that; the right to free; ..]
     let m : MutBor State = record { ref_ptr = (b', o'); ghost_name = γ; now = x } in
@@ -106,7 +119,8 @@ intmap_place_spec {M = M} 𝓤 𝓛 𝓜 𝓡 wired =
     calls_at ! (framed 𝓤 𝓛.H 𝓜 (tables 𝓤 𝓛.H 𝓜 𝓡 𝓡.env)) G (met 𝓤 𝓛 𝓜 𝓡 (code.calls-intmap_c::place::find 𝓡.env wired)) z
     (and_then ! (get ! refl) (and_then ! (get ! refl) (no_more !))) (λ v.
     use1 𝓛 (later (some (λ (u : Option (MutBor ℕ)). ((‵ (flft (α ∷ []) full_share) ⊛ ‵ ftrue) ⊛ ‵ ((Found (α ∷ [])).own_val u (v ∷ []))) ⊛
-    some (λ (ws : Lasts g.ended z.0.0 z.0.3). ‵ (lasts g.ended z.0.0 z.0.3 ws) ⊛ ‵ (lends_value m k u) ⊛ raw (fact 𝓤 (option_copied_mut u ≡ bound_to x k)) ⊛ raw (fact 𝓤 (Leaves x k)))))) (id⊢ 𝓤 _) $
+    some (λ (ws : Lasts g.ended z.0.0 z.0.3). ‵ (lasts g.ended z.0.0 z.0.3 ws) ⊛ ‵ (lends_value m k u) ⊛
+    raw (fact 𝓤 (option_copied_mut u ≡ bound_to x k)) ⊛ raw (fact 𝓤 (Leaves x k)))))) (id⊢ 𝓤 _) $
     await ! tt $ pick ! (λ u. split ! $ split ! $ split ! $ move ! (3 ∷ []) $ pick ! (λ ws. split ! $ drop ! $ split ! $ move ! (1 ∷ []) $ split ! $ heard ! _ (λ told. heard ! _ (λ leaves.
     let kept = subst (λ (v : Option Map.Denot). Leaves (map_of v) k) (sym some_map) leaves in
     -- [how the map follows what was found; the token of the loan; nothing; what was found; what the lender keeps; the right to free; ..]

@@ -1,5 +1,12 @@
 -- By hand, since the loan is required of the caller, and given back. The word of the clone is lent on to the callee.
-use Rattle.intmap_c.proofs.ReaderWords.{ℕ, [], ◌∷◌, refl, sym, List, Val, ftrue, tables, ‵, raw, ◌⊛◌, some, later, ◌$◌, ◌∵◌, !, qed, done, move, keep, use1, split, join, fsplit, fjoin, pick, await, rewrite, suffices, enter, stop, fld, of_opd, no_more, and_then, returns, alloc_all, pass_all, free_all, look_at, get, sets, lands_as, agg, sub, whole, owns, types_at, plain, yes, nothing, calls_at, Lasts, lasts, triple_of, framed, Stays, stay_dropped, Goes-dropped, walk_of, says, ends_at, proved, Lft, flft, id⊢, vptr, named, fact, use2, load, through, look_in, RefOf, Is, shows, cell_at, shr_vals, shr_Tells, NamedLft, contraction, looks, shuts, peeks, heard, shares_map, is_lent, Word, word_lowers, word_copies, lent_row, lowered, shares_map_laws, ptr_fits, lent_fits, lent_val, lent_in, frame, group}
+use Rattle.intmap_c.proofs.ReaderWords.{ℕ, [], ◌∷◌, refl, sym, List, Val, ftrue, tables, ‵, raw, ◌⊛◌, some, later, ◌$◌, ◌∵◌, !, qed, done, move, keep}
+use Rattle.intmap_c.proofs.ReaderWords.{use1, split, join, fsplit, fjoin, pick, await, rewrite, suffices, enter, stop, fld, of_opd, no_more, and_then}
+use Rattle.intmap_c.proofs.ReaderWords.{returns, alloc_all, pass_all, free_all, look_at, get, sets, lands_as, agg, sub, whole, owns, types_at, plain}
+use Rattle.intmap_c.proofs.ReaderWords.{yes, nothing, calls_at, Lasts, lasts, triple_of, framed, Stays, stay_dropped, Goes-dropped, walk_of, says}
+use Rattle.intmap_c.proofs.ReaderWords.{ends_at, proved, Lft, flft, id⊢, vptr, named, fact, use2, load, through, look_in, RefOf, Is, shows, cell_at}
+use Rattle.intmap_c.proofs.ReaderWords.{shr_vals, shr_Tells, NamedLft, contraction, looks, shuts, peeks, heard, shares_map, is_lent, Word}
+use Rattle.intmap_c.proofs.ReaderWords.{word_lowers, word_copies, lent_row, lowered, shares_map_laws, ptr_fits, lent_fits, lent_val, lent_in, frame}
+use Rattle.intmap_c.proofs.ReaderWords.{group}
 use base.Fraction.{full_share}
 use types.Kit.{use3}
 use types.Run.{addr}
@@ -30,7 +37,10 @@ pub intmap_clone_spec : {M : Type 1} → statement M
 intmap_clone_spec {M = M} 𝓤 𝓛 𝓜 𝓡 wired =
     let c = f.clauses 𝓛 𝓜.mem 𝓡.returns in let W = walk_of 𝓛 f.ended stayed c in let 𝓣 = tables 𝓤 𝓛.H 𝓜 𝓡 𝓡.env in
     let self = RefOf (0 ∷ []) tt (plain (λ _. Word)) (λ _. tt) in
-    proved 𝓛 f.ended stayed c 𝓜 𝓡 (Goes-dropped 𝓛 2 (plain (λ _. Global)) yes (λ κs x w. refl), (Goes-dropped 𝓛 2 self yes (λ κs x w. refl), (Goes-ref 𝓛 2 1 tt (plain (λ _. Handle)), tt)))
+    proved 𝓛 f.ended stayed c 𝓜 𝓡 (
+      Goes-dropped 𝓛 2 (plain (λ _. Global)) yes (λ κs x w. refl),
+      (Goes-dropped 𝓛 2 self yes (λ κs x w. refl), (Goes-ref 𝓛 2 1 tt (plain (λ _. Handle)), tt)),
+    )
     f.Key.name code.function (code.unfolded 𝓤 𝓛.H 𝓜 𝓡 wired)
     (λ κs. ((λ _. heap_val ∷ []), (shr_vals, (mut_vals, tt)))) (λ κs. (heap_Tells, (shr_Tells (named 0) κs.0 Word, (mut_Tells (named 1) κs.1.0 Handle, tt)))) (λ κs qs bounds a loan are.
     let b = a.1.0.ref_ptr.0 in let o = a.1.0.ref_ptr.1 in let κ : Lft = κs.0 in let d = a.1.0.now in let p = d.at in let m = loan.value in let α : Lft = loan.life in

@@ -1,5 +1,12 @@
 -- By hand, since two loans are required of the caller, and given back.
-use Rattle.intmap_c.proofs.ReaderWords.{[], ◌∷◌, refl, sym, List, Val, ftrue, tables, ‵, raw, ◌⊛◌, some, later, ◌$◌, ◌∵◌, !, qed, done, move, keep, drop, use1, split, join, fsplit, fjoin, pick, await, rewrite, suffices, enter, stop, fld, of_opd, no_more, and_then, returns, alloc_all, pass_all, free_all, look_at, get, sets, lands_as, agg, sub, whole, owns, types_at, plain, yes, nothing, calls_at, Lasts, lasts, triple_of, framed, Stays, stay_dropped, Goes-dropped, walk_of, says, ends_at, proved, Lft, flft, id⊢, vptr, named, fact, use2, frame, group, load, through, look_in, RefOf, Is, shows, cell_at, shr_vals, shr_Tells, NamedLft, contraction, looks, shuts, peeks, heard, shares_map, is_lent, Word, word_lowers, word_copies, lent_row, lowered, shares_map_laws, ptr_fits, lent_fits, lent_val, lent_in, map_of}
+use Rattle.intmap_c.proofs.ReaderWords.{[], ◌∷◌, refl, sym, List, Val, ftrue, tables, ‵, raw, ◌⊛◌, some, later, ◌$◌, ◌∵◌, !, qed, done, move, keep}
+use Rattle.intmap_c.proofs.ReaderWords.{drop, use1, split, join, fsplit, fjoin, pick, await, rewrite, suffices, enter, stop, fld, of_opd, no_more}
+use Rattle.intmap_c.proofs.ReaderWords.{and_then, returns, alloc_all, pass_all, free_all, look_at, get, sets, lands_as, agg, sub, whole, owns}
+use Rattle.intmap_c.proofs.ReaderWords.{types_at, plain, yes, nothing, calls_at, Lasts, lasts, triple_of, framed, Stays, stay_dropped, Goes-dropped}
+use Rattle.intmap_c.proofs.ReaderWords.{walk_of, says, ends_at, proved, Lft, flft, id⊢, vptr, named, fact, use2, frame, group, load, through, look_in}
+use Rattle.intmap_c.proofs.ReaderWords.{RefOf, Is, shows, cell_at, shr_vals, shr_Tells, NamedLft, contraction, looks, shuts, peeks, heard, shares_map}
+use Rattle.intmap_c.proofs.ReaderWords.{is_lent, Word, word_lowers, word_copies, lent_row, lowered, shares_map_laws, ptr_fits, lent_fits, lent_val}
+use Rattle.intmap_c.proofs.ReaderWords.{lent_in, map_of}
 use mathlib.Core.Bool.{Bool}
 use denote.Builtin.{bool}
 use denote.Plain.{bool_Lawful}
@@ -27,7 +34,8 @@ intmap_equal_spec {M = M} 𝓤 𝓛 𝓜 𝓡 wired =
     let x = lent_val lα p m in let w : Val = lowered lα x in let x' = lent_val lα' p' m' in let w' : Val = lowered lα' x' in
     let G = triple_of 𝓛 g.signature (g.spec 𝓛 𝓜.mem 𝓡.returns) in
     let z : G.Ghost = (((α, (α', tt)), (loans.0.share, (loans.1.share, tt)), tt, (x, (x', tt)), (w ∷ [], (w' ∷ [], tt))), tt) in
-    qed 𝓛 (((‵ (flft κs.0 qs.0) ⊛ ‵ (flft κs.1.0 qs.1.0) ⊛ ‵ ftrue) ⊛ ‵ (owns (types_at f.ended.signature.params κs) a y.0.4)) ∷ (‵ (is_lent loans.0 p) ⊛ ‵ (is_lent loans.1 p')) ∷ []) ∵
+    qed 𝓛 (((‵ (flft κs.0 qs.0) ⊛ ‵ (flft κs.1.0 qs.1.0) ⊛ ‵ ftrue) ⊛ ‵ (owns (types_at f.ended.signature.params κs) a y.0.4))
+    ∷ (‵ (is_lent loans.0 p) ⊛ ‵ (is_lent loans.1 p')) ∷ []) ∵
     split ! $ split ! $ move ! (3 ∷ []) $ split ! $ move ! (3 ∷ []) $ split ! $ move ! (5 ∷ []) $ fsplit ! $ fsplit ! $ move ! (2 ∷ []) $ fsplit ! $ fsplit ! $
     keep ! (4 ∷ 9 ∷ 1 ∷ 5 ∷ 7 ∷ 8 ∷ []) $
     -- [the first word; its token; the second word; its token; what is lent of both]
@@ -50,7 +58,8 @@ intmap_equal_spec {M = M} 𝓤 𝓛 𝓜 𝓡 wired =
     -- [the token of the second `&`; the second word; that of the first; the first word; what is lent of both]
     move ! (4 ∷ []) $ fsplit ! $ move ! (1 ∷ []) $ use1 𝓛 (‵ (shares_map p m α) ⊛ ‵ (shares_map p m α)) (contraction 𝓛 (shares_map p m) (shares_map_laws p m) α) $ split ! $
     use1 𝓛 (‵ ((lent_row lα).own_val x (w ∷ []))) (lent_in lα 𝓛 p m) $
-    move ! (7 ∷ []) $ fsplit ! $ move ! (1 ∷ []) $ use1 𝓛 (‵ (shares_map p' m' α') ⊛ ‵ (shares_map p' m' α')) (contraction 𝓛 (shares_map p' m') (shares_map_laws p' m') α') $ split ! $
+    move ! (7 ∷ []) $ fsplit ! $ move ! (1 ∷ []) $ use1 𝓛 (‵ (shares_map p' m' α') ⊛ ‵ (shares_map p' m' α'))
+    (contraction 𝓛 (shares_map p' m') (shares_map_laws p' m') α') $ split ! $
     use1 𝓛 (‵ ((lent_row lα').own_val x' (w' ∷ []))) (lent_in lα' 𝓛 p' m') $
     -- [what the callee reads of the second; what stays lent of it; its loan's token; what it reads of the first; what stays lent; its loan's token; ..]
     nothing ! $ move ! (1 ∷ 0 ∷ []) $ join ! $ move ! (3 ∷ 0 ∷ []) $ join ! $

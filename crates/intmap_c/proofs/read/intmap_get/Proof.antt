@@ -1,5 +1,12 @@
 -- By hand, since the loan is required of the caller, and given back.
-use Rattle.intmap_c.proofs.ReaderWords.{◌≡◌, [], ◌∷◌, refl, sym, List, Val, ftrue, tables, ‵, raw, ◌⊛◌, some, later, ◌$◌, ◌∵◌, !, qed, done, move, keep, drop, use1, split, join, fsplit, fjoin, pick, await, rewrite, suffices, enter, stop, fld, of_opd, no_more, and_then, returns, alloc_all, pass_all, free_all, look_at, get, sets, lands_as, agg, sub, whole, owns, types_at, plain, yes, nothing, calls_at, Lasts, lasts, triple_of, framed, Stays, stay_dropped, Goes-dropped, walk_of, says, ends_at, proved, Lft, flft, id⊢, vptr, named, w64, fact, use2, frame, group, load, through, look_in, RefOf, u64, Is, shows, cell_at, uint_Makes, uint_vals, uint_Tells, RattleType, shr_vals, shr_Tells, NamedLft, contraction, looks, shuts, peeks, heard, owned, shares_map, is_lent, Word, word_lowers, word_copies, lent_row, lowered, shares_map_laws, ptr_fits, lent_fits, lent_val, lent_in, map_of}
+use Rattle.intmap_c.proofs.ReaderWords.{◌≡◌, [], ◌∷◌, refl, sym, List, Val, ftrue, tables, ‵, raw, ◌⊛◌, some, later, ◌$◌, ◌∵◌, !, qed, done, move}
+use Rattle.intmap_c.proofs.ReaderWords.{keep, drop, use1, split, join, fsplit, fjoin, pick, await, rewrite, suffices, enter, stop, fld, of_opd}
+use Rattle.intmap_c.proofs.ReaderWords.{no_more, and_then, returns, alloc_all, pass_all, free_all, look_at, get, sets, lands_as, agg, sub, whole}
+use Rattle.intmap_c.proofs.ReaderWords.{owns, types_at, plain, yes, nothing, calls_at, Lasts, lasts, triple_of, framed, Stays, stay_dropped}
+use Rattle.intmap_c.proofs.ReaderWords.{Goes-dropped, walk_of, says, ends_at, proved, Lft, flft, id⊢, vptr, named, w64, fact, use2, frame, group}
+use Rattle.intmap_c.proofs.ReaderWords.{load, through, look_in, RefOf, u64, Is, shows, cell_at, uint_Makes, uint_vals, uint_Tells, RattleType}
+use Rattle.intmap_c.proofs.ReaderWords.{shr_vals, shr_Tells, NamedLft, contraction, looks, shuts, peeks, heard, owned, shares_map, is_lent, Word}
+use Rattle.intmap_c.proofs.ReaderWords.{word_lowers, word_copies, lent_row, lowered, shares_map_laws, ptr_fits, lent_fits, lent_val, lent_in, map_of}
 use Rattle.intmap_c.specs.Answers.{value_found}
 use Rattle.intmap_c.specs.Calls.{bound_to}
 use Rattle.intmap_c.specs.declared.answer.FoundValue.{FoundValue}

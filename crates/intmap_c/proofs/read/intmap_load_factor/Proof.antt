@@ -1,5 +1,12 @@
 -- By hand, since the loan is required of the caller, and given back.
-use Rattle.intmap_c.proofs.ReaderWords.{◌≡◌, ℕ, [], ◌∷◌, refl, sym, ap, List, Val, ftrue, tables, ‵, raw, ◌⊛◌, some, later, ◌$◌, ◌∵◌, !, qed, done, move, keep, drop, use1, split, join, fsplit, fjoin, pick, await, rewrite, suffices, enter, stop, fld, of_opd, no_more, and_then, returns, alloc_all, pass_all, free_all, look_at, get, sets, lands_as, agg, sub, whole, owns, types_at, plain, yes, nothing, only, calls_at, Lasts, lasts, triple_of, framed, Stays, stay_dropped, Goes-dropped, walk_of, says, ends_at, proved, Lft, flft, id⊢, vptr, vint, named, w64, fact, use2, frame, group, load, through, look_in, RefOf, usize, Is, shows, cell_at, uint_Makes, shr_vals, shr_Tells, NamedLft, contraction, looks, shuts, peeks, heard, owned, shares_map, is_lent, Word, word_lowers, word_copies, lent_row, lowered, shares_map_laws, ptr_fits, lent_fits, lent_val, lent_in, map_of}
+use Rattle.intmap_c.proofs.ReaderWords.{◌≡◌, ℕ, [], ◌∷◌, refl, sym, ap, List, Val, ftrue, tables, ‵, raw, ◌⊛◌, some, later, ◌$◌, ◌∵◌, !, qed, done}
+use Rattle.intmap_c.proofs.ReaderWords.{move, keep, drop, use1, split, join, fsplit, fjoin, pick, await, rewrite, suffices, enter, stop, fld, of_opd}
+use Rattle.intmap_c.proofs.ReaderWords.{no_more, and_then, returns, alloc_all, pass_all, free_all, look_at, get, sets, lands_as, agg, sub, whole}
+use Rattle.intmap_c.proofs.ReaderWords.{owns, types_at, plain, yes, nothing, only, calls_at, Lasts, lasts, triple_of, framed, Stays, stay_dropped}
+use Rattle.intmap_c.proofs.ReaderWords.{Goes-dropped, walk_of, says, ends_at, proved, Lft, flft, id⊢, vptr, vint, named, w64, fact, use2, frame}
+use Rattle.intmap_c.proofs.ReaderWords.{group, load, through, look_in, RefOf, usize, Is, shows, cell_at, uint_Makes, shr_vals, shr_Tells, NamedLft}
+use Rattle.intmap_c.proofs.ReaderWords.{contraction, looks, shuts, peeks, heard, owned, shares_map, is_lent, Word, word_lowers, word_copies, lent_row}
+use Rattle.intmap_c.proofs.ReaderWords.{lowered, shares_map_laws, ptr_fits, lent_fits, lent_val, lent_in, map_of}
 use Rattle.intmap_c.specs.contracts.read.intmap_load_factor as f
 use Rattle.intmap_c.proofs.read.intmap_load_factor.Statement.{statement}
 use Rattle.intmap_c.proofs.read.intmap_load_factor.Code as code

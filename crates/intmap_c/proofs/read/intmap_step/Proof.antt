@@ -1,5 +1,12 @@
 -- By hand, since the loan is required of the caller, and given back. The cursor is lent on to the callee.
-use Rattle.intmap_c.proofs.ReaderWords.{ℕ, [], ◌∷◌, refl, sym, List, Val, ftrue, tables, ‵, raw, ◌⊛◌, some, later, ◌$◌, ◌∵◌, !, qed, done, move, keep, use1, split, join, fsplit, fjoin, pick, await, rewrite, suffices, enter, stop, fld, of_opd, no_more, and_then, returns, alloc_all, pass_all, free_all, look_at, get, sets, lands_as, agg, sub, whole, owns, types_at, plain, yes, nothing, calls_at, Lasts, lasts, triple_of, framed, Stays, stay_dropped, Goes-dropped, walk_of, says, ends_at, proved, Lft, flft, id⊢, vptr, named, fact, use2, load, through, look_in, RefOf, Is, shows, cell_at, shr_vals, shr_Tells, NamedLft, RattleType, contraction, looks, shuts, peeks, heard, shares_map, is_lent, Word, word_lowers, word_copies, lent_row, lowered, shares_map_laws, ptr_fits, lent_fits, lent_val, lent_in, frame, group, map_of}
+use Rattle.intmap_c.proofs.ReaderWords.{ℕ, [], ◌∷◌, refl, sym, List, Val, ftrue, tables, ‵, raw, ◌⊛◌, some, later, ◌$◌, ◌∵◌, !, qed, done, move, keep}
+use Rattle.intmap_c.proofs.ReaderWords.{use1, split, join, fsplit, fjoin, pick, await, rewrite, suffices, enter, stop, fld, of_opd, no_more, and_then}
+use Rattle.intmap_c.proofs.ReaderWords.{returns, alloc_all, pass_all, free_all, look_at, get, sets, lands_as, agg, sub, whole, owns, types_at, plain}
+use Rattle.intmap_c.proofs.ReaderWords.{yes, nothing, calls_at, Lasts, lasts, triple_of, framed, Stays, stay_dropped, Goes-dropped, walk_of, says}
+use Rattle.intmap_c.proofs.ReaderWords.{ends_at, proved, Lft, flft, id⊢, vptr, named, fact, use2, load, through, look_in, RefOf, Is, shows, cell_at}
+use Rattle.intmap_c.proofs.ReaderWords.{shr_vals, shr_Tells, NamedLft, RattleType, contraction, looks, shuts, peeks, heard, shares_map, is_lent, Word}
+use Rattle.intmap_c.proofs.ReaderWords.{word_lowers, word_copies, lent_row, lowered, shares_map_laws, ptr_fits, lent_fits, lent_val, lent_in, frame}
+use Rattle.intmap_c.proofs.ReaderWords.{group, map_of}
 use base.Fraction.{full_share}
 use types.Kit.{use3}
 use types.Run.{addr}

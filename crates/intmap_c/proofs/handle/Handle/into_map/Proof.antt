@@ -1,5 +1,10 @@
 -- By hand, since a pointer is compared with null: what the handle owns there decides the outcome.
-use Rattle.intmap_c.proofs.Words.{[], ◌∷◌, refl, lit<, Val, vstruct, vcons, vnil, ptr_val, ftrue, WpFn, tables, ‵, ◌⊛◌, prop, at_ret, ◌$◌, ◌∵◌, !, qed, done, move, keep, drop, use0, use1, split, join, fsplit, regoal, suffices, enter, stop, fld, lit, of_opd, bin, no_more, and_then, first, branches, skips, exec, returns, returns_within, alloc_all, pass_all, free_all, look_at, get, get_in, sets, env, live, agg, sub, whole, yes, RattleType, plain, type_at, layout, Ptr, block_ptr, null_ptr, tests_null, nothing, Stays, stay_dropped, Goes-dropped, walk_of, says, ends_at, Good, Some-of, none_of, None, Some, proved}
+use Rattle.intmap_c.proofs.Words.{[], ◌∷◌, refl, lit<, Val, vstruct, vcons, vnil, ptr_val, ftrue, WpFn, tables, ‵, ◌⊛◌, prop, at_ret, ◌$◌, ◌∵◌}
+use Rattle.intmap_c.proofs.Words.{qed, !, done, move, keep, drop, use0, use1, split, join, fsplit, regoal, suffices, enter, stop, fld, lit, of_opd, bin}
+use Rattle.intmap_c.proofs.Words.{no_more, and_then, first, branches, skips, exec, returns, returns_within, alloc_all, pass_all, free_all, look_at}
+use Rattle.intmap_c.proofs.Words.{get, get_in, sets, env, live, agg, sub, whole, yes, RattleType, plain, type_at, layout, Ptr, block_ptr, null_ptr}
+use Rattle.intmap_c.proofs.Words.{tests_null, nothing, Stays, stay_dropped, Goes-dropped, walk_of, says, ends_at, Good, Some-of, none_of, None, Some}
+use Rattle.intmap_c.proofs.Words.{proved}
 use Rattle.std.specs.contracts.impls.GlobalAllocator.TheImpl.{ghosts}
 use Rattle.std.specs.contracts.alloc.Global.{the_row as Global}
 use Rattle.std.proofs.alloc.Global.TheLaws.{the_row_laws}

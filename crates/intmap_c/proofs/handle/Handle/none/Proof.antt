@@ -1,5 +1,6 @@
 -- By hand, since a struct that owns memory is made: at null it owns nothing.
-use Rattle.intmap_c.proofs.Words.{[], ◌∷◌, refl, ftrue, ‵, raw, ◌$◌, ◌∵◌, !, qed, done, drop, suffices, feq_i, enter, lit, no_more, and_then, returns, alloc_all, pass_all, free_all, look_at, sets, agg, Ptr, null_ptr, nothing, on_entry, says, ends_at, None, proved}
+use Rattle.intmap_c.proofs.Words.{[], ◌∷◌, refl, ftrue, ‵, raw, ◌$◌, ◌∵◌, !, qed, done, drop, suffices, feq_i, enter, lit, no_more, and_then, returns}
+use Rattle.intmap_c.proofs.Words.{alloc_all, pass_all, free_all, look_at, sets, agg, Ptr, null_ptr, nothing, on_entry, says, ends_at, None, proved}
 use Rattle.intmap_c.proofs.HandleSteps.{Word, word_fits, word_in}
 use Rattle.intmap_c.proofs.handle.Handle.TheLaws.{lowered}
 use Rattle.intmap_c.specs.contracts.handle.Handle.none as f

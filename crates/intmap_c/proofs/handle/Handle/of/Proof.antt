@@ -1,5 +1,8 @@
 -- By hand, since a struct that owns memory is made: the handle owns what the parts of the box owned.
-use Rattle.intmap_c.proofs.Words.{[], ◌∷◌, ◌++◌, refl, List, Val, ftrue, WpFn, tables, ‵, raw, ◌⊛◌, prop, ◌$◌, ◌∵◌, !, qed, done, keep, drop, split, join, fsplit, regoal, suffices, enter, stop, fld, of_opd, no_more, and_then, returns, alloc_all, pass_all, free_all, look_at, get, get_in, sets, agg, sub, whole, yes, owns, types_at, plain, block_ptr, nothing, alive, Stays, stay_dropped, Goes-dropped, walk_of, says, ends_at, Some, proved_at}
+use Rattle.intmap_c.proofs.Words.{[], ◌∷◌, ◌++◌, refl, List, Val, ftrue, WpFn, tables, ‵, raw, ◌⊛◌, prop, ◌$◌, ◌∵◌, !, qed, done, keep, drop, split}
+use Rattle.intmap_c.proofs.Words.{join, fsplit, regoal, suffices, enter, stop, fld, of_opd, no_more, and_then, returns, alloc_all, pass_all, free_all}
+use Rattle.intmap_c.proofs.Words.{look_at, get, get_in, sets, agg, sub, whole, yes, owns, types_at, plain, block_ptr, nothing, alive, Stays}
+use Rattle.intmap_c.proofs.Words.{stay_dropped, Goes-dropped, walk_of, says, ends_at, Some, proved_at}
 use Rattle.std.specs.contracts.impls.GlobalAllocator.TheImpl.{ghosts}
 use Rattle.std.specs.contracts.alloc.Global.{the_row as Global}
 use Rattle.std.proofs.alloc.Global.TheLaws.{the_row_laws}

@@ -1,5 +1,9 @@
 -- By hand, since a pointer is compared with null: what is lent there decides the outcome.
-use Rattle.intmap_c.proofs.Words.{[], ◌∷◌, refl, List, lit<, Val, vnil, ftrue, WpFn, tables, ‵, ◌⊛◌, prop, at_ret, ◌$◌, ◌∵◌, !, qed, done, move, keep, use0, use1, split, fsplit, fjoin, feq_i, regoal, suffices, enter, stop, fld, lit, of_opd, bin, no_more, and_then, first, blocks, branches, skips, exec, returns, returns_within, alloc_all, pass_all, free_all, look_at, get, get_in, sets, env, live, agg, sub, whole, owns, types_at, plain, type_at, RattleType, Ptr, block_ptr, tests_null, nothing, Stays, stay_dropped, Goes-dropped, walk_of, says, ends_at, Some-of, none_of, None, Some, proved}
+use Rattle.intmap_c.proofs.Words.{[], ◌∷◌, refl, List, lit<, Val, vnil, ftrue, WpFn, tables, ‵, ◌⊛◌, prop, at_ret, ◌$◌, ◌∵◌, !, qed, done, move, keep}
+use Rattle.intmap_c.proofs.Words.{use0, use1, split, fsplit, fjoin, feq_i, regoal, suffices, enter, stop, fld, lit, of_opd, bin, no_more, and_then}
+use Rattle.intmap_c.proofs.Words.{first, blocks, branches, skips, exec, returns, returns_within, alloc_all, pass_all, free_all, look_at, get, get_in}
+use Rattle.intmap_c.proofs.Words.{sets, env, live, agg, sub, whole, owns, types_at, plain, type_at, RattleType, Ptr, block_ptr, tests_null, nothing}
+use Rattle.intmap_c.proofs.Words.{Stays, stay_dropped, Goes-dropped, walk_of, says, ends_at, Some-of, none_of, None, Some, proved}
 use base.Fml.{Lft, flft}
 use mir.Val.{vptr, of_list}
 use mir.Syntax.{named}

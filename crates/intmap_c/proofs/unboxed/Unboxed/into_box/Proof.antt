@@ -1,5 +1,11 @@
 -- By hand, since a struct that owns memory is taken apart: what it owns is what the box is made of.
-use Rattle.intmap_c.proofs.Words.{◌≡◌, List, [], ◌∷◌, ◌++◌, refl, sym, ap, subst, a_type, dcons, dnil, inst_fn, Val, vptr, ftrue, flft, id⊢, fact, ◌⊑◌, tables, WpFn, ‵, raw, ◌⊛◌, some, later, prop, at_ret, ◌$◌, ◌∵◌, !, qed, done, move, keep, drop, use1, split, split3, join, fsplit, fjoin, feq_i, heard, pick, await, rewrite, regoal, suffices, stop, fld, of_opd, no_more, and_then, first, blocks, exec, returns, enter, alloc_all, pass_all, free_all, look_at, get, get_in, sets, lands_last, env, sub, whole, no, RattleType, owns, types_at, plain, layout, param, bounded, param_laws, block_ptr, nothing, only, calls_at_last, Lasts, lasts, triple_of, framed, Stays, stay_dropped, walk_of, says, ends_at, Goes-blank, after, Good, proved_at}
+use Rattle.intmap_c.proofs.Words.{◌≡◌, List, [], ◌∷◌, ◌++◌, refl, sym, ap, subst, a_type, dcons, dnil, inst_fn, Val, vptr, ftrue, flft, id⊢, fact}
+use Rattle.intmap_c.proofs.Words.{◌⊑◌, tables, WpFn, ‵, raw, ◌⊛◌, some, later, prop, at_ret, ◌$◌, ◌∵◌, !, qed, done, move, keep, drop, use1, split}
+use Rattle.intmap_c.proofs.Words.{split3, join, fsplit, fjoin, feq_i, heard, pick, await, rewrite, regoal, suffices, stop, fld, of_opd, no_more}
+use Rattle.intmap_c.proofs.Words.{and_then, first, blocks, exec, returns, enter, alloc_all, pass_all, free_all, look_at, get, get_in, sets}
+use Rattle.intmap_c.proofs.Words.{lands_last, env, sub, whole, no, RattleType, owns, types_at, plain, layout, param, bounded, param_laws, block_ptr}
+use Rattle.intmap_c.proofs.Words.{nothing, only, calls_at_last, Lasts, lasts, triple_of, framed, Stays, stay_dropped, walk_of, says, ends_at}
+use Rattle.intmap_c.proofs.Words.{Goes-blank, after, Good, proved_at}
 use Rattle.std.proofs.BoxSteps.Form.{Bx, B}
 use Rattle.std.proofs.BoxSteps.Steps.{box_out, box_in}
 use Rattle.std.specs.contracts.boxed.Box.from_raw as made
@@ -36,7 +42,8 @@ into_box_spec 𝓤 𝓛 𝓜 𝓡 wired T A L LA g d dx dd allocator glue-T glue
     calls_at_last ! (framed 𝓤 𝓛.H 𝓜 𝓣) G (met 𝓤 𝓛 𝓜 𝓡 (code.calls-std_alloc::boxed::Box::from_raw 𝓡.env wired) T A L LA g d dd allocator glue-A) z
     (and_then ! (get ! refl) (and_then ! (get ! refl) (no_more !))) (λ u.
     use1 𝓛 (later (some (λ (r : (B E).Denot). (tokens ⊛ ‵ ((B E).own_val r (u ∷ []))) ⊛
-    some (λ (ls : Lasts (made.ended T A g d dd) κs z.0.3). ‵ (lasts (made.ended T A g d dd) κs z.0.3 ls) ⊛ raw (fact 𝓤 (r.value ≡ was.value)) ⊛ raw (fact 𝓤 (r.alloc ≡ was.alloc)))))) (id⊢ 𝓤 (G.post z u)) $
+    some (λ (ls : Lasts (made.ended T A g d dd) κs z.0.3). ‵ (lasts (made.ended T A g d dd) κs z.0.3 ls) ⊛
+    raw (fact 𝓤 (r.value ≡ was.value)) ⊛ raw (fact 𝓤 (r.alloc ≡ was.alloc)))))) (id⊢ 𝓤 (G.post z u)) $
     await ! tt $ pick ! (λ r. split ! $ move ! (1 ∷ []) $ pick ! (λ ls. split3 ! $ drop ! $ heard ! (r.value ≡ was.value) (λ same. drop ! $ split ! $ move ! (1 ∷ []) $
     -- [the box; the tokens; nothing]
     box_out E ! r (u ∷ []) (λ b' o' h' at' is' fits'. box_in E ! r b' o' r.value at' refl $ rewrite ! 0 (λ (us : List Val). ‵ ((B E).own_val r us)) (sym is') refl $

@@ -1,5 +1,11 @@
 -- By hand, since a struct that owns memory is made: it owns what the box owned.
-use Rattle.intmap_c.proofs.Words.{◌≡◌, List, [], ◌∷◌, ◌++◌, refl, ap, ◌∙◌, a_type, dcons, dnil, inst_fn, bare, Val, vstruct, of_list, ptr_val, ftrue, flft, never, fst∗, sem, id⊢, fact, tables, WpFn, ‵, raw, ◌⊛◌, some, later, prop, ◌$◌, ◌∵◌, !, qed, done, move, keep, drop, use1, split, split3, join, fsplit, fsplit3, fjoin, fpick, feq_l, heard, pick, await, rewrite, regoal, suffices, stop, fld, of_opd, no_more, and_then, returns, enter, alloc_all, pass_all, free_all, look_at, get, get_in, sets, lands_as, agg, sub, whole, no, RattleType, owns, types_at, plain, lone, param, bounded, param_laws, RawPtr, Ptr, block_ptr, null_ptr, in_a_block, Tuple, nothing, only, calls_at, Lasts, lasts, triple_of, framed, Stays, stay_dropped, walk_of, says, ends_at, box_owns, handle_tells, Goes-blank, proved_at}
+use Rattle.intmap_c.proofs.Words.{◌≡◌, List, [], ◌∷◌, ◌++◌, refl, ap, ◌∙◌, a_type, dcons, dnil, inst_fn, bare, Val, vstruct, of_list, ptr_val, ftrue}
+use Rattle.intmap_c.proofs.Words.{flft, never, fst∗, sem, id⊢, fact, tables, WpFn, ‵, raw, ◌⊛◌, some, later, prop, ◌$◌, ◌∵◌, !, qed, done, move, keep}
+use Rattle.intmap_c.proofs.Words.{drop, use1, split, split3, join, fsplit, fsplit3, fjoin, fpick, feq_l, heard, pick, await, rewrite, regoal}
+use Rattle.intmap_c.proofs.Words.{suffices, stop, fld, of_opd, no_more, and_then, returns, enter, alloc_all, pass_all, free_all, look_at, get, get_in}
+use Rattle.intmap_c.proofs.Words.{sets, lands_as, agg, sub, whole, no, RattleType, owns, types_at, plain, lone, param, bounded, param_laws, RawPtr}
+use Rattle.intmap_c.proofs.Words.{Ptr, block_ptr, null_ptr, in_a_block, Tuple, nothing, only, calls_at, Lasts, lasts, triple_of, framed, Stays}
+use Rattle.intmap_c.proofs.Words.{stay_dropped, walk_of, says, ends_at, box_owns, handle_tells, Goes-blank, proved_at}
 use Rattle.std.proofs.BoxSteps.Form.{Bx, B, word}
 use Rattle.std.proofs.BoxSteps.Steps.{box_out, box_in}
 use Rattle.std.specs.contracts.boxed.Box.into_raw_with_allocator as split_up
