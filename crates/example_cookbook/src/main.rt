@@ -1,4 +1,4 @@
-//! Small tasks with maps and sets: a function for each in a module, and here what it gives.
+//! Small tasks with maps: a function for each in a module, and here what it gives.
 //!
 //! Run it by `rt run` in this folder. It reads nothing.
 #![tactic(auto)]
@@ -8,22 +8,16 @@ use anyhow::Result;
 use cells::Cell;
 use failing_alloc::FailingAlloc;
 use intmap::IntMap;
-use intmap_set::IntSet;
 use std::alloc::Global;
 
 mod fixed;
 mod group;
-mod join;
-mod json;
 mod keep;
 
 fn main(rt: HostRuntime) -> Result<()> {
     group_into_lists(&rt)?;
-    join_two_maps(&rt)?;
     use_cells_as_keys(&rt)?;
     keep_what_fails(&rt, &FailingAlloc::new(rt.alloc(), 0))?;
-    unite_two_sets(&rt)?;
-    println!(rt; "{}", json::with_member(rt.alloc(), "{\"21\": [1, 2]}", 7)?)?;
     fill_a_fixed_map(&rt)
 }
 
@@ -32,16 +26,6 @@ fn group_into_lists(rt: &HostRuntime) -> Result<()> {
     let orders = [(3, 501), (8, 502), (3, 503)];
     for (customer, orders) in &group::orders_by_customer(rt.alloc(), &orders)? {
         println!(rt; "customer {customer}: {orders:?}")?;
-    }
-    Ok(())
-}
-
-/// Prints the articles that have a price and a stock.
-fn join_two_maps(rt: &HostRuntime) -> Result<()> {
-    let prices: IntMap<u64, u64> = IntMap::from_array(rt.alloc(), [(1, 250), (2, 40), (5, 999)])?;
-    let stock: IntMap<u64, u64> = IntMap::from_array(rt.alloc(), [(2, 12), (3, 7), (5, 1)])?;
-    for (article, price, count) in &join::price_and_stock(rt.alloc(), &prices, &stock)? {
-        println!(rt; "article {article}: price {price}, {count} in stock")?;
     }
     Ok(())
 }
@@ -69,14 +53,6 @@ fn keep_what_fails(rt: &HostRuntime, memory: &FailingAlloc<Global>) -> Result<()
             Err(job) => println!(rt; "job {job} was returned")?,
         }
     }
-    Ok(())
-}
-
-/// Prints the union of two sets.
-fn unite_two_sets(rt: &HostRuntime) -> Result<()> {
-    let left: IntSet<u64> = IntSet::from_iter(rt.alloc(), [1, 2].iter().copied())?;
-    let right: IntSet<u64> = IntSet::from_iter(rt.alloc(), [2, 3].iter().copied())?;
-    println!(rt; "{:?}", left.to_union(rt.alloc(), &right)?)?;
     Ok(())
 }
 

@@ -8,7 +8,7 @@ ghost use Rattle.std.specs.Prelude.{◌≡◌, ℕ, IfOk, IfSome};
 ghost use Rattle.intmap_sparse.specs.Vectors.{value_at};
 ghost use Rattle.example_dot.specs.Lists.{last_value, dot};
 
-use anyhow::{Context, Result};
+use anyhow::{Context, Result, bail, ensure};
 use intmap::Cause;
 use intmap_sparse::SparseVec;
 use std::alloc::Global;
@@ -40,23 +40,32 @@ fn dot_product(
     Ok(left.dot(&right))
 }
 
+/// The place and the value of a line such as `5 -3`.
+fn pair_of(line: &str) -> Option<(u64, i64)> {
+    let (place, value) = line.split_once(' ')?;
+    Some((place.parse().ok()?, value.parse().ok()?))
+}
+
 fn main(rt: HostRuntime) -> Result<()> {
     let mut left = Vec::new(rt.alloc());
     let mut right = Vec::new(rt.alloc());
     let mut is_left = true;
-    for line in rt.lines(rt.alloc()) {
+    for (i, line) in rt.lines(rt.alloc()).enumerate() {
         let line = line?;
-        let Some((place, value)) = line.as_str().split_once(' ') else {
+        if is_left && line.is_empty() {
             is_left = false;
             continue;
+        }
+        let Some(pair) = pair_of(line.as_str()) else {
+            bail!("line {}: not a place and a value", i + 1);
         };
-        let pair = (place.parse()?, value.parse()?);
         if is_left {
             left.push(pair)?;
         } else {
             right.push(pair)?;
         }
     }
+    ensure!(!is_left, "no blank line separates two vectors");
     let product = dot_product(rt.alloc(), left.as_slice(), right.as_slice())?;
     let product = product.context("too large")?;
     println!(rt; "{product}")?;
