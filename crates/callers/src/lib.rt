@@ -11,6 +11,7 @@ pub mod insertions;
 pub mod kit_map;
 pub mod moves;
 pub mod retained;
+pub mod served;
 pub mod session;
 pub mod sets;
 pub mod sums;

@@ -18,6 +18,9 @@ use intmap::{Cause, IntKey, IntMap, Refused};
 use std::alloc::Allocator;
 use std::mem;
 
+/// A list with room for at most twice so many commands gives no memory back.
+const FEW: usize = 1024;
+
 /// Runs the commands in order, and returns one answer per command, in the same order.
 ///
 /// From every plain list of pairs that stands for the map, the commands and answers lead to one
@@ -88,11 +91,17 @@ pub fn run<K: IntKey, V: Drop, J: Judge<K, V>, A: Allocator + Copy>(
     let Ok(mut answers) = Vec::with_capacity(alloc, commands.len()) else {
         return Err(commands);
     };
-    for command in commands {
+    // The next command is the last of the reversed list, which gives back memory behind its end.
+    let mut left = commands;
+    left.reverse();
+    while let Some(command) = left.pop() {
         let answer = apply(alloc, map, command, judge);
         let Ok(()) = answers.push(answer) else {
             unreachable!();
         };
+        if left.len() < (left.capacity() / 2).saturating_sub(FEW) {
+            left.shrink_to_fit();
+        }
     }
     Ok(answers)
 }

@@ -1,5 +1,5 @@
-use Rattle.std.proofs.Common.{[], sym, ap, length, refl, arith}
-use Rattle.std.proofs.IntoIterSteps.{All-taken}
+use Rattle.std.proofs.Common.{rules, ◌∙◌, ◌++◌, option_to_list, ◌≡◌, ◌∷◌, [], List, reverse, length, refl, arith, ap, sym}
+use Rattle.std.proofs.lemmas.List.{reverse-append, reverse-reverse}
 use Rattle.intmap_run.proofs.PlacementLemmas.{RunPlacesFew-run, RunLeavesFewSlots-run}
 use Rattle.intmap_run.proofs.RunLemmas.{Leads-start, Leads-step, Leads-end}
 use Rattle.intmap_run.proofs.runner.run.Goals as goal
@@ -8,9 +8,23 @@ pub loop-command-init : goal.loop-command-init
 loop-command-init g c = record {
   leads =
       Leads-start g.K.IntKey.number_of (g.J.Judge.sees c.args.judge.now) (g.J.Judge.keeps c.args.judge.now)
-      c.args.map.now _ _ _ c.into_iter-command-iterator.ensures.into_iter_gives.0 c.in-Ok.ensures.items;
+      c.args.map.now _ _ _ (ap reverse c.reverse.ensures.items ∙ reverse-reverse c.args.commands.items) c.in-Ok.ensures.items;
   map = c.len-len.ensures.valid;
-  room = omega (arith, c.in-Ok.ensures.len, c.in-Ok.ensures.exact, c.len.ensures, ap length c.into_iter-command-iterator.ensures.into_iter_gives.0);
+  room = omega (arith, c.in-Ok.ensures.len, c.in-Ok.ensures.exact, c.len.ensures, c.reverse.ensures.len);
+}
+
+-- the last item of a list is the first of the reversed list
+taken-last : {X : Type 0} → (old new left : List X) (x : X) → old ≡ new ++ x ∷ [] → left ≡ new → reverse old ≡ x ∷ reverse left
+taken-last old new left x whole same = rw (whole, same) (reverse-append new (x ∷ []))
+
+pub loop-command-preserved-then-len-saturating_sub : goal.loop-command-preserved-then-len-saturating_sub
+loop-command-preserved-then-len-saturating_sub g c = record {
+  leads =
+      Leads-step g.K.IntKey.number_of (g.J.Judge.sees c.args.judge.now) (g.J.Judge.keeps c.args.judge.now)
+      c.args.map.now c.loop-command.map c.apply-answer.new.map _ _ _ _ _ c.in-Some.command c.apply-answer.result
+      (taken-last _ _ _ _ (rw c.in-Some.is at c.pop.ensures.items) c.shrink_to_fit.ensures.items) c.in-Ok-push.ensures.items c.apply-answer.ensures.step c.loop-command.invariant.leads;
+  map = c.apply-answer.ensures.valid_after;
+  room = omega (arith, c.in-Ok-push.ensures.len, c.in-Ok-push.ensures.capacity, c.loop-command.invariant.room, c.pop.ensures.len, c.shrink_to_fit.ensures.len, ap (λ o. length (option_to_list o)) c.in-Some.is);
 }
 
 pub loop-command-preserved : goal.loop-command-preserved
@@ -18,16 +32,15 @@ loop-command-preserved g c = record {
   leads =
       Leads-step g.K.IntKey.number_of (g.J.Judge.sees c.args.judge.now) (g.J.Judge.keeps c.args.judge.now)
       c.args.map.now c.loop-command.map c.apply-answer.new.map _ _ _ _ _ c.in-Some.command c.apply-answer.result
-      c.in-Some.ensures.steps.0 c.in-Ok-push.ensures.items c.apply-answer.ensures.step c.loop-command.invariant.leads;
+      (taken-last _ _ _ _ (rw c.in-Some.is at c.pop.ensures.items) refl) c.in-Ok-push.ensures.items c.apply-answer.ensures.step c.loop-command.invariant.leads;
   map = c.apply-answer.ensures.valid_after;
-  room = omega (arith, c.in-Ok-push.ensures.len, c.in-Ok-push.ensures.capacity, c.loop-command.invariant.room, ap length c.in-Some.ensures.steps.0);
+  room = omega (arith, c.in-Ok-push.ensures.len, c.in-Ok-push.ensures.capacity, c.loop-command.invariant.room, c.pop.ensures.len, ap (λ o. length (option_to_list o)) c.in-Some.is);
 }
 
 pub returns-clause-ok : goal.returns-clause-ok
 returns-clause-ok g c =
-    let none = sym (All-taken c.loop-command.command-iterator [] (c.next.new.self, (c.loop-command.command-iterator, refl, c.in-None.ensures.steps))) in
     Leads-end g.K.IntKey.number_of (g.J.Judge.sees c.args.judge.now) (g.J.Judge.keeps c.args.judge.now)
-    c.args.map.now c.loop-command.map _ _ _ none c.loop-command.invariant.leads
+    c.args.map.now c.loop-command.map _ _ _ (ap reverse {x = c.loop-command.left.items} {y = []} (search (rules, c.pop.ensures.cases, c.in_default-pop.is))) c.loop-command.invariant.leads
 
 pub returns-clause-few_placements : goal.returns-clause-few_placements
 returns-clause-few_placements g c = λ s t run before after.

@@ -1,5 +1,4 @@
-use Rattle.std.proofs.Common.{◌+◌, ◌≤◌, length, vec_len, vec_capacity}
-use Rattle.std.specs.Vec.Iter.{into_iter_items}
+use Rattle.std.proofs.Common.{◌+◌, ◌≤◌, reverse, vec_len, vec_capacity}
 use Rattle.intmap.specs.Map.{IsMap}
 use Rattle.intmap_run.proofs.RunLemmas.{Leads}
 use Rattle.intmap_run.proofs.runner.run.Given as goal
@@ -9,7 +8,10 @@ abbrev pub invariant-loop-command : goal.invariant-loop-command
 invariant-loop-command g l = record {
   leads :
       Leads g.K.IntKey.number_of (g.J.Judge.sees l.judge) (g.J.Judge.keeps l.judge)
-      l.fn.map l.fn.commands.items l.answers.items l.map (into_iter_items l.command-iterator);
+      l.fn.map l.fn.commands.items l.answers.items l.map (reverse l.left.items);
   map : IsMap g.K.IntKey.number_of g.K.IntKey.is_valid l.map;
-  room : vec_len l.answers + length (into_iter_items l.command-iterator) ≤ vec_capacity l.answers;
+  room : vec_len l.answers + vec_len l.left ≤ vec_capacity l.answers;
 }
+
+abbrev pub decreases-loop-command : goal.decreases-loop-command
+decreases-loop-command g l = vec_len l.left
