@@ -13,8 +13,8 @@
 // is. An enum for each struct has the places of its fields: a map is a block of INT_MAP_SIZE bytes. Maps,
 // slots, pairs, fields and indices have the names of the sources. A name such as r12 is the optimiser's.
 //
-// Compilers: rattle-kit-13f logic dac8208d650f15bf; clang version 22.1.8
-// Sources: 80592530a698eef6fbc353cc7af1fcbd104ec07b3c48a02958103c2f0cbc3b74
+// Compilers: rattle-kit-13b logic dac8208d650f15bf; clang version 22.1.8
+// Sources: f724ebb6a91b5322f837292f07c06fafefaa30df59d06280bda6b06104b46a6b
 //
 // SPDX-License-Identifier: MIT
 //
@@ -480,9 +480,9 @@ static ALWAYS_INLINE struct word_word do_intmap_replace(char *handle, uint64_t k
 static ALWAYS_INLINE uint32_t do_intmap_clone(char *word, char *to);
 static ALWAYS_INLINE uint32_t do_intmap_with_capacity(char *handle, uint64_t capacity);
 static ALWAYS_INLINE struct word_word do_intmap_add_or_insert(char *handle, uint64_t key, uint64_t more);
+static ALWAYS_INLINE uint32_t do_intmap_find_or_insert(char *handle, uint64_t key, uint64_t value);
 static ALWAYS_INLINE struct word_word do_intmap_insert(char *handle, uint64_t key, uint64_t value);
-static ALWAYS_INLINE uint32_t do_intmap_insert_checked(char *handle, uint64_t key, uint64_t value);
-static ALWAYS_INLINE uint32_t do_intmap_reserve(char *handle, uint64_t additional);
+static ALWAYS_INLINE uint32_t do_intmap_reserve_slots(char *handle, uint64_t additional);
 static ALWAYS_INLINE uint32_t do_intmap_set_load_factor(char *handle, uint64_t thousandths);
 
 // core::mem::drop, in Rattle's library core
@@ -4280,6 +4280,129 @@ after_pairs_intmap_add_or_insert:;
     return made_word_word(value, r19);
 }
 
+// Finds the key, or inserts the pair if the key is absent, and returns whether the key was present.
+// intmap_find_or_insert, in crates/intmap_c/src/pairs.rt
+static ALWAYS_INLINE uint32_t do_intmap_find_or_insert(char *handle, uint64_t key, uint64_t value) {
+    uint64_t map_address, map_address_2, index, rest_len, place, next_place, len, r44, r8, bits, r20;
+    struct byte_address r15;
+    char *map, *slot, *slot_2, *rest, *r11, *slot_3, *slot_4, *r11_2;
+    bool r16;
+    uint32_t r4_0;
+    struct byte_word r53, r53_2, r86;
+    uint8_t has_pair;
+    uint64_t r12_room[4];
+    char *r12 = (char *)r12_room;
+    map_address = load64(handle);
+    store64(handle, 0);
+    if (map_address == 0) {
+        r15 = handle_make_first();
+        if (r15.first == 0) {
+            return 4294967295u;
+        }
+        map = r15.second;
+    } else {
+        map = (char *)(uintptr_t)map_address;
+    }
+    map_address_2 = (uint64_t)(uintptr_t)map;
+    index = load64(map + INT_MAP_MASK) & (key * MULTIPLIER);
+    r16 = index < load64(map + INT_MAP_LONE_LEN);
+    if (r16) {
+        slot = load_address(map + INT_MAP_LONE) + (index * LONE_SIZE);
+        if (load8(slot + LONE_HAS_PAIR) == 1) {
+            if (load64(slot + LONE_KEY) == key) {
+                r4_0 = 1;
+                goto after_pairs_find_or_insert;
+            }
+        }
+    } else {
+        slot_2 = load_address(map + INT_MAP_SHARED) + (index * SLOT_SIZE);
+        if (load8(slot_2 + SLOT_HAS_FIRST) == 1) {
+            if (load64(slot_2 + SLOT_KEY) == key) {
+                r4_0 = 1;
+                goto after_pairs_find_or_insert;
+            }
+            rest = load_address(slot_2 + SLOT_REST);
+            rest_len = load64(slot_2 + SLOT_REST_LEN);
+            if (rest_len != 0) {
+                place = 0;
+                for (;;) {
+                    if (load64((rest + (place << 4)) + PAIR_KEY) == key) {
+                        r4_0 = 1;
+                        goto after_pairs_find_or_insert;
+                    }
+                    next_place = place + 1;
+                    if (next_place == rest_len) {
+                        break;
+                    }
+                    place = next_place;
+                }
+            }
+        }
+    }
+    memset(r12, 0, 32);
+    len = load64(map + INT_MAP_LEN);
+    if (len == UINT64_C(18446744073709551615)) {
+        r4_0 = 4294967294u;
+    } else {
+        r44 = len + 1;
+        if (!(((r44 & 4) != 0) & (load64(map + INT_MAP_THRESHOLD) <= len))) {
+            if (r16) {
+                r8 = index * LONE_SIZE;
+                if ((load8((load_address(map + INT_MAP_LONE) + r8) + LONE_HAS_PAIR) & 1) == 0) {
+                    r11 = load_address(map + INT_MAP_WORDS) + ((index >> 3) & UINT64_C(2305843009213693944));
+                    store64(r11, load64(r11) | ((uint64_t)1 << (index & 63)));
+                    slot_3 = load_address(map + INT_MAP_LONE) + r8;
+                    has_pair = load8(slot_3 + LONE_HAS_PAIR);
+                    store64(slot_3 + LONE_HAS_PAIR, 1);
+                    store64(slot_3 + LONE_KEY, key);
+                    store64(slot_3 + LONE_VALUE, value);
+                    if (has_pair == 0) {
+                        goto after_IntMap_add;
+                    }
+                    abort();
+                }
+                r53 = slots_push_second(map, index, key, value);
+                r53_2 = r53;
+            } else {
+                slot_4 = load_address(map + INT_MAP_SHARED) + (index * SLOT_SIZE);
+                r11_2 = load_address(map + INT_MAP_WORDS) + ((index >> 3) & UINT64_C(2305843009213693944));
+                bits = load64(r11_2);
+                r20 = (uint64_t)1 << (index & 63);
+                store64(r11_2, bits | r20);
+                if ((bits & r20) == 0) {
+                    store64(slot_4 + SLOT_HAS_FIRST, 1);
+                    store64(slot_4 + SLOT_KEY, key);
+                    store64(slot_4 + SLOT_VALUE, value);
+                    goto after_IntMap_add;
+                }
+                r86 = slot_push(slot_4, key, value);
+                r53_2 = r86;
+            }
+            if (r53_2.first != 0) {
+                goto x13;
+            }
+        after_IntMap_add:;
+            store64(map + INT_MAP_LEN, r44);
+            r4_0 = 0;
+            goto after_pairs_find_or_insert;
+        }
+        intmap_add_growing(r12, map, r44, index, key, value);
+        if (load8(r12) == 0) {
+            r4_0 = 0;
+            goto after_pairs_find_or_insert;
+        }
+        if (load8(r12 + 16) != 0) {
+            r4_0 = 4294967294u;
+            goto after_pairs_find_or_insert;
+        }
+    x13:;
+        r4_0 = 4294967295u;
+    }
+after_pairs_find_or_insert:;
+    store64(handle, map_address_2);
+    return r4_0;
+}
+
 // Inserts the pair of the key and the value at the end of its slot, and returns the value before.
 // intmap_insert, in crates/intmap_c/src/pairs.rt
 static ALWAYS_INLINE struct word_word do_intmap_insert(char *handle, uint64_t key, uint64_t value) {
@@ -4459,133 +4582,9 @@ after_pairs_intmap_insert:;
     return made_word_word(value_2, r19);
 }
 
-// Inserts the pair if the key is absent, and returns whether it was present.
-// intmap_insert_checked, in crates/intmap_c/src/pairs.rt
-static ALWAYS_INLINE uint32_t do_intmap_insert_checked(char *handle, uint64_t key, uint64_t value) {
-    uint64_t map_address, map_address_2, index, rest_len, place, next_place, len, r44, r8, bits, r20;
-    struct byte_address r15;
-    char *map, *slot, *slot_2, *rest, *r11, *slot_3, *slot_4, *r11_2;
-    bool r16;
-    uint32_t r4_0;
-    struct byte_word r53, r53_2, r86;
-    uint8_t has_pair;
-    uint64_t r12_room[4];
-    char *r12 = (char *)r12_room;
-    map_address = load64(handle);
-    store64(handle, 0);
-    if (map_address == 0) {
-        r15 = handle_make_first();
-        if (r15.first == 0) {
-            return 4294967295u;
-        }
-        map = r15.second;
-    } else {
-        map = (char *)(uintptr_t)map_address;
-    }
-    map_address_2 = (uint64_t)(uintptr_t)map;
-    index = load64(map + INT_MAP_MASK) & (key * MULTIPLIER);
-    r16 = index < load64(map + INT_MAP_LONE_LEN);
-    if (r16) {
-        slot = load_address(map + INT_MAP_LONE) + (index * LONE_SIZE);
-        if (load8(slot + LONE_HAS_PAIR) == 1) {
-            if (load64(slot + LONE_KEY) == key) {
-                r4_0 = 1;
-                goto after_pairs_insert_checked;
-            }
-        }
-    } else {
-        slot_2 = load_address(map + INT_MAP_SHARED) + (index * SLOT_SIZE);
-        if (load8(slot_2 + SLOT_HAS_FIRST) == 1) {
-            if (load64(slot_2 + SLOT_KEY) == key) {
-                r4_0 = 1;
-                goto after_pairs_insert_checked;
-            }
-            rest = load_address(slot_2 + SLOT_REST);
-            rest_len = load64(slot_2 + SLOT_REST_LEN);
-            if (rest_len != 0) {
-                place = 0;
-                for (;;) {
-                    if (load64((rest + (place << 4)) + PAIR_KEY) == key) {
-                        r4_0 = 1;
-                        goto after_pairs_insert_checked;
-                    }
-                    next_place = place + 1;
-                    if (next_place == rest_len) {
-                        break;
-                    }
-                    place = next_place;
-                }
-            }
-        }
-    }
-    memset(r12, 0, 32);
-    len = load64(map + INT_MAP_LEN);
-    if (len == UINT64_C(18446744073709551615)) {
-        r4_0 = 4294967294u;
-    } else {
-        r44 = len + 1;
-        if (!(((r44 & 4) != 0) & (load64(map + INT_MAP_THRESHOLD) <= len))) {
-            if (r16) {
-                r8 = index * LONE_SIZE;
-                if ((load8((load_address(map + INT_MAP_LONE) + r8) + LONE_HAS_PAIR) & 1) == 0) {
-                    r11 = load_address(map + INT_MAP_WORDS) + ((index >> 3) & UINT64_C(2305843009213693944));
-                    store64(r11, load64(r11) | ((uint64_t)1 << (index & 63)));
-                    slot_3 = load_address(map + INT_MAP_LONE) + r8;
-                    has_pair = load8(slot_3 + LONE_HAS_PAIR);
-                    store64(slot_3 + LONE_HAS_PAIR, 1);
-                    store64(slot_3 + LONE_KEY, key);
-                    store64(slot_3 + LONE_VALUE, value);
-                    if (has_pair == 0) {
-                        goto after_IntMap_add;
-                    }
-                    abort();
-                }
-                r53 = slots_push_second(map, index, key, value);
-                r53_2 = r53;
-            } else {
-                slot_4 = load_address(map + INT_MAP_SHARED) + (index * SLOT_SIZE);
-                r11_2 = load_address(map + INT_MAP_WORDS) + ((index >> 3) & UINT64_C(2305843009213693944));
-                bits = load64(r11_2);
-                r20 = (uint64_t)1 << (index & 63);
-                store64(r11_2, bits | r20);
-                if ((bits & r20) == 0) {
-                    store64(slot_4 + SLOT_HAS_FIRST, 1);
-                    store64(slot_4 + SLOT_KEY, key);
-                    store64(slot_4 + SLOT_VALUE, value);
-                    goto after_IntMap_add;
-                }
-                r86 = slot_push(slot_4, key, value);
-                r53_2 = r86;
-            }
-            if (r53_2.first != 0) {
-                goto x13;
-            }
-        after_IntMap_add:;
-            store64(map + INT_MAP_LEN, r44);
-            r4_0 = 0;
-            goto after_pairs_insert_checked;
-        }
-        intmap_add_growing(r12, map, r44, index, key, value);
-        if (load8(r12) == 0) {
-            r4_0 = 0;
-            goto after_pairs_insert_checked;
-        }
-        if (load8(r12 + 16) != 0) {
-            r4_0 = 4294967294u;
-            goto after_pairs_insert_checked;
-        }
-    x13:;
-        r4_0 = 4294967295u;
-    }
-after_pairs_insert_checked:;
-    store64(handle, map_address_2);
-    return r4_0;
-}
-
-// Makes the number of slots at least the least power of two that is no less than the number of pairs plus
-// `additional`.
-// intmap_reserve, in crates/intmap_c/src/figures.rt
-static ALWAYS_INLINE uint32_t do_intmap_reserve(char *handle, uint64_t additional) {
+// Makes slots for the pairs and `additional` more.
+// intmap_reserve_slots, in crates/intmap_c/src/figures.rt
+static ALWAYS_INLINE uint32_t do_intmap_reserve_slots(char *handle, uint64_t additional) {
     uint64_t map_address, map_address_2, len, r40, r2_0, r13, r13_2, a0_a1;
     struct byte_address r15;
     char *map;
@@ -4621,19 +4620,19 @@ static ALWAYS_INLINE uint32_t do_intmap_reserve(char *handle, uint64_t additiona
             r18 = slots_grow(map, a0_a1, false);
             if ((r18 & 1) != 0) {
                 r4_0 = 4294967295u;
-                goto after_figures_reserve;
+                goto after_figures_reserve_slots;
             }
         }
         r17 = u128_less_one(u128_mul(u128_add(u128_of(load64(map + INT_MAP_FACTOR)), u128_of(1u)), u128_of(a0_a1)));
         store64(map + INT_MAP_THRESHOLD, u128_above(r17, u128_two(UINT64_C(999), UINT64_C(18446744073709551615))) ? UINT64_C(18446744073709551615) : u128_low(u128_div(r17, u128_of(1000u))));
         r4_0 = 0;
     }
-after_figures_reserve:;
+after_figures_reserve_slots:;
     store64(handle, map_address_2);
     return r4_0;
 }
 
-// Sets the load factor in thousandths, and makes the number of slots the least doubling that meets it.
+// Sets the load factor in thousandths, and doubles the slots until their number meets it.
 // intmap_set_load_factor, in crates/intmap_c/src/figures.rt
 static ALWAYS_INLINE uint32_t do_intmap_set_load_factor(char *handle, uint64_t thousandths) {
     uint64_t map_address, map_address_2, r13, r3_09, r31;
@@ -4745,9 +4744,9 @@ ALIGNED intmap_found_value intmap_insert(intmap *map, uint64_t key, uint64_t val
     return found_value(do_intmap_insert(BYTES(map), key, value));
 }
 
-ALIGNED intmap_status intmap_insert_checked(intmap *map, uint64_t key,
+ALIGNED intmap_status intmap_find_or_insert(intmap *map, uint64_t key,
                                             uint64_t value) INTMAP_CALL {
-    return STATUS(do_intmap_insert_checked(BYTES(map), key, value));
+    return STATUS(do_intmap_find_or_insert(BYTES(map), key, value));
 }
 
 ALIGNED intmap_found_value intmap_replace(intmap *map, uint64_t key, uint64_t value) INTMAP_CALL {
@@ -4794,8 +4793,8 @@ size_t intmap_filled_slots(const intmap *map) INTMAP_CALL {
     return do_intmap_filled_slots(BYTES(map));
 }
 
-intmap_status intmap_reserve(intmap *map, size_t additional) INTMAP_CALL {
-    return STATUS(do_intmap_reserve(BYTES(map), additional));
+intmap_status intmap_reserve_slots(intmap *map, size_t additional) INTMAP_CALL {
+    return STATUS(do_intmap_reserve_slots(BYTES(map), additional));
 }
 
 intmap_status intmap_set_load_factor(intmap *map, size_t thousandths) INTMAP_CALL {
