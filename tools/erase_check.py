@@ -5,8 +5,8 @@ its own, and closes each item with a brace at the item's depth. Both ways must l
 
 - Each token of an erased file is a token of its source, in the same order. Its comments are lines of the
   source, in the same order.
-- No token is left out but those of contracts, of ghosts, of the bounds of types, and of the items and the lines named here. An `impl Drop`
-  that is left out drops fields alone.
+- No token is left out but those of contracts, of ghosts, of the bounds of types, and of the items and the lines named
+  here. An `impl Drop` that is left out drops fields alone.
 - What is private to a crate of Rattle is private to a module.
 - Each source is erased, but for those named here, and no other file claims to be.
 - The public functions that require something of their caller are those that the crate's README names.

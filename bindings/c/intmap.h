@@ -63,17 +63,18 @@
 // KEYS AND VALUES. Each 64-bit number is a key, and each is a value. intmap_from_pointer makes a
 // number of an address. No call follows the address, so the caller frees what it leads to.
 //
-// COST. A call on one key takes time in the number of pairs in the key's slot. That number is about
-// one, unless many keys share their low bits. Then shift those bits away, or number the keys anew:
-// in place of multiples of 4096 take key >> 12; in place of addresses that malloc returned take
-// address >> 4; in place of row << 32 | column take row * columns + column. If strangers choose the
-// keys, they can make each call linear. Then scramble each key by intmap_scramble. If keys share
-// slots, intmap_filled_slots is far below intmap_len.
+// COST. "Time in" a number is time proportional to that number. A call on one key takes time in the
+// pairs of the key's slot, which has about one, unless many keys share their low bits. Then shift
+// those bits away, or number the keys anew: in place of multiples of 4096 take key >> 12; in place
+// of addresses that malloc returned take address >> 4; in place of row << 32 | column take
+// row * columns + column. If strangers choose the keys, they can make each call linear. Then
+// scramble each key by intmap_scramble. If keys share slots, intmap_filled_slots is far below
+// intmap_len.
 //
-// An insertion that adds slots, or makes them larger, moves all pairs. Over all insertions that
-// takes constant time for each pair, and for each slot that was made in advance. If intmap_reserve,
-// intmap_reserve_slots or intmap_set_load_factor adds slots, it takes time in the pairs and slots,
-// and otherwise constant time.
+// An insertion that adds slots, or makes them larger, moves all pairs. Spread over all insertions,
+// this takes constant time for each pair, and for each slot that was made in advance. If
+// intmap_reserve, intmap_reserve_slots or intmap_set_load_factor adds slots, it takes time in the
+// pairs and slots, and otherwise constant time.
 //
 // MEMORY. Only a call that may return INTMAP_NO_MEMORY requests memory, from malloc or realloc. A
 // slot takes 48 bytes, so a map that has grown takes some 50 to 120 a pair, and up to 140 if many
@@ -275,9 +276,9 @@ INTMAP_NONNULL bool intmap_contains_key(const intmap *map, uint64_t key) INTMAP_
 
 // Inserts the pair, or gives a present key this value. It returns INTMAP_PRESENT with the value
 // before, or INTMAP_ABSENT if the key was absent. The pair is then the last of its slot. If the key
-// was present, the pair that was the last takes its old place. If the pairs exceed the load factor
-// with a new key, the slots are doubled until they don't. That is checked if the pairs, with the
-// new one, are 4 to 7, 12 to 15, 20 to 23, and so on.
+// was present, the pair that was the last takes its old place. If the pairs, with a new one, exceed
+// the load factor, the slots are doubled until they don't. The load is checked only if these pairs
+// are 4 to 7, 12 to 15, 20 to 23, and so on.
 //
 // For a present key it never fails, and requests no memory. For an absent key it returns
 // INTMAP_TOO_LARGE exactly if there are 2^64 - 1 pairs or growth needs more than 2^63 slots, and
