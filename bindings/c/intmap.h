@@ -1,5 +1,5 @@
 // SPDX-License-Identifier: MIT
-// Copyright (c) 2026 the intmap authors
+// Copyright (c) 2026 the Dovaszing maintainers
 //
 // A hash map from 64-bit keys to 64-bit values, version 1.0.0. Each function that is declared here
 // has a contract in crates/intmap_c of the repository, and its code is proved to keep it. Tests
@@ -102,16 +102,17 @@
 //   thread, in a signal handler, in malloc, or after a jump out of a call.
 //
 // It doesn't notice a copy as long as its map lives, calls that might meet but don't, two first
-// calls on one word, a wrong address of a cursor or an array, or an address of intmap_at that is
-// used too late. AddressSanitizer notices such an address if its memory was freed meanwhile. A call
-// on a word that intmap_free has left is no mistake: it is an empty map.
+// calls on one word, a wrong address of a cursor or an array, a function handed to intmap_retain
+// that changes the map, or an address of intmap_at that is used too late. AddressSanitizer notices
+// such an address if its memory was freed meanwhile. A call on a word that intmap_free has left is
+// no mistake: it is an empty map.
 //
 // Compile each file that has maps with INTMAP_DEBUG, by gcc or clang. No installed library notices
-// anything, so compile intmap_debug.c, which includes intmap.c, beside them. The message names the
-// call. A debugger shows where the program made it. Each map takes 24 bytes more, in blocks of
-// 1,536 bytes and more that are never given back. The call that makes a map may fail for want of
-// them. Otherwise calls answer as they do without INTMAP_DEBUG. A tool that looks for leaks doesn't
-// report a map that is lost.
+// anything, or has the names intmap_debug_.. that the calls then get. So compile intmap_debug.c,
+// which includes intmap.c, beside your files. The message names the call. A debugger shows where
+// the program made it. Each map takes 24 bytes more, in blocks of 1,536 bytes and more that are
+// never given back. The call that makes a map may fail for want of them. Otherwise calls answer as
+// they do without INTMAP_DEBUG. A tool that looks for leaks doesn't report a map that is lost.
 #ifndef INTMAP_H
 #define INTMAP_H
 
@@ -242,18 +243,18 @@ typedef struct intmap_found_pair {
 // the third.
 uint32_t intmap_version(void) INTMAP_CALL;
 
-// Makes an empty map, with a load factor of 909 thousandths. Its number of slots is the least power
-// of two that is at least `capacity`, and at least 2. To insert n pairs without growth, ask for
-// n + n / 10 + 1 slots. If the word had a map, that map is freed. The call returns INTMAP_OK;
-// INTMAP_TOO_LARGE exactly if `capacity` is above 2^63; or INTMAP_NO_MEMORY. If it fails, it leaves
-// the word as it was.
+// Makes an empty map, with a load factor of 909 thousandths, in a word that is INTMAP_INIT or has a
+// map, which is freed. The number of slots is the least power of two that is at least `capacity`,
+// and at least 2. To insert n pairs without growth, ask for n + n / 10 + 1 slots. The call returns
+// INTMAP_OK; INTMAP_TOO_LARGE exactly if `capacity` is above 2^63; or INTMAP_NO_MEMORY. If it
+// fails, it leaves the word as it was.
 INTMAP_NONNULL INTMAP_MUST_USE intmap_status intmap_with_capacity(intmap *map, size_t capacity)
     INTMAP_CALL;
 
-// Copies the map into `to`, which is another word. The copy has the same pairs in the same order,
-// as many slots and the same load factor. The copy of INTMAP_INIT is INTMAP_INIT. If `to` had a
-// map, that map is freed. The call returns INTMAP_OK; or INTMAP_NO_MEMORY, and then leaves `to` as
-// it was. It takes time in the pairs and slots.
+// Copies the map into `to`, another word that is INTMAP_INIT or has a map, which is freed. The copy
+// has the same pairs in the same order, as many slots and the same load factor. The copy of
+// INTMAP_INIT is INTMAP_INIT. The call returns INTMAP_OK; or INTMAP_NO_MEMORY, and then leaves `to`
+// as it was. It takes time in the pairs and slots.
 INTMAP_NONNULL INTMAP_MUST_USE intmap_status intmap_clone(const intmap *map, intmap *to)
     INTMAP_CALL;
 
@@ -315,8 +316,8 @@ INTMAP_NONNULL INTMAP_MUST_USE intmap_found_value intmap_add_or_insert(intmap *m
 #if !defined(__BYTE_ORDER__) || __BYTE_ORDER__ != __ORDER_BIG_ENDIAN__
 #define INTMAP_HAS_AT 1
 
-// Writes the address that intmap_at returns to `*at`, which must have some address, or NULL,
-// before. A library exports this call, and not intmap_at.
+// Writes the address that intmap_at returns to `*at`, which must be initialised, as by NULL. A
+// library exports this call, and not intmap_at.
 INTMAP_NONNULL void intmap_place(intmap *map, uint64_t key, uint64_t **at) INTMAP_CALL;
 
 // Returns the address of the value of a present key, or NULL if the key is absent. The value may be
@@ -367,7 +368,7 @@ INTMAP_NONNULL void intmap_clear(intmap *map) INTMAP_CALL;
 // Returns the number of pairs. Like the next two calls it takes constant time.
 INTMAP_NONNULL size_t intmap_len(const intmap *map) INTMAP_CALL;
 
-// Returns the number of slots, a power of two from 2 to 2^63.
+// Returns the number of slots, a power of two from 2 to 2^63. It isn't how many pairs fit.
 INTMAP_NONNULL size_t intmap_capacity(const intmap *map) INTMAP_CALL;
 
 // Returns the load factor in thousandths: the limit that is set, not how full the map is.
@@ -397,9 +398,11 @@ INTMAP_NONNULL INTMAP_MUST_USE intmap_status intmap_set_load_factor(intmap *map,
 // with these pairs. Insertions of as many new keys then add no slots, as long as the load factor
 // stays. But the insertion of a key whose slot holds a pair may request memory, and fail.
 //
-// Insertions of ids that follow one another can't fail then, if these and the keys of the map lie
-// within as many numbers in a row as there are slots. Each of them has a slot of its own. The law
-// keys_in_a_row_have_room of the sources proves that.
+// Insertions of ids that follow one another can't fail then: as long as all keys of the map lie
+// within as many numbers in a row as there are slots, each has a slot of its own. A law of the
+// sources, keys_in_a_row_have_room, proves it of a map with enough slots, and tests show that this
+// call makes enough. These slots take 48 bytes, so such ids take twice the memory that they take in
+// a map that grows.
 //
 // A load factor above 10^16 counts as 10^16. The call returns INTMAP_OK; INTMAP_TOO_LARGE exactly
 // if that takes more than 2^63 slots, or there would be more than 2^64 - 1 pairs; or
@@ -434,7 +437,8 @@ INTMAP_NONNULL INTMAP_MUST_USE static inline intmap_status intmap_reserve(intmap
 // Any cursor will do, whatever has happened to the map since. But intmap_remove moves the last pair
 // of a slot to another place of it, and so does intmap_insert with a present key. A growing map
 // moves pairs to other slots. A walk that goes on after that may miss pairs, or show some again. To
-// remove pairs along a walk and miss none, call intmap_retain or intmap_cut.
+// change values along a walk, call intmap_replace. To remove pairs along a walk and miss none, call
+// intmap_retain or intmap_cut.
 INTMAP_NONNULL intmap_found_pair intmap_step(const intmap *map, intmap_cursor *at) INTMAP_CALL;
 
 // Copies pairs of the walk from the cursor on, at most `room`, and moves the cursor behind them. It
@@ -513,7 +517,7 @@ INTMAP_NONNULL INTMAP_MUST_USE static inline intmap_status intmap_shrink_to_fit(
 // load factors. It takes a lookup for each pair, and time in a 64th of the slots.
 INTMAP_NONNULL bool intmap_equal(const intmap *map, const intmap *other) INTMAP_CALL;
 
-// Returns an address, which may be null, as a key or a value.
+// Returns an address, which may be null, as a value. As a key it has equal low bits: see COST.
 static inline uint64_t intmap_from_pointer(const void *pointer) INTMAP_CALL {
     return (uint64_t)(uintptr_t)pointer;
 }

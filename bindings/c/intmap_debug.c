@@ -1,5 +1,5 @@
 // SPDX-License-Identifier: MIT
-// Copyright (c) 2026 the intmap authors
+// Copyright (c) 2026 the Dovaszing maintainers
 //
 // The calls of intmap.h for a program with -DINTMAP_DEBUG, in place of intmap.c, which it includes:
 //

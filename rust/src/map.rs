@@ -12,9 +12,10 @@ mod walk;
 
 /// A hash map from integer keys to values.
 ///
-/// The pairs lie in slots, whose number, the capacity, is a power of two. The key alone decides the
-/// slot: two keys share one exactly if their numbers are equal modulo the capacity. Iteration goes
-/// through the slots in turn, and through each from front to back. So order and capacity depend on
+/// The pairs lie in slots, whose number, the capacity, is a power of two. A key's slot is its number
+/// times an odd constant, modulo the capacity: two keys share one exactly if their numbers are equal
+/// modulo the capacity. Iteration goes through the slots in turn, and through each from front to
+/// back: with 8 slots the keys 0 to 7 come as 0, 5, 2, 7, 4, 1, 6, 3. So order and capacity depend on
 /// the calls alone: there is no random seed, and the same calls give the same order on every run.
 /// Only [`shrink_to`](IntMap::shrink_to) and [`shrink_to_fit`](IntMap::shrink_to_fit) make the
 /// capacity smaller, and `clone_from`, which takes that of its source.
