@@ -156,7 +156,10 @@ class Reference:
 
     def page(self, types, functions):
         names = {it.name: it for it in self.sources.calls if not it.owner}
-        functions = sorted(names, key=DECLARED.findall(self.files[HEADER]).index) if functions is ALL else functions
+        if functions is ALL:
+            # what the header lacks comes last: tools/header names it
+            declared = DECLARED.findall(self.files[HEADER])
+            functions = sorted(names, key=lambda it: declared.index(it) if it in declared else len(declared))
         text = "".join(map(self.type, types)) + ("## Functions\n\n" if functions else "")
         return text + "".join(self.call(names[it]) for it in functions)
 

@@ -431,8 +431,8 @@ enum {
     VEC_ROOM = 16,
     VEC_SIZE = 24
 };
-// A place of a walk: before the pair at this place of this slot or, if there is none, before the pairs of the slots
-// behind it.
+// A position in a walk: before the pair at this place of this slot or, if the slot has no such pair, before the pairs
+// of the slots behind it.
 // Cursor, in crates/intmap_table/src/table/walk.rt
 enum {
     CURSOR_SLOT = 0,

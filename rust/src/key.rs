@@ -48,7 +48,7 @@ use core::num::{
 /// They may all share a slot. [`int_key!`](crate::int_key) scrambles the numbers of keys by a secret,
 /// and says what this is worth.
 ///
-/// # Slots
+/// # Numbers and slots
 ///
 pub use crate::proved::map::IntKey;
 

@@ -17,7 +17,7 @@
 //! You want | Take
 //! ---|---
 //! the fastest map for random keys, or little memory | std's or hashbrown's with a hasher that multiplies: most calls are 2 to 4 times as fast, in half the memory
-//! ids that count up, and come and go | this: a look-up takes 0.6 of that map's time, a removal 0.3 to 0.5, a pair 27 to 54 bytes
+//! ids that count up, and come and go | this: a look-up takes 0.6 of the time of the maps in the row above, a removal 0.3 to 0.5, a pair 27 to 54 bytes
 //! a program that goes on when memory fails | this: it returns the failure and the value, and the map is as it was. std's has `try_reserve` alone
 //! the same order on every run and machine | this, or `indexmap` (in order of insertion), or `BTreeMap` (sorted)
 //! look-ups, removals and growth that are proved | this
@@ -92,7 +92,9 @@
 //! ```
 //!
 //! By `?` a [`Refused`] becomes a `Box<dyn Error>` only if the value is `Debug` and borrows nothing.
-//! For other values, and for a type of errors of yours, write `.map_err(Cause::from)?`.
+//! For other values write `.map_err(Cause::from)?`. A type of errors of yours needs no such call if it
+//! has `From<Cause>`, and `From<Refused<V>>` for every `V`, by the field `cause`. The `source` of a
+//! [`Refused`] is `None`: its text names the cause.
 //!
 //! # Panics
 //!

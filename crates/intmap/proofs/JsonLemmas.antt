@@ -1,4 +1,4 @@
--- Keys as texts, and the members of objects beside pairs.
+-- Keys as texts, and floats in the values of members.
 use Rattle.std.proofs.Common.{◌≡◌, ◌≢◌, ℕ, zero, suc, ◌^◌, ◌<◌, List, ◌∷◌, [], length, get_or, map, String, Global, refl, ◌||◌, ap, sym, ◌∙◌, subst, arith, Result, Ok, Err, IfSome, IfNone}
 use Rattle.std.specs.Result.{result_ok}
 use Rattle.std.specs.Fmt.{decimal}

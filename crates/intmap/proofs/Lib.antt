@@ -1,4 +1,4 @@
--- What callers cite of the lemmas below, under the names of this crate.
+-- The lemmas of `intmap_table` that callers cite, under the names of this crate, and its own.
 pub use Rattle.intmap_table.proofs.SlotNumberLemmas
 pub use Rattle.intmap_table.proofs.WalkLemmas
 pub use Rattle.intmap_table.proofs.LocationLemmas

@@ -92,7 +92,7 @@ IsNear-none C n F c cap fits near over top =
 pub not_needed : (needs : ℕ → Type 0) → ((D E : ℕ) → needs D → needs E → D ≡ E) → (D : ℕ) → needs D → D ≤ 2 ^ 63 → NeedsTooMuch needs → ⊥
 not_needed needs unique D need le much = let same = unique D much.0 need much.1 in let above = much.2 in omega (arith, same, le, above)
 
--- the bit of value four says whether growth is tested
+-- the bit of value four says whether the load is checked
 pub bit_and-four : (n : ℕ) → (bit_and n 4 == 4) ≡ is_due n
 bit_and-four n = let a : bit_and n 4 ≡ n / 4 % 2 * 4 = and_pow n 2 in grind (arith, nat_tests, a)
 
@@ -115,7 +115,7 @@ IsNext-unique C n F D E a b = elim (cases_Bool (is_due n)) [
   | inr not ↦ (let x = rw not at a in let y = rw not at b in x ∙ sym y)
 ]
 
--- what meets the load, if growth is tested, leaves the capacity
+-- what meets the load where it is checked leaves the capacity
 IsNext-if_met : (C n F : ℕ) → IsCapacity C → (is_due n ≡ true → MeetsLoad C n F) → IsNext C n F C
 IsNext-if_met C n F cap meets = elim (cases_Bool (is_due n)) [ inl due ↦ rw due (IsWanted-same C n F cap (meets due)) | inr not ↦ rw not refl ]
 
@@ -126,14 +126,14 @@ IsNext-met C n F cap meets = IsNext-if_met C n F cap (λ _. meets)
 pub IsNext-same : (C F n threshold : ℕ) → IsCapacity C → n < 2 ^ 64 → IsThreshold C F threshold → (is_due n && nat_lt threshold n) ≡ false → IsNext C n F C
 IsNext-same C F n threshold cap fits lim test = IsNext-if_met C n F cap (λ due. (lim n fits).0 (ltb-false threshold n (rw due at test)))
 
--- a number at which growth is tested is at most the last such number
+-- a number at which the load is checked is at most the last such number
 pub last_due-most : (m n : ℕ) → m ≤ n → is_due m ≡ true → m ≤ last_due n
 last_due-most m n le due = grind (arith, nat_tests, due, le)
 
 pub last_due-le : (n : ℕ) → last_due n ≤ n
 last_due-le n = grind arith
 
--- the load of the type: the last length up to n at which growth was tested meets it
+-- the field `load` of `IsMapWalk`: the last length up to n at which the load was checked meets it
 abbrev pub IsLoaded : ℕ → ℕ → ℕ → Type 0
 IsLoaded C n F = 4 ≤ n → MeetsLoad C (last_due n) F
 
@@ -147,7 +147,7 @@ IsLoaded-fewer C n m F some loaded le four =
     let less : last_due m ≤ last_due n = grind (arith, nat_tests, le, four) in
     MeetsLoad-fewer C (last_due n) (last_due m) F some (loaded (omega (arith, le, four))) less
 
--- one pair more, if growth isn't tested or the threshold isn't exceeded
+-- one pair more, if the load isn't checked or the threshold isn't exceeded
 pub IsLoaded-more : (C n F most : ℕ) → 0 < C → n + 1 < 2 ^ 64 → IsThreshold C F most → IsLoaded C n F → (is_due (n + 1) && nat_lt most (n + 1)) ≡ false → IsLoaded C (n + 1) F
 IsLoaded-more C n F most some fits lim loaded test four = elim (cases_Bool (is_due (n + 1))) [
   | inl due ↦ IsLoaded-from C (n + 1) F some ((lim (n + 1) fits).0 (ltb-false most (n + 1) (rw due at test))) four

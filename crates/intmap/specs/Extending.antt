@@ -33,13 +33,13 @@ module _ {K V : Type 0} (number : K → ℕ) (is_valid : K → Type 0) where
     pub factor : n.factor ≡ m.factor
     pub capacity : m.capacity ≤ n.capacity
 
-  -- the pairs were inserted in turn, and none failed, into an empty map with the given room
+  -- the pairs were inserted in turn, and none failed, into an empty map of at least `room` slots
   pub record IsCollected (room : ℕ) (ps : List (K × V)) (m : MapState K V) : Type 0 where
     pub slots : ℕ
     pub power : IsLeastPower (max room least_capacity) slots
     pub extended : IsExtended (empty_map slots) ps m
 
-  -- the pairs were inserted in turn into an empty map with the given room, up to one that is out of range
+  -- the pairs were inserted in turn into an empty map of at least `room` slots, up to one that is out of range
   pub record LeavesRange (room : ℕ) (ps : List (K × V)) : Type 0 where
     pub before : List (K × V)
     pub next : K × V
@@ -74,13 +74,13 @@ module _ {K V S : Type 0} (number : K → ℕ) (is_valid : K → Type 0) (steps 
     pub after : n ≡ after_search number before refused.key
     pub applied : refused.applied ≡ min (length pairs) (2 ^ 64 - 1)
 
-  -- an empty map with room for b slots was extended by all pairs that the iterator s gave
+  -- an empty map of at least b slots was extended by all pairs that the iterator s gave
   pub record Collects (s : S) (b : ℕ) (n : MapState K V) : Type 0 where
     pub slots : ℕ
     pub power : IsLeastPower (max b least_capacity) slots
     pub extends : Extends s (empty_map slots) n
 
-  -- a map with room for b slots could not be made, or the pairs that the iterator s gave, up to one that failed, were inserted into it
+  -- a map of at least b slots could not be made, or the pairs that the iterator s gave were inserted into it, up to one that failed
   abbrev pub MayRefuseToCollect : S → ℕ → Cause → Type 0
   MayRefuseToCollect s b cause =
       ((cause ≡ TooLarge) × (2 ^ 63 < b))
@@ -88,7 +88,7 @@ module _ {K V S : Type 0} (number : K → ℕ) (is_valid : K → Type 0) (steps 
       ⊎ ((slots : ℕ) × IsLeastPower (max b least_capacity) slots × (refused : RefusedPair K V) × (n : MapState K V)
       × ExtendsUpTo s (empty_map slots) refused n × (cause ≡ refused.cause))
 
--- the map has each number of the list with how often it occurs there, as insertions at the first places of these numbers leave it
+-- the keys of the map are the numbers of the list, each with how often it occurs there; the map is as insertions of them, in the order in which they first occur, leave it
 pub record IsTally (ns : List ℕ) (m : MapState ℕ ℕ) : Type 0 where
   pub made : IsMadeOf (λ n. n) (λ n. n < 2 ^ 64) (tally_of ns) m
   pub counts : (q : ℕ) → value_of (λ n. n) m.walk q ≡ value_of (λ n. n) (tally_of ns) q

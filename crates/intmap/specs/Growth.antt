@@ -2,11 +2,11 @@
 use Rattle.std.specs.Prelude.{◌≡◌, ℕ, ◌+◌, ◌-◌, ◌*◌, ◌/◌, ◌%◌, ◌^◌, ◌<◌, ◌≤◌, Bool, cond, ◌==◌, nat_le, List, map, find, unwrap_or, MatchBool}
 use Rattle.std.specs.List.{range_with_len}
 
--- whether growth is tested at n pairs: the whole part of n / 4 is odd
+-- whether the load is checked at n pairs: the whole part of n / 4 is odd
 abbrev pub is_due : ℕ → Bool
 is_due n = n / 4 % 2 == 1
 
--- the greatest number up to n at which growth is tested, for n of at least 4
+-- the greatest number up to n at which the load is checked, for n of at least 4
 abbrev pub last_due : ℕ → ℕ
 last_due n = cond (is_due n) n (n - (n % 4 + 1))
 
@@ -28,7 +28,7 @@ NeedsTooMuch needs = (D : ℕ) × needs D × (2 ^ 63 < D)
 abbrev pub IsThreshold : ℕ → ℕ → ℕ → Type 0
 IsThreshold C F threshold = (n : ℕ) → n < 2 ^ 64 → (n ≤ threshold → MeetsLoad C n F) × (threshold < n → F < n * 1000 / C)
 
--- D is the capacity after a new key made the length n: the wanted one if growth is tested at n, and otherwise C
+-- D is the capacity after a new key made the length n: the wanted one if the load is checked at n, and otherwise C
 abbrev pub IsNext : ℕ → ℕ → ℕ → ℕ → Type 0
 IsNext C n F D = MatchBool (is_due n) (IsWanted C n F D) (D ≡ C)
 

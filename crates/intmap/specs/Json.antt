@@ -58,17 +58,17 @@ ArePairsOf no_members (p ∷ ps) = ⊥
 ArePairsOf (member text d ms) [] = ⊥
 ArePairsOf (member text d ms) (p ∷ ps) = IsKeyText text p.0 × (view p.1 ≡ d) × ArePairsOf ms ps
 
--- the pairs were inserted in turn, and none failed, into an empty map with room for n pairs
+-- the pairs were inserted in turn, and none failed, into an empty map of at least n slots
 abbrev pub AreCollected : ℕ → List (ℕ × Value) → MapState ℕ Value → Type 0
 AreCollected n pairs made = IsCollected (λ key. key) (λ key. key < 2 ^ 64) n pairs made
 
--- the pairs of the members were inserted in turn into an empty map with room for all of them
+-- the pairs of the members were inserted in turn into an empty map of at least as many slots as members
 pub record AreRead (ms : Members) (made : MapState ℕ Value) : Type 0 where
   pub pairs : List (ℕ × Value)
   pub are : ArePairsOf ms pairs
   pub collected : AreCollected (members_len ms) pairs made
 
--- the pairs of the members were inserted in turn into an empty map with room for all of them, up to one that is out of range
+-- the pairs of the members were inserted in turn into an empty map of at least as many slots as members, up to one that is out of range
 pub record MembersLeaveRange (ms : Members) : Type 0 where
   pub pairs : List (ℕ × Value)
   pub next : ℕ × Value

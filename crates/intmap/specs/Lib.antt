@@ -1,4 +1,4 @@
--- The modules below, under the names of this crate.
+-- The modules of `intmap_table` that callers cite, under the names of this crate, and its own.
 pub use Rattle.intmap_table.specs.Keys
 pub use Rattle.intmap_table.specs.Classes
 pub use Rattle.intmap_table.specs.Bindings

@@ -53,7 +53,7 @@ module _ {K V : Type 0} where
 
 module _ {K V : Type 0} (number : K → ℕ) where
   -- W may be the walk of a map of C slots at the load factor F: it is its own walk, no key is present twice, each key is a
-  -- value of its type, length and load factor are below 2^64, and the last length at which growth was tested meets the load
+  -- value of its type, length and load factor are below 2^64, and the last length at which the load was checked meets the load
   pub record IsMapWalk (is_valid : K → Type 0) (W : List (K × V)) (C F : ℕ) : Type 0 where
     pub capacity : IsCapacity C
     pub own : walk_of number W C ≡ W

@@ -10,7 +10,7 @@ module _ {K V : Type 0} (number : K → ℕ) where
     pub all : All (λ p. (first ≤ number p.0) × (number p.0 < first + C)) L
 
   -- a table of C slots with the pairs L has room for the pairs ps at the load factor F: each key of ps shares its slot with no other
-  -- key of L or ps, the length with all of them is below 2^64, and the last length up to it at which growth is tested meets the load
+  -- key of L or ps, the length with all of them is below 2^64, and the last length up to it at which the load is checked meets the load
   pub record HasRoomFor (L : List (K × V)) (C F : ℕ) (ps : List (K × V)) : Type 0 where
     pub alone : All (λ p. class_size number (L ++ ps) C p.0 ≡ 1) ps
     pub count : length (L ++ ps) < 2 ^ 64

@@ -177,8 +177,8 @@ impl<'a, K: IntKey, V, A: Allocator + Copy> Entry<'a, K, V, A> {
         }
     }
 
-    /// If the key is present, calls the closure with a mutable reference to its value. It returns
-    /// the entry. If the key is present, the closure must be callable at its value.
+    /// If the key is present, calls the closure with a mutable reference to its value. The call
+    /// returns the entry. If the key is present, the closure must be callable at its value.
     ///
     /// ```text
     /// let mut map = IntMap::from_array(alloc, [(21, 5)])?;

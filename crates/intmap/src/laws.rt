@@ -130,8 +130,9 @@ pub fn new_keys_raise_sum<K: IntKey>()
         → sum (values_of n.walk) ≡ sum (values_of m.walk) + v }
 {}
 
-/// An insertion that leaves the value of a present key raises the sum of all values by the value of
-/// a new key. `inserted` of `insert_checked` is such an insertion.
+/// An insertion that leaves the value of a present key raises the sum of all values by its value if
+/// the key is new, and otherwise leaves the sum. `inserted` of `insert_checked` is such an
+/// insertion.
 pub fn checked_insertions_change_sum<K: IntKey>()
     ensures { (m n : MapState K ℕ) (k : K) (v : ℕ) → IsMap K.number_of K.is_valid m
         → IsInsertion K.number_of K.is_valid m k (unwrap_or (value_of K.number_of m.walk k) v) n
@@ -152,7 +153,8 @@ pub fn entries_change_sum<K: IntKey, A: Allocator + Copy>()
 {}
 
 /// Once a key has another value, or none, the sum of all values is higher by the new value and
-/// lower by the old one. So it is after every call of which `updates` is a clause.
+/// lower by the old one. So it is after each call whose clause `updates` has the word `Updates`, as
+/// that of `remove` has.
 pub fn updates_change_sum<K: IntKey>()
     ensures { (L M : List (K × ℕ)) (k : K) (w : Option ℕ) → HasDistinctKeys K.number_of L
         → HasDistinctKeys K.number_of M → Updates K.number_of L M k w

@@ -51,7 +51,7 @@ pub only_memory : (cause : Cause) → (cause ≡ TooLarge → ⊥) → cause ≡
 only_memory Memory other = refl
 only_memory TooLarge other = absurd (other refl)
 
--- if more than 2^63 slots follow, 2^63 slots don't meet the load, and growth is tested
+-- if more than 2^63 slots follow, 2^63 slots don't meet the load, and the load is checked
 exceeds-greatest : (C n F D : ℕ) → IsCapacity C → IsNext C n F D → 2 ^ 63 < D → (is_due n ≡ true) × (F < n * 1000 / 2 ^ 63)
 exceeds-greatest C n F D room next above = elim (cases_Bool (is_due n)) [
   | inl due ↦

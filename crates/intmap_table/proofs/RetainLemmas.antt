@@ -1,4 +1,4 @@
--- What a closure that is asked about each pair in turn leaves of lists, of slots and of tables.
+-- What a closure that is asked about each element in turn leaves of lists.
 use Rattle.std.proofs.Common.{◌≡◌, inl, inr, ℕ, ◌+◌, ◌<◌, ◌≤◌, Bool, true, false, cond, List, [], ◌∷◌, ◌++◌, length, get_or, set, take, drop, refl, sym, ap, ◌∙◌, subst, arith, append-nil}
 use Rattle.std.specs.Prelude.{All, count_by, filter}
 use Rattle.std.specs.List.{swap, FoldsTo}

@@ -1,4 +1,4 @@
--- What a closure that writes each value in turn leaves of lists, of slots and of tables.
+-- What a closure that writes each value in turn leaves of lists of pairs.
 use Rattle.std.proofs.Common.{is_some, ◌≡◌, ℕ, ◌+◌, ◌<◌, List, [], ◌∷◌, ◌++◌, length, get_or, set, take, drop, refl, sym, ap, ◌∙◌, subst, arith}
 use Rattle.std.specs.Prelude.{map}
 use Rattle.std.specs.List.{FoldsTo}

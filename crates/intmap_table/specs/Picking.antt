@@ -27,7 +27,7 @@ module _ {K V : Type 0} (number : K → ℕ) where
   abbrev pub position : List (K × V) → ℕ → Cursor → ℕ
   position W C at = length (flat_map (slot_of number W C) (range_with_len 0 at.slot)) + min at.place (length (slot_of number W C at.slot))
 
-  -- as many pairs were passed, and the place is one of its slot, or behind its last pair
+  -- `passed` pairs of the walk are before this place of this slot, and the place is that of a pair of the slot, or that behind its last one
   pub record IsReached (W : List (K × V)) (C slot place passed : ℕ) : Type 0 where
     pub within : place ≤ length (slot_of number W C slot)
     pub count : passed ≡ length (flat_map (slot_of number W C) (range_with_len 0 slot)) + place

@@ -1,8 +1,7 @@
 -- The order in which a table of C slots shows a list of pairs.
-use Rattle.std.specs.Prelude.{◌≡◌, ℕ, ◌<◌, ◌==◌, List, [], filter, length, nat_lt, take}
+use Rattle.std.specs.Prelude.{◌≡◌, ℕ, ◌<◌, ◌==◌, List, [], filter, take}
 use Rattle.std.specs.List.{flat_map, range_with_len}
 use Rattle.intmap_table.specs.Classes.{slot_number}
-use Rattle.intmap_table.specs.Tables.Bits.{IsHeldWord}
 
 module _ {K V : Type 0} (number : K → ℕ) where
   -- the pairs of slot i, in the order of the list
@@ -24,7 +23,3 @@ module _ {K V : Type 0} (number : K → ℕ) where
   -- no slot before slot n holds a pair, in a table of C slots with walk W
   abbrev pub ArePassed : List (K × V) → ℕ → ℕ → Type 0
   ArePassed W C n = (i : ℕ) → i < n → slot_of W C i ≡ []
-
-  -- a word says which slots from slot n on hold a pair
-  abbrev pub IsWalkWord : List (K × V) → ℕ → ℕ → ℕ → ℕ → Type 0
-  IsWalkWord W C n at word = IsHeldWord (λ i. nat_lt 0 (length (slot_of W C i))) n at word

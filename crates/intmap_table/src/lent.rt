@@ -6,8 +6,8 @@ ghost use denote.RawPtr.{Ptr, coded_ptr};
 
 use std::marker::{Model, Move, Owns, PhantomData};
 
-/// What stands in the place of each value while the values are lent: a `&` to what holds them shows
-/// where this one lies and what it was. It has the layout of a struct whose one field is the value.
+/// Stands in the place of a value while the value is lent. A `&` to it shows where the value lies
+/// and what it was. It has the layout of a struct whose one field is the value.
 /// No `Hole` is ever made.
 pub struct Hole<V> {
     value: V,
@@ -26,9 +26,9 @@ impl<V> Move for Hole<V> {
 }
 
 /// The right to write values in separate places, each of which is taken once. Contracts see three
-/// things: the name of their loan, the name of the loan behind it, which what holds the values
-/// follows, and the cells that are left. The cells say, in order, where each value lies and what it
-/// was.
+/// things: `loan`, the name of the loan of these values; `behind`, the name of the loan that the
+/// owner of the values follows; and `cells`, which says of each value that is left, in order, where
+/// it lies and what it was.
 pub struct Lent<'a, V> {
     pub mark: PhantomData<&'a mut V>,
     ghost loan: { GName },

@@ -19,8 +19,9 @@ impl<'a, K: IntKey, V> Entry<'a, K, V> {
         granted(self.try_or_insert(value))
     }
 
-    /// The same as [`or_insert`](Self::or_insert), but it returns a failure with the value, as
-    /// [`try_or_insert_with`](Self::try_or_insert_with) does.
+    /// The same as [`or_insert`](Self::or_insert), but it returns a failure with the value, by
+    /// [`try_or_insert_with`](Self::try_or_insert_with). It fails only if the key is absent, as
+    /// `IntMap::try_insert` does, and then leaves the map as it was.
     ///
     /// ```
     /// use intmap_proved::{IntMap, Refused};
@@ -131,8 +132,9 @@ impl<'a, K: IntKey, V> Entry<'a, K, V> {
         granted(self.try_or_default())
     }
 
-    /// The same as [`or_default`](Self::or_default), with the failures of
-    /// [`try_or_insert_with`](Self::try_or_insert_with).
+    /// The same as [`or_default`](Self::or_default), but it returns a failure, by
+    /// [`try_or_insert_with`](Self::try_or_insert_with). It fails only if the key is absent, as
+    /// `IntMap::try_insert` does, and then leaves the map as it was.
     #[inline]
     pub fn try_or_default(self) -> Result<&'a mut V, Refused<V>>
     where

@@ -8,9 +8,9 @@ impl<K: IntKey, V> IntMap<K, V> {
     /// Inserts the pair, and returns the value that the key had, if it was present.
     ///
     /// The new pair is the last one of its slot. The pair of a present key is removed first, and
-    /// the last pair of the slot takes its place. The capacity stays, unless the key is new, the
-    /// pairs are then 4 to 7, 12 to 15, 20 to 23 and so on, and they exceed the load factor; then
-    /// it is the least of its doublings in which they don't.
+    /// the last pair of the slot takes its place. Only a new key can make the map grow, and only if
+    /// the map then has 4 to 7 pairs, 12 to 15, 20 to 23, and so on: if these exceed the load
+    /// factor, the capacity doubles until they don't.
     ///
     /// The cost is *O*(*s*), and *O*(*n* + *c*) for an insertion that doubles the slots, or that
     /// makes small ones [large](IntMap#memory). That is *O*(*s*) amortized. Where

@@ -169,7 +169,7 @@ fn compare(rows: &str) -> usize {
 fn each_row_returns_what_the_original_returned() {
     if !Path::new(FOLDER).exists() {
         // past the capture of a test's output
-        writeln!(stderr(), "the original's rows are not here: not compared").expect("a stream");
+        writeln!(stderr(), "each_row_returns_what_the_original_returned: skipped, since only the repository has the rows").expect("a stream");
         return;
     }
     let path = format!("{FOLDER}/original.rows");

@@ -1,5 +1,5 @@
 -- The laws of the equality of maps: it compares bindings, and is an equivalence if the equality of values is one.
--- They are proved among the definitions, since the `impl`s of `PartialEq` and `Eq` cite the last of them.
+-- They are proved among the definitions, since the `impl`s of `PartialEq` and `Eq` cite two of them.
 pub use Rattle.intmap_table.proofs.BindSameLemmas.{unbound-or_passing}
 use Rattle.std.specs.Prelude.{◌≡◌, ◌⊎◌, ◌↔◌, ℕ, Bool, true, ◌&&◌, List, None, IsTrue}
 use Rattle.std.proofs.Common.{sym, ap, ◌∙◌, inl, inr}

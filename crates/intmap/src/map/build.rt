@@ -99,7 +99,7 @@ impl<K: IntKey, V: Drop, A: Allocator + Copy> IntMap<K, V, A> {
 impl<K: IntKey, V: Drop, A: Allocator + Copy> IntMap<K, V, A> {
     /// Inserts the iterator's pairs in turn, each as [`insert`](IntMap::insert) does, so a key
     /// keeps the last of its values. The table grows only as these insertions make it grow: nothing
-    /// is reserved ahead. The iterator must end.
+    /// is reserved ahead. The iterator must be ready for a call of `next`, and must end.
     ///
     /// It stops at the first insertion that fails, and returns the key and the value of that pair,
     /// with the cause and the number of pairs before it. Those pairs stay in the map. The iterator
@@ -149,7 +149,8 @@ impl<K: IntKey, V: Drop, A: Allocator + Copy> IntMap<K, V, A> {
     }
 
     /// A map of the iterator's pairs: [`with_capacity`](IntMap::with_capacity) of the lower bound
-    /// of its `size_hint`, and then [`extend`](IntMap::extend). The iterator must end.
+    /// of its `size_hint`, and then [`extend`](IntMap::extend). The iterator must be ready for a
+    /// call of `next`, and must end.
     ///
     /// It fails if either call fails, with the same cause, and then drops everything.
     ///

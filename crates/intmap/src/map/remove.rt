@@ -1,5 +1,5 @@
 //! Removals.
-ghost use Rattle.std.specs.Prelude.{◌≡◌, ◌+◌, Bool, None, Some, IfSome, MatchOption, cond, filter, is_some, length, ◌⊎◌, ◌≤◌};
+ghost use Rattle.std.specs.Prelude.{◌≡◌, ◌+◌, Bool, None, Some, IfNone, IfSome, MatchOption, cond, filter, is_some, length, ◌⊎◌, ◌≤◌};
 ghost use Rattle.std.specs.Option.{option_map};
 ghost use Rattle.std.specs.Iterator.{YieldsFirst};
 ghost use Rattle.intmap_table.specs.Bindings.{value_of, Updates};
@@ -71,7 +71,7 @@ impl<K: IntKey, V, A: Allocator + Copy> IntMap<K, V, A> {
     ///
     /// The search begins at the slot number `from`. No slot before it may hold a pair, so begin
     /// with 0. The call sets `from` to the number of the slot that held the pair, so the next call
-    /// goes on from there.
+    /// goes on from there. If there is no pair, `from` stays.
     ///
     /// The other pairs of the slot move up by one place. It allocates nothing and never fails.
     ///
@@ -94,6 +94,7 @@ impl<K: IntKey, V, A: Allocator + Copy> IntMap<K, V, A> {
         ensures passed { ArePassed K.number_of self.new.walk self.new.capacity from.new }
         ensures slot { IfSome result
             (λ pair. from.new ≡ slot_number K.number_of pair.0 self.old.capacity) }
+        ensures stays { IfNone result (from.new ≡ from.old) }
         ensures valid { IsMap K.number_of K.is_valid self.old }
         ensures valid_after { IsMap K.number_of K.is_valid self.new }
     {

@@ -4,9 +4,9 @@ use Rattle.std.specs.Prelude.{All, nat_lt}
 use Rattle.std.proofs.Math.Seq.{drop-append_seam}
 use Rattle.std.proofs.lemmas.List.Elements.{All-drop}
 use Rattle.intmap_table.specs.Classes.{slot_number}
-use Rattle.intmap_table.specs.Walk.{ArePassed, IsWalkWord}
+use Rattle.intmap_table.specs.Walk.{ArePassed}
 use Rattle.intmap_table.specs.Tables.Bits.{IsHeldWord}
-use Rattle.intmap_table.specs.Tables.Slots.{Held, rows, row_of, joined, IsNextRow, IsTable, IsRowSet, IsSlotWord}
+use Rattle.intmap_table.specs.Tables.Slots.{Held, rows, row_of, joined, IsNextRow, IsTable, IsRowSet, IsSlotWord, IsWalkWord}
 use Rattle.intmap_table.proofs.Tables.FilledLemmas.{joined-emptied}
 use Rattle.intmap_table.proofs.Tables.AroundLemmas.{joined-cut, joined-take_past, row-taken, row-left, row-same, next-within, IsSlotWord-row_set}
 use Rattle.intmap_table.proofs.Tables.TableLemmas.{slot_of-joined, row-set_other, IsTable-row_set}

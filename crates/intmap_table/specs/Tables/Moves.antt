@@ -1,4 +1,4 @@
--- Growth of a table within its own vector of slots: the first slots are the old ones. No public clause cites this module.
+-- Growth of a table. Where it is within the vector of slots, the first slots are the old ones. No public clause cites this module.
 use Rattle.std.specs.Prelude.{◌≡◌, ◌≢◌, ◌⊎◌, ◌||◌, ◌==◌, ℕ, ◌+◌, ◌-◌, ◌*◌, ◌/◌, ◌%◌, ◌^◌, ◌<◌, ◌≤◌, nat_lt, Bool, cond, All, List, [], ◌++◌, length, map, get_or, set, take, count_by}
 use Rattle.intmap_table.specs.Classes.{IsCapacity, slot_number}
 use Rattle.intmap_table.specs.Walk.{slot_of}
@@ -47,7 +47,7 @@ module _ {K X : Type 0} (number : K → ℕ) where
   abbrev pub in_part : List (K × X) → ℕ → ℕ → ℕ → ℕ
   in_part L C D t = count_by (λ p. slot_number number p.0 D / C == t) L
 
-  -- the pairs are at the ends of their slots, in their order, these slots are marked, and each pair is counted
+  -- the pairs are at the ends of their slots, in their order, these slots are marked, and each pair is counted;
   -- a slot that got none has the room that it had
   pub record ArePut (S : List (Held K X)) (marks : List Bool) (n : ℕ) (L : List (K × X)) (T : List (Held K X)) (marks' : List Bool) (n' : ℕ)
       : Type 0 where
@@ -58,7 +58,7 @@ module _ {K X : Type 0} (number : K → ℕ) where
     pub set_at : (j : ℕ) → marked marks' j ≡ (marked marks j || nat_lt 0 (need L (length S) j))
     pub counted : n' ≡ n + length L
 
-  -- the pairs can be put there one after another: a slot that gets some is marked exactly if it holds a pair, and has room for all of them
+  -- the pairs can be put there one after another: a slot that gets some is marked exactly if it holds a pair, and has room for all of them;
   -- a slot that gets one pair alone needs no room, and slot x may have no block: the current block, whose room is given, is large enough for it
   pub record CanPut (S : List (Held K X)) (marks : List Bool) (L : List (K × X)) (block : ℕ) : Type 0 where
     pub capacity : IsCapacity (length S)
@@ -70,14 +70,14 @@ module _ {K X : Type 0} (number : K → ℕ) where
         ⊎ (length (get_or (rows S) j []) + need L (length S) j ≤ get_or (rooms S) j 0)
         ⊎ ((j ≡ x) × (get_or (rooms S) j 0 ≡ 1) × (length (get_or (rows S) j []) + need L (length S) j ≤ 1 + block))
 
-  -- with these rooms, the pairs of old slot k can leave it: each of its parts has room for all that it gets, except part x, which may have no block and takes that of the old slot
+  -- with these rooms, the pairs of old slot k can leave it: each of its parts has room for all that it gets, except part x, which may have no block and takes that of the old slot;
   -- a part that gets one pair alone needs no room
   pub record CanLeave (r : List ℕ) (L : List (K × X)) (C D k : ℕ) : Type 0 where
     pub fits : (length L ≤ 1) ⊎ (length L ≤ get_or r k 0)
     pub x : ℕ
     pub room : (j : ℕ) → j < D → j % C ≡ k → (need L D j ≤ 1) ⊎ (need L D j ≤ room_without r k j) ⊎ ((j ≡ x) × (room_without r k j ≡ 1))
 
-  -- the pairs of the first C slots can move on: the others hold none, and each of these can be left, and has at most so many behind its first
+  -- the pairs of the first C slots can move on: the other slots hold none, and each of the first can be left, and has at most `longest` pairs behind its first one
   pub record CanMoveOn (marks : List Bool) (C longest : ℕ) (S : List (Held K X)) : Type 0 where
     pub longer : IsLonger marks C S
     pub bare : (j : ℕ) → C ≤ j → j < length S → get_or (rows S) j [] ≡ []
@@ -105,7 +105,7 @@ module _ {K X : Type 0} (number : K → ℕ) where
   abbrev pub AreFree : List (List (K × X)) → List (K × X) → ℕ → Type 0
   AreFree R L D = (j : ℕ) → j < D → 0 < need L D j → get_or R j [] ≡ []
 
-  -- the pairs of old slot k can be put into slots that hold none, with a buffer for so many behind the first
+  -- the pairs of old slot k can be put into slots that hold none, with a buffer for at least all but the first of them
   pub record CanMove (S : List (Held K X)) (marks : List Bool) (k buffer : ℕ) : Type 0 where
     pub within : k < length S
     pub enough : length (get_or (rows S) k []) ≤ 1 + buffer

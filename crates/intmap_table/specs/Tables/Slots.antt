@@ -5,6 +5,7 @@ use Rattle.std.specs.List.{All, flat_map}
 use Rattle.std.specs.Map.{keys_of}
 use Rattle.intmap_table.specs.Tables.Bits.{marked, IsHeldWord}
 use Rattle.intmap_table.specs.Classes.{IsCapacity, slot_number}
+use Rattle.intmap_table.specs.Walk.{slot_of}
 
 -- what a slot holds, and how many pairs it has room for
 pub record Held (K X : Type 0) : Type 0 where
@@ -78,9 +79,13 @@ pub record IsNextRow {P : Type 0} (R : List (List P)) (from i : ℕ) : Type 0 wh
   pub filled : 0 < length (slice_index_or R i [])
   pub between : (j : ℕ) → from ≤ j → j < i → slice_index_or R j [] ≡ []
 
--- word `at` says which of its slots hold a pair, and is without those before slot `from`. From there up to it none does
+-- word `at` says which of its slots hold a pair, and is without those before slot `from`. No slot from `from` up to the first one of this word holds a pair
 abbrev pub IsSlotWord : {K X : Type 0} → List (Held K X) → ℕ → ℕ → ℕ → Type 0
 IsSlotWord slots from at word = IsHeldWord (λ i. nat_lt 0 (length (row_of slots i))) from at word
+
+-- the same of the walk W of a table of C slots
+abbrev pub IsWalkWord : {K X : Type 0} (number : K → ℕ) → List (K × X) → ℕ → ℕ → ℕ → ℕ → Type 0
+IsWalkWord number W C from at word = IsHeldWord (λ i. nat_lt 0 (length (slot_of number W C i))) from at word
 
 -- marks in whole words of 64: the index of a row is marked exactly if the row has a pair, and no index behind the last row is marked
 pub record AreMarked {P : Type 0} (S : List (List P)) (marks : List Bool) : Type 0 where

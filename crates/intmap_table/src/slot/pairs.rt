@@ -7,7 +7,7 @@ use crate::table::stored::Stored;
 use std::alloc::Allocator;
 use std::mem;
 
-/// Puts a pair in the place of the first one. If there was a first one, it returns that one.
+/// Puts a pair in the place of the first one, which is there, and returns the old one.
 #[inline(always)]
 fn replace_first<P>(first: &mut Option<P>, pair: P) -> P
     requires { is_some first.old ≡ true }

@@ -1,4 +1,4 @@
-//! Room in slots, and the moves of a growth, which takes all pairs of a slot at once.
+//! Room in slots, and removal of all pairs of a slot at once: for growth and for iterators by value.
 ghost use Rattle.std.specs.Prelude.{◌≡◌, ◌≢◌, ◌+◌, ◌<◌, ◌≤◌, [], ◌∷◌, ◌++◌, length, reverse, vec_capacity, OnOk};
 ghost use Rattle.std.specs.Vec.Iter.{into_iter_items};
 ghost use Rattle.intmap_table.specs.Tables.Moves.{bare_slot};

@@ -1,5 +1,5 @@
-//! Closures that are asked about a pair. They get its key, which no search of a slot can read. And
-//! the closure that a stored value is handed to.
+//! Single calls of a closure: at a pair, with its key, which no search of a slot can read, or at a
+//! stored value.
 ghost use Rattle.std.specs.Prelude.{◌≡◌};
 ghost use Rattle.intmap_table.specs.Picking.{PicksAt};
 ghost use Rattle.intmap_table.specs.Retaining.{KeepsAt, TakesPair};

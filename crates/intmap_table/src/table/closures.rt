@@ -57,7 +57,7 @@ impl<K: IntKey, V: Drop, A: Allocator> Table<K, Kept<V>, A> {
     }
 }
 
-/// How far a closure was asked: up to a place in a slot, and about so many pairs that stayed.
+/// How far a closure was asked: up to place `place` of slot `slot`. Before it `passed` pairs stayed.
 #[derive(Drop)]
 pub struct Progress {
     pub slot: usize,
@@ -66,7 +66,7 @@ pub struct Progress {
 }
 
 impl Progress {
-    /// It was asked about none.
+    /// The closure was asked about no pair.
     pub fn start() -> Progress
         ensures { result ≡ record { slot = 0; place = 0; passed = 0 } }
     {

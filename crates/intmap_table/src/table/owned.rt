@@ -2,7 +2,8 @@
 ghost use Rattle.std.specs.Prelude.{◌≡◌, [], ◌∷◌, ◌++◌, MatchOption};
 ghost use Rattle.std.specs.Iterator.{YieldsFirst, item_count};
 ghost use Rattle.std.specs.Vec.Iter.{into_iter_items};
-ghost use Rattle.intmap_table.specs.Walk.{walk_of, ArePassed, IsWalkWord};
+ghost use Rattle.intmap_table.specs.Tables.Slots.{IsWalkWord};
+ghost use Rattle.intmap_table.specs.Walk.{ArePassed};
 
 use crate::bits::HeldWord;
 use crate::key::IntKey;

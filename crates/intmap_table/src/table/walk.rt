@@ -1,4 +1,4 @@
-//! The walk of a table: a position in it, and removal from its front.
+//! The walk of a table: cursors in it, and removal at a cursor or from the front.
 ghost use Rattle.std.specs.Bool.{OnFalse, OnTrue};
 ghost use Rattle.std.specs.Prelude.{◌≡◌, ◌+◌, ◌<◌, ◌≤◌, ◌^◌, [], ◌∷◌, cond, drop, is_some, length, take, MatchOption, IfNone, IfSome};
 ghost use Rattle.std.specs.Iterator.{YieldsFirst};
@@ -12,8 +12,9 @@ use crate::table::Table;
 use crate::table::slots::Slots;
 use std::alloc::Allocator;
 
-/// A place of a walk: before the pair at this place of this slot or, if there is none, before the
-/// pairs of the slots behind it. Any two numbers are a place of every walk.
+/// A position in a walk: before the pair at this place of this slot or, if the slot has no such
+/// pair, before the pairs of the slots behind it. Both numbers count from 0, and any two of them
+/// are a position in every walk.
 #[repr(C)]
 #[derive(Clone, Copy)]
 pub struct Cursor {
@@ -104,7 +105,7 @@ impl<K: IntKey, X, A: Allocator> Table<K, X, A> {
     }
 
     /// Removes the first pair of the walk and returns it. No slot before `from` holds a
-    /// pair. `from` moves on to the slot that held the removed pair.
+    /// pair. `from` moves on to the slot that held the removed pair. If there is none, it stays.
     pub fn take_front(&mut self, from: &mut usize) -> Option<(K, X)>
         requires { ArePassed K.number_of self.old.walk self.old.capacity from.old }
         ensures first { YieldsFirst (λ t. t.walk) self.old result self.new }
@@ -113,6 +114,7 @@ impl<K: IntKey, X, A: Allocator> Table<K, X, A> {
         ensures passed { ArePassed K.number_of self.new.walk self.new.capacity from.new }
         ensures slot { IfSome result
             (λ pair. from.new ≡ slot_number K.number_of pair.0 self.old.capacity) }
+        ensures stays { IfNone result (from.new ≡ from.old) }
     {
         let index = self.slots.next_filled(*from)?;
         *from = index;

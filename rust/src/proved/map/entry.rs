@@ -58,8 +58,8 @@ impl<K: IntKey, V, A: Allocator + Copy> IntMap<K, V, A> {
 }
 
 impl<'a, K: IntKey, V, A: Allocator + Copy> Entry<'a, K, V, A> {
-    /// If the key is present, calls the closure with a mutable reference to its value. It returns
-    /// the entry. If the key is present, the closure must be callable at its value.
+    /// If the key is present, calls the closure with a mutable reference to its value. The call
+    /// returns the entry. If the key is present, the closure must be callable at its value.
     pub fn and_modify<F: FnOnce(&mut V)>(self, f: F) -> Entry<'a, K, V, A> {
         match self {
             Entry::Occupied(mut entry) => {

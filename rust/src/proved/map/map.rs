@@ -1,5 +1,6 @@
-//! The map: a table of slots, the number of its pairs and its load factor. This file has its
-//! figures, and the calls on a located pair, whose key was found before. These compare no key.
+//! The map: a table of slots, the number of its pairs and its load factor. This file has its length
+//! and its capacity, the search for a key, and the calls on a pair that a search located. These
+//! calls compare no key.
 
 mod build;
 mod figures;

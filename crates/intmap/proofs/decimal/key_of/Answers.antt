@@ -1,4 +1,4 @@
--- Text and number meet in two lemmas, one for each case.
+-- Text and number meet in three lemmas, one for each way out.
 use Rattle.std.proofs.Common.{sym, subst}
 use Rattle.intmap.proofs.JsonLemmas.{BeginsAsPrinted, BeginsAsPrinted-IsKeyText, IsKeyText-parsed, IsKeyText-not_parsed}
 use Rattle.intmap.proofs.decimal.key_of.Goals as goal

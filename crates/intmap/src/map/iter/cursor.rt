@@ -13,12 +13,12 @@ impl<K: IntKey, V, A: Allocator + Copy> IntMap<K, V, A> {
     /// pair is left. Then the cursor stays.
     ///
     /// A walk begins with [`Cursor::start`]. Any cursor will do, whatever happened to the map since:
-    /// it is before the pair at its place of its slot, or else before the slots behind that one. So
-    /// after an insertion or a removal in a slot that was passed, the walk goes on as before. A
-    /// removal in the cursor's own slot may move a pair to a place that was passed, and it isn't
-    /// shown then. After an insertion that made the map grow, pairs are in other slots, and some may
-    /// be shown again or not at all. The call allocates nothing and never fails. A whole walk looks
-    /// once at each pair, and at one bit a slot.
+    /// it is before the pair at its place in its slot or, if the slot has no such pair, before the
+    /// slots behind. So after an insertion or a removal in a slot that was passed, the walk goes on
+    /// as before. A removal in the cursor's own slot may move a pair to a place that was passed, and
+    /// it isn't shown then. After an insertion that made the map grow, pairs are in other slots, and
+    /// some may be shown again or not at all. The call allocates nothing and never fails. A whole
+    /// walk looks once at each pair, and at one bit a slot.
     ///
     /// ```text
     /// let map = IntMap::from_array(alloc, [(0, 10), (1, 11), (4, 14)])?;

@@ -38,8 +38,8 @@ fn fits_lone<K: IntKey, X, A: Allocator>(slot: &Slot<K, X, A>, capacity: usize) 
     }
 }
 
-/// Whether there are to be enough slots for lone ones, and each of them gets one pair at most. The
-/// bits mark the slots that hold a pair.
+/// Whether `capacity` is at least [`LEAST`], and no slot holds more than two pairs, or two that go
+/// to one new slot. The bits mark the slots that hold a pair.
 pub(super) fn fit_lone<K: IntKey, X, A: Allocator>(
     shared: &[Slot<K, X, A>],
     bits: &Bits<A>,

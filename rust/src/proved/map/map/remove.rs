@@ -29,7 +29,7 @@ impl<K: IntKey, V, A: Allocator + Copy> IntMap<K, V, A> {
     ///
     /// The search begins at the slot number `from`. No slot before it may hold a pair, so begin
     /// with 0. The call sets `from` to the number of the slot that held the pair, so the next call
-    /// goes on from there.
+    /// goes on from there. If there is no pair, `from` stays.
     ///
     /// The other pairs of the slot move up by one place. It allocates nothing and never fails.
     pub fn take_front(&mut self, from: &mut usize) -> Option<(K, V)> {

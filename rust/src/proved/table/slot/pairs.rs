@@ -7,7 +7,7 @@ use crate::proved::table::table::stored::Stored;
 use crate::memory::alloc::Allocator;
 use core::mem;
 
-/// Puts a pair in the place of the first one. If there was a first one, it returns that one.
+/// Puts a pair in the place of the first one, which is there, and returns the old one.
 #[inline(always)]
 fn replace_first<P>(first: &mut Option<P>, pair: P) -> P {
     match first {

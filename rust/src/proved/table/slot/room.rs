@@ -1,4 +1,4 @@
-//! Room in slots, and the moves of a growth, which takes all pairs of a slot at once.
+//! Room in slots, and removal of all pairs of a slot at once: for growth and for iterators by value.
 
 use crate::memory::prelude::*;
 use crate::proved::table::key::IntKey;

@@ -32,7 +32,7 @@ impl<K: IntKey, V, A: Allocator> Table<K, Kept<V>, A> {
     }
 }
 
-/// How far a closure was asked: up to a place in a slot, and about so many pairs that stayed.
+/// How far a closure was asked: up to place `place` of slot `slot`. Before it `passed` pairs stayed.
 pub struct Progress {
     pub slot: usize,
     pub place: usize,
@@ -40,7 +40,7 @@ pub struct Progress {
 }
 
 impl Progress {
-    /// It was asked about none.
+    /// The closure was asked about no pair.
     pub fn start() -> Progress {
         Progress {
             slot: 0,

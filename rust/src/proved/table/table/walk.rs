@@ -1,4 +1,4 @@
-//! The walk of a table: a position in it, and removal from its front.
+//! The walk of a table: cursors in it, and removal at a cursor or from the front.
 
 use crate::memory::prelude::*;
 use crate::proved::table::key::IntKey;
@@ -8,7 +8,7 @@ use crate::memory::alloc::Allocator;
 
 impl<K: IntKey, X, A: Allocator> Table<K, X, A> {
     /// Removes the first pair of the walk and returns it. No slot before `from` holds a
-    /// pair. `from` moves on to the slot that held the removed pair.
+    /// pair. `from` moves on to the slot that held the removed pair. If there is none, it stays.
     pub fn take_front(&mut self, from: &mut usize) -> Option<(K, X)> {
         let index = self.slots.next_filled(*from)?;
         *from = index;

@@ -1,6 +1,6 @@
 use Rattle.std.proofs.Common.{arith, subst}
 use Rattle.intmap_table.specs.Tables.Slots.{Grid}
-use Rattle.intmap_table.specs.Walk.{IsWalkWord}
+use Rattle.intmap_table.specs.Tables.Slots.{IsWalkWord}
 use Rattle.intmap_table.proofs.Tables.FrontLemmas.{IsWalkWord-rows}
 use Rattle.intmap_table.proofs.table.Table.into_pairs.Goals as goal
 

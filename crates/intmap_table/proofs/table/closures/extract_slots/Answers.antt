@@ -24,7 +24,7 @@ loop-slot-init g c = record {
 }
 
 module _ (g : _) (c : After-extract_at-found g) where
-  -- the pairs of the slot at hand were asked about, from the cursor on
+  -- the pairs of the slot at hand were asked about, from the place on that was reached
   asked : IsAsked (PicksAt g.F.FnMut) c.loop-slot.slots c.extract_at-found.new.self c.extract_at-found.ensures.step.0
       c.in-Some.slot c.loop-slot.at.place c.loop-slot.at.passed c.extract_at-found.new.place
       (c.loop-slot.at.passed + (c.extract_at-found.new.place - c.loop-slot.at.place)) c.loop-slot.f c.extract_at-found.new.f c.extract_at-found.result

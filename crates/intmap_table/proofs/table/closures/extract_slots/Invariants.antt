@@ -7,7 +7,7 @@ use Rattle.intmap_table.proofs.ExtractLemmas.{StepsFrom}
 use Rattle.intmap_table.proofs.Tables.CursorLemmas.{IsInRows}
 use Rattle.intmap_table.proofs.table.closures.extract_slots.Given as goal
 
--- a step from the cursor on is one from where it was at the call, and the slots are a table
+-- a step from the place that was reached is one from the place at the call, and the slots are a table
 abbrev pub invariant-loop-slot : goal.invariant-loop-slot
 invariant-loop-slot g l = record {
   callable : TakesEach (AsksAt g.F.FnMut) (TakesPairMut g.F.FnMut) l.f (drop l.at.passed (joined (rows l.slots)));

@@ -42,8 +42,8 @@ impl<'a, K: IntKey, V, F: FnMut(K, &mut V) -> bool, A: Allocator + Copy> Iterato
         self.map.extract_next(&mut self.at, &mut self.test)
     }
 
-    /// No lower bound. The upper bound is the number of pairs that the closure wasn't asked about
-    /// yet.
+    /// The lower bound is 0. The upper bound is the number of pairs that the closure wasn't asked
+    /// about yet.
     fn size_hint(&self) -> (usize, Option<usize>) {
         (0, Some(self.map.len() - self.at.passed))
     }

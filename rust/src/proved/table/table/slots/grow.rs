@@ -155,8 +155,8 @@ fn grow_shared<K: IntKey, X, A: Allocator + Copy>(
 
 impl<K: IntKey, X, A: Allocator + Copy> Slots<K, X, A> {
     /// Moves all pairs, in the order of the walk, to their slots among `capacity` slots. If an
-    /// allocation fails, no pair moves. Shared slots become lone ones if they may, and if each pair
-    /// gets a slot of its own.
+    /// allocation fails, no pair moves. Shared slots become lone ones if they may and `fit_lone` lets
+    /// them.
     pub(in crate::proved::table) fn grow(
         &mut self,
         capacity: usize,

@@ -34,7 +34,7 @@ impl<K: IntKey, X, A: Allocator> Slots<K, X, A> {
 }
 
 impl<K: IntKey, X, A: Allocator + Copy> Slots<K, X, A> {
-    /// Whether a second pair of a slot, or a further one, makes room there.
+    /// Whether a `push` to a shared slot allocates. It is false of a lone slot.
     fn is_full(&self, index: usize) -> bool {
         index >= self.lone.len() && self.shared[index].is_full()
     }
