@@ -17,7 +17,7 @@ void pool_free(void *block);
 // Blocks lie one behind the other, each behind two words, of which one is its size. None is used
 // twice.
 enum { WORDS = 1 << 20 };
-static _Alignas(16) uint64_t pool[WORDS];
+static uint64_t pool[WORDS] __attribute__((aligned(16)));
 static size_t used, live_blocks;
 
 void *pool_malloc(size_t size) {

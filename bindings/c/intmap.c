@@ -3877,7 +3877,8 @@ static ALWAYS_INLINE struct word_word do_intmap_replace(char *handle, uint64_t k
     return made_word_word(r23.first, r0_2_8_ext);
 }
 
-// Makes a map in `to` with the same pairs in the same order, as many slots and the same load factor.
+// Makes a map in `to` with the same pairs in the same order, as many slots and the same load factor, and returns
+// `OK`.
 // intmap_clone, in crates/intmap_c/src/read.rt
 static ALWAYS_INLINE uint32_t do_intmap_clone(char *word, char *to) {
     char *map, *r25, *r32, *words, *r9_45_0_ph34, *r8, *r39, *lone, *slot, *r18_2, *shared, *slot_2, *rest, *r17,
@@ -4112,7 +4113,7 @@ static ALWAYS_INLINE uint32_t do_intmap_clone(char *word, char *to) {
     return r5_0;
 }
 
-// Makes an empty map, with a load factor of 909 thousandths.
+// Makes an empty map, with a load factor of 909 thousandths, and returns `OK`.
 // intmap_with_capacity, in crates/intmap_c/src/make.rt
 static ALWAYS_INLINE uint32_t do_intmap_with_capacity(char *handle, uint64_t capacity) {
     uint8_t sink1, sink, x0, x1;
@@ -4582,7 +4583,7 @@ after_pairs_intmap_insert:;
     return made_word_word(value_2, r19);
 }
 
-// Makes slots for the pairs and `additional` more.
+// Makes slots for the pairs and `additional` more, and returns `OK`.
 // intmap_reserve_slots, in crates/intmap_c/src/figures.rt
 static ALWAYS_INLINE uint32_t do_intmap_reserve_slots(char *handle, uint64_t additional) {
     uint64_t map_address, map_address_2, len, r40, r2_0, r13, r13_2, a0_a1;
@@ -4632,7 +4633,7 @@ after_figures_reserve_slots:;
     return r4_0;
 }
 
-// Sets the load factor in thousandths, and doubles the slots until their number meets it.
+// Sets the load factor in thousandths, doubles the slots until their number meets it, and returns `OK`.
 // intmap_set_load_factor, in crates/intmap_c/src/figures.rt
 static ALWAYS_INLINE uint32_t do_intmap_set_load_factor(char *handle, uint64_t thousandths) {
     uint64_t map_address, map_address_2, r13, r3_09, r31;

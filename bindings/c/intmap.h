@@ -29,9 +29,9 @@
 //
 // - No address that is passed is null, unless the call says that it may be.
 // - Before the first call with a word it is INTMAP_INIT, or all its bits are zero. After that only
-//   calls write it.
-// - A word isn't copied, since a copy is the same map. It may be moved, if its old place is then
-//   set to INTMAP_NONE.
+//   calls write it, and moves.
+// - A word isn't copied, since a copy is the same map. It may be moved to a word without memory, if
+//   its old place is then set to INTMAP_NONE, or never used again.
 // - No signal handler makes a call, and neither does the forked child of a process with several
 //   threads. Nothing jumps out of a call: no longjmp, no exception, no cancellation of its thread.
 // - malloc, realloc and free belong to one allocator, make no call on a map, and align blocks as
@@ -78,8 +78,8 @@
 //
 // MEMORY. Only a call that may return INTMAP_NO_MEMORY requests memory, from malloc or realloc. A
 // slot takes 48 bytes, so a map that has grown takes some 50 to 120 a pair, and up to 140 if many
-// keys share slots. A slot that an insertion has added takes 24 while no two keys share one, so ids
-// that count up take 27 to 54 a pair. A clone has as many slots.
+// keys share slots. Slots that insertions have added take 24 each until two keys share any of them,
+// and then all take 48. So ids that count up take 27 to 54 a pair. A clone has as many slots.
 //
 // A call that makes slots in advance writes each of them, which takes time in their number. Linux
 // may grant more memory than there is, so too large a number of slots may end the process. Memory
@@ -105,7 +105,8 @@
 // calls on one word, a wrong address of a cursor or an array, a function handed to intmap_retain
 // that changes the map, or an address of intmap_at that is used too late. AddressSanitizer notices
 // such an address if its memory was freed meanwhile. A call on a word that intmap_free has left is
-// no mistake: it is an empty map.
+// no mistake: it is an empty map. Nor is a change between two calls of intmap_step, though the walk
+// may then miss pairs.
 //
 // Compile each file that has maps with INTMAP_DEBUG, by gcc or clang. No installed library notices
 // anything, or has the names intmap_debug_.. that the calls then get. So compile intmap_debug.c,
@@ -278,8 +279,8 @@ INTMAP_NONNULL bool intmap_contains_key(const intmap *map, uint64_t key) INTMAP_
 // Inserts the pair, or gives a present key this value. It returns INTMAP_PRESENT with the value
 // before, or INTMAP_ABSENT if the key was absent. The pair is then the last of its slot. If the key
 // was present, the pair that was the last takes its old place. If the pairs, with a new one, exceed
-// the load factor, the slots are doubled until they don't. The load is checked only if these pairs
-// are 4 to 7, 12 to 15, 20 to 23, and so on.
+// the load factor, the slots are doubled until they don't. The load is checked only if the number
+// of these pairs is 4 to 7, 12 to 15, 20 to 23, and so on.
 //
 // For a present key it never fails, and requests no memory. For an absent key it returns
 // INTMAP_TOO_LARGE exactly if there are 2^64 - 1 pairs or growth needs more than 2^63 slots, and

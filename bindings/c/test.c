@@ -1336,9 +1336,9 @@ static void call_some(size_t kind) {
     // Small values too, of which 0 is one.
     value = number() % 4 > 0 ? value : value % 3;
     if (number() % 20 > 0) {
-        call_on_key(key, value, number() % 100);
+        call_on_key(key, value, (unsigned)(number() % 100));
     } else {
-        call_on_all(value, number() % 100);
+        call_on_all(value, (unsigned)(number() % 100));
     }
     check_figures(it);
 }

@@ -26,7 +26,7 @@ OnMap None new N P = (new ≡ None) × N
 OnMap (Some m) None N P = ⊥
 OnMap (Some m) (Some n) N P = P m n
 
--- the same of a call that makes a map in a word without one; if the word has none then, there was none, and N
+-- the same of a call that makes a map if the word has none: P of the map before, or of a new one, and of the map after; or the word had no map, has none, and N
 abbrev pub OnMapOrNew : Option State → Option State → Type 0 → (State → State → Type 0) → Type 0
 OnMapOrNew old None N P = (old ≡ None) × N
 OnMapOrNew old (Some n) N P = P (map_of old) n
@@ -43,15 +43,15 @@ bound_to m k = value_of itself m.walk k
 abbrev pub filled_slots_of : State → ℕ
 filled_slots_of m = load_of itself m.walk m.capacity
 
--- the same keys have the same values
+-- n has as many pairs as m, and each key has the same value in both, or none
 abbrev pub BindSame : State → State → Type 0
 BindSame m n = ((q : ℕ) → bound_to n q ≡ bound_to m q) × (length n.walk ≡ length m.walk)
 
--- the same keys have the same values in both maps
+-- `same` says whether each key has the same value in both maps, or none
 abbrev pub AreEqual : State → State → Bool → Type 0
 AreEqual m n same = (same ≡ true) ↔ ((k : ℕ) → bound_to m k ≡ bound_to n k)
 
--- a map with the same pairs in the same order was made in a word that had `old` and has `new`, which has none if there was none to clone; or it could not be made, and the word is as it was
+-- the word of the clone had `old` and has `new`: none if there is no map to clone, and otherwise a clone of the map; or there was no memory, and `new` is `old`
 abbrev pub Clones : Option State → Option State → Option State → ℤ → Type 0
 Clones None old new status = (status ≡ ok_status) × (new ≡ None)
 Clones (Some m) old new status =

@@ -21,7 +21,7 @@ left_in m k w = written itself (after_search itself m k) k w
 abbrev pub Leaves : State → ℕ → Type 0
 Leaves m k = IsPresent itself m.walk k → (w : ℕ) → Updates itself m.walk (left_in m k w).walk k (Some w)
 
--- the map behind m ends with the last value behind r as that of k; or, if nothing was found, as after the search
+-- when the loan m ends, its map has the last value behind r as the value of k; if k is absent, it is the map after the search
 abbrev pub lends_value : MutBor State → ℕ → Option (MutBor ℕ) → Fml
 lends_value m k r = LendsIf Map u64 m r (left_in m.now k) (after_search itself m.now k)
 

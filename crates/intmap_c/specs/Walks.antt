@@ -15,7 +15,7 @@ pub record Steps (m : State) (at to : Cursor) (found : FoundPair) : Type 0 where
       × (passed itself m to ≡ passed itself m at + 1))
       ⊎ ((found ≡ no_pair absent_status) × (drop (passed itself m at) m.walk ≡ []) × (to ≡ at))
 
--- the first pair of the walk from the cursor on was removed, and is returned; or none is left, and the cursor stays. It is behind the same pairs
+-- the first pair of the walk from the cursor on was removed, and is returned; or none is left, and the cursor stays; either way the same pairs are before the cursor
 pub record Cuts (m n : State) (at to : Cursor) (found : FoundPair) : Type 0 where
   pub told :
       ((found.status ≡ present_status) × (drop (passed itself m at) m.walk ≡ (found.pair.key, found.pair.value) ∷ drop (passed itself n to) n.walk)

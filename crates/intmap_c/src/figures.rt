@@ -38,9 +38,10 @@ fn set_load_factor(map: &mut IntMap<u64, u64>, thousandths: usize) -> i32
     }
 }
 
-/// Makes slots for the pairs and `additional` more. If there are fewer, their number becomes the
-/// least power of two that isn't below that sum. It fails with `TOO_LARGE` exactly if the sum is
-/// above 2^63, and otherwise with `NO_MEMORY` if an allocation fails. A failed call leaves the map.
+/// Makes slots for the pairs and `additional` more, and returns `OK`. If there are fewer, their
+/// number becomes the least power of two that isn't below that sum. It fails with `TOO_LARGE` exactly
+/// if the sum is above 2^63, and otherwise with `NO_MEMORY` if an allocation fails. A failed call
+/// leaves the map.
 #[unsafe(no_mangle)]
 pub extern "C" fn intmap_reserve_slots(alloc: Global, handle: &mut Handle, additional: usize) -> i32
     ensures { OnMapOrNew handle.old.value handle.new.value (MakesNone additional result)
@@ -56,9 +57,9 @@ pub extern "C" fn intmap_reserve_slots(alloc: Global, handle: &mut Handle, addit
     }
 }
 
-/// Sets the load factor in thousandths, and doubles the slots until their number meets it. It fails
-/// with `TOO_LARGE` exactly if that takes more than 2^63 slots, and otherwise with `NO_MEMORY` if an
-/// allocation fails. A failed call leaves the map and its load factor.
+/// Sets the load factor in thousandths, doubles the slots until their number meets it, and returns
+/// `OK`. It fails with `TOO_LARGE` exactly if that takes more than 2^63 slots, and otherwise with
+/// `NO_MEMORY` if an allocation fails. A failed call leaves the map and its load factor.
 #[unsafe(no_mangle)]
 pub extern "C" fn intmap_set_load_factor(
     alloc: Global,

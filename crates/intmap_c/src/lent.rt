@@ -6,7 +6,7 @@ ghost use Rattle.intmap_c.specs.Loans.{shares_map};
 use intmap::IntMap;
 use std::marker::{Model, PhantomData};
 
-/// The word of a handle, as the calls take it that leave its map in place.
+/// The word of a handle, for the calls that leave its map in place.
 #[repr(C)]
 pub struct Word {
     pub(crate) at: *mut u8,

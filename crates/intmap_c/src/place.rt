@@ -1,7 +1,8 @@
 //! The call that gives the address of a value.
 //!
-//! C gives the map of a word away, and has the value at an address, with the right to give it up for
-//! the map, as [`lends_place`] says. It does so before it next passes the word to a call.
+//! The C program gives up the map of a word. It gets the address of a value, and the right to exchange
+//! that value for the map, as [`lends_place`] says. It must make the exchange before it next passes
+//! the word to a call.
 ghost use Rattle.std.specs.Prelude.{◌≡◌};
 ghost use Rattle.std.specs.Borrow.{sem};
 ghost use Rattle.std.specs.Option.{option_copied_mut};

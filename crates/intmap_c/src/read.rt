@@ -252,8 +252,8 @@ fn clone(alloc: Global, lent: LentMap<'_>, to: &mut Handle) -> i32
 }
 
 /// Makes a map in `to` with the same pairs in the same order, as many slots and the same load
-/// factor. If there is no map, `to` has none then. If `to` had a map, that map is freed. If an
-/// allocation fails, `to` stays.
+/// factor, and returns `OK`. If there is no map, `to` has none then. If `to` had a map, that map is
+/// freed. It fails only with `NO_MEMORY`, if an allocation fails, and then leaves `to`.
 #[unsafe(no_mangle)]
 pub unsafe extern "C" fn intmap_clone(alloc: Global, word: &Word, to: &mut Handle) -> i32
     ghost loan: { Loan }

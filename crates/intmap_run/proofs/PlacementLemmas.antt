@@ -274,7 +274,7 @@ module _ {K V S A : Type 0} (number : K → ℕ) (sees : V → S → Type 0) (ke
   kind s command.Collisions a t (inl h) = inr (inr (Keeps-list s command.Collisions a t (s) h.3 refl refl refl))
   kind s command.Collisions a t (inr h) = inr (inr (Keeps-list s command.Collisions a t (s) h.1 refl refl refl))
 
-  -- a run is at least as long as its start
+  -- the greatest length of a run is at least the length at its start
   greatest_length-start : (s : PlainList K V) (cs : List (Command K V A)) (as' : List (Answer K V S A)) (t : PlainList K V) (run : Runs number sees keeps s cs as' t)
       → length s.pairs ≤ greatest_length number sees keeps s cs as' t run
   greatest_length-start s [] as' t run = omega arith

@@ -60,8 +60,8 @@ pub fn keys_share_slots_by_residue<K: IntKey>()
 {}
 
 /// A removal takes the first pair of the key out of a list, and the last pair behind it whose key
-/// agrees with that one fills the hole. The relation says so without a recursion, and holds of the
-/// list that `take_key` gives alone.
+/// agrees with that key fills the hole. `Takes` says this without a recursion, and holds only of the
+/// list that `take_key` gives.
 pub fn removals_fill_the_hole<K: IntKey, V>()
     ensures { (C : ℕ) (L M : List (K × V)) (k : K) → Takes K.number_of L C k M
         ↔ (M ≡ take_key K.number_of L C k) }
@@ -137,7 +137,7 @@ pub fn lengths_are_the_same<K: IntKey, V>()
     ensures { (C : ℕ) (L M : List (K × V)) → StandForOne K.number_of C L M → length L ≡ length M }
 {}
 
-/// Lists that stand for one map have the same number of keys that share a slot with a key.
+/// Lists that stand for one map have, for each key, the same number of keys in its slot.
 pub fn class_sizes_are_the_same<K: IntKey, V>()
     ensures { (C : ℕ) (L M : List (K × V)) (k : K) → StandForOne K.number_of C L M
         → class_size K.number_of L C k ≡ class_size K.number_of M C k }

@@ -18,7 +18,7 @@ use intmap::{Cause, IntKey, IntMap, Refused};
 use std::alloc::Allocator;
 use std::mem;
 
-/// A list with room for at most twice so many commands gives no memory back.
+/// A list with room for at most twice this number of commands gives no memory back.
 const FEW: usize = 1024;
 
 /// Runs the commands in order, and returns one answer per command, in the same order.

@@ -55,7 +55,7 @@ module _ {K : Type 0} (number : K → ℕ) where
         let turned = length-common_of V W first second in
         omega (arith, alone, here, there, turned)
 
-    -- the intersection is as long in either order
+    -- whichever list gives its order, the intersection has as many members as `common_of V W`
     length-intersection_of : length (intersection_of number V W) ≡ length (common_of number V W)
     length-intersection_of = at (nat_lt (length W) (length V))
       where

@@ -28,11 +28,11 @@ module _ {K : Type 0} (number : K → ℕ) where
   abbrev pub common_of : List K → List K → List K
   common_of V W = filter (holds number W) V
 
-  -- the same, in the order of the shorter one, or of V if both are as long
+  -- the members that both have, in the order of the shorter list, or of V if both have the same length
   abbrev pub intersection_of : List K → List K → List K
   intersection_of V W = cond (nat_lt (length W) (length V)) (common_of W V) (common_of V W)
 
-  -- the longer one, or V if both are as long, and then the members that only the other has
+  -- the longer list, or V if both have the same length, and then the members that only the other list has
   abbrev pub union_of : List K → List K → List K
   union_of V W = cond (nat_lt (length V) (length W)) (W ++ difference_of V W) (V ++ difference_of W V)
 

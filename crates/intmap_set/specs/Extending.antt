@@ -70,7 +70,7 @@ module _ {K I : Type 0} (number : K → ℕ) (is_valid : K → Type 0) (steps : 
     pub extended : IsExtended number is_valid s keys t
 
   -- the keys that the iterator i gave were inserted in turn up to the first that failed, which is returned with the
-  -- cause and the number of those before it, or the greatest number there is if they were more; then it was looked up
+  -- cause and the number of keys before it, or 2^64 - 1 if there were more; the failed key was looked up too
   pub record ExtendsUpTo (i : I) (s : SetState K) (refused : RefusedPair K (Unit {0})) (t : SetState K) : Type 0 where
     pub keys : List K
     pub rest : I

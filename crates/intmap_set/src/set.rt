@@ -84,8 +84,8 @@ impl<K: IntKey, A: Allocator + Copy> IntSet<K, A> {
         self.map.capacity()
     }
 
-    /// Does nothing. Its contract says what holds of every set, for a function that calls nothing else
-    /// of which a proof could learn that.
+    /// Does nothing. Its contract says what holds of every set. A function calls it if no other call of
+    /// the function tells the proof so.
     fn known(&self)
         ensures valid { IsSet K.number_of K.is_valid self.now }
     {

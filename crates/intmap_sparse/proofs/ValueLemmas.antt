@@ -128,7 +128,7 @@ module _ (R S W : List (ℕ × ℤ)) (p : ℕ × ℤ) (a b : ℤ) (steps : R ≡
   fold-rest total left =
       ap (λ s. fold ◌+ℤ◌ s (products_along S W)) adds ∙ sym (ap (λ V. fold ◌+ℤ◌ a (products_along V W)) steps) ∙ left
 
-  -- and so does whether some partial sum is too wide
+  -- and so is whether some partial sum is too wide
   pub IsWideFrom-rest : (Q : Type 0) → FitsSigned w128 a → IsWideFrom a (products_along R W) ↔ Q → IsWideFrom b (products_along S W) ↔ Q
   IsWideFrom-rest Q fits wide =
       let behind = IsWideFrom-cons a (p.1 *ℤ value_at W p.0) (products_along S W) fits in (

@@ -48,6 +48,6 @@ IsPartialEquivalence-vectors_equal = record {
       equal-from_HaveSameValues u w (λ place. HaveSameValues-from_equal u v first place ∙ HaveSameValues-from_equal v w second place);
 }
 
--- and an equivalence
+-- equality of vectors is an equivalence
 pub IsEquivalence-vectors_equal : IsEquivalence vectors_equal
 IsEquivalence-vectors_equal = equiv IsPartialEquivalence-vectors_equal (λ v. equal-from_HaveSameValues v v (λ place. refl))

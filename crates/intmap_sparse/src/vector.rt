@@ -1,8 +1,9 @@
 //! The vector: a map from places to values other than 0.
-ghost use Rattle.std.specs.Prelude.{◌≡◌, ◌≢◌, ◌↔◌, ◌+◌, ◌<◌, ◌==◌, pos, ◌+ℤ◌, FitsSigned, IfOk, IfErr, IfSome, OnOk, OnErr, IsErrOf, IsNone, IsTrue, length, []};
+ghost use Rattle.std.specs.Prelude.{◌≡◌, ◌≢◌, ◌↔◌, ◌+◌, ◌<◌, ◌==◌, ℕ, ℤ, pos, ◌+ℤ◌, FitsSigned, IfOk, IfErr, IfSome, OnOk, OnErr, IsErrOf, IsNone, IsTrue, length, []};
 ghost use Rattle.std.specs.Int.{w64};
 ghost use Rattle.intmap.specs.Reach.{class_size};
 ghost use Rattle.intmap.specs.Growth.{IsNext};
+ghost use Rattle.intmap.specs.Iterating.{GivesEach, ShowsEach, shown_pair};
 ghost use Rattle.intmap_sparse.specs.Vectors.{value_at, IsAssignment, IsVector, HaveSameValues, IsBeyondRange, load_factor, product, products, products_along, HasWideSum, count_of_nonzero};
 
 mod equal;
@@ -213,6 +214,7 @@ impl<A: Allocator + Copy> SparseVec<A> {
     /// ```
     pub fn iter(&self) -> Iter<'_, u64, i64, A>
         ensures walk { result ≡ self.now.walk }
+        ensures runs { ShowsEach (shown_pair {K = ℕ} {V = ℤ}) }
         ensures valid { IsVector self.now.walk }
     {
         self.values.iter()
@@ -240,7 +242,10 @@ impl<A: Allocator + Copy> IntoIterator for SparseVec<A> {
 
     /// An iterator over the stored places and their values by value, in iteration order. Neither
     /// this call nor a step of the iterator fails.
-    fn into_iter(self) -> IntoIter<u64, i64, A> {
+    fn into_iter(self) -> IntoIter<u64, i64, A>
+        ensures into_iter_gives { result ≡ self.walk }
+        ensures runs { GivesEach (ℕ × ℤ) }
+    {
         self.values.into_iter()
     }
 }

@@ -12,7 +12,7 @@ status_of fault.Memory = 3
 status_of fault.Input = 4
 status_of fault.Output = 4
 
--- the line that says so, with the byte 10 at its end
+-- the line that reports the fault, with the byte 10 at its end
 abbrev pub report_of : Fault → List ℕ
 report_of (fault.NotACommand n) = codes "line " ++ decimal n ++ codes ": not a command" ++ 10 ∷ []
 report_of fault.Memory = codes "no memory" ++ 10 ∷ []

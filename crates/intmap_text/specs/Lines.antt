@@ -18,7 +18,7 @@ abbrev pub lines_left : Option (Bor (List ℕ)) → List (List ℕ)
 lines_left None = []
 lines_left (Some rest) = lines_in rest.now
 
--- what is between bytes 32, if it isn't empty
+-- the parts of a text between bytes 32, without the empty ones
 abbrev pub words_in : List ℕ → List (List ℕ)
 words_in text = filter is_filled (slice_split (λ b. b == 32) text)
 

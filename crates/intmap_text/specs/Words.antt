@@ -36,7 +36,7 @@ name_of command.Collisions = codes "collisions"
 abbrev pub keys_and_values : List (ℕ × ℕ) → List ℕ
 keys_and_values pairs = flat_map (λ p. p.0 ∷ p.1 ∷ []) pairs
 
--- the numbers that follow it
+-- the numbers behind the name of a command
 abbrev pub numbers_of : {A : Type 0} → Command ℕ ℕ A → List ℕ
 numbers_of (command.Insert k v) = k ∷ v ∷ []
 numbers_of (command.InsertChecked k v) = k ∷ v ∷ []

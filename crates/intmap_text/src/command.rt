@@ -1,5 +1,5 @@
 //! Commands from words.
-ghost use Rattle.std.specs.Prelude.{◌≢◌, ◌≤◌, ℕ, List, ◌∷◌, length, IfOk, IfSome, IfNone, codes};
+ghost use Rattle.std.specs.Prelude.{◌≡◌, ◌≢◌, ◌≤◌, ℕ, List, ◌∷◌, length, IfOk, IfSome, IfNone, OnErr, codes};
 ghost use Rattle.std.specs.List.{AllZip};
 ghost use Rattle.intmap_run.specs.declared.command.Command.{Command};
 ghost use Rattle.intmap_text.specs.Words.{keys_and_values};
@@ -33,6 +33,7 @@ pub fn command<A: Allocator>(
     ensures some { IfOk result (λ found. IfSome found (Says (name.now ∷ words.entry))) }
     ensures none { IfOk result (λ found. IfNone found
         ((c : Command ℕ ℕ A) → ¬ Says (name.now ∷ words.entry) c)) }
+    ensures memory { OnErr result (name.now ≡ codes "extend") }
 {
     if is_extend(name) {
         Ok(read_pairs(alloc, words)?.map(|pairs| Command::Extend(pairs)))

@@ -3,9 +3,10 @@
 //! `read_line` says which command a line spells, and `print_answer` writes an answer. `serve` reads
 //! a text to its end, runs the commands in its lines on an empty map, and writes one line for each
 //! answer. The caller provides the reader, the writers and the allocator: a program passes the real
-//! streams, a test passes streams in memory or streams that fail. Keys and values are `u64`. Each
-//! contract relates bytes to commands, answers to bytes, or bytes to bytes, so it fixes each byte
-//! that is read or written.
+//! streams, a test passes streams in memory or streams that fail. Keys and values are `u64`. The
+//! contracts say which bytes are a command, and fix each byte of the answers of a call that
+//! succeeds. Of a failed call they say at most that it wrote no answer, and outside of this crate
+//! nothing of the text that `serve` writes on `faults`.
 #![tactic(auto)]
 
 mod command;

@@ -1,5 +1,5 @@
 //! A command from a line.
-ghost use Rattle.std.specs.Prelude.{IfOk};
+ghost use Rattle.std.specs.Prelude.{◌≡◌, ℕ, List, ◌∷◌, IfOk, OnErr, codes};
 ghost use Rattle.intmap_text.specs.Lines.{words_of};
 ghost use Rattle.intmap_text.specs.Reading.{Reads};
 
@@ -21,9 +21,11 @@ pub enum Line<A: Allocator> {
 
 /// What the bytes of one line are, without the byte 10 that ends it.
 ///
-/// It fails if there is no memory for the pairs of a command.
+/// It fails only if the first word is `extend` and there is no memory for the pairs behind it.
 pub fn read_line<A: Allocator>(alloc: A, line: &[u8]) -> Result<Line<A>, AllocError>
-    ensures { IfOk result (Reads (words_of line.now)) }
+    ensures read { IfOk result (Reads (words_of line.now)) }
+    ensures memory { OnErr result ((rest : List (List ℕ))
+        × (words_of line.now ≡ codes "extend" ∷ rest)) }
 {
     let mut words = Words::new(line);
     let Some(name) = words.next() else {

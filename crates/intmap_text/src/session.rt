@@ -27,7 +27,7 @@ const DONE: u8 = 0;
 /// - 4: the input or the output failed; if it was the output, a part of the answers may be written.
 ///
 /// At every status except 0, it writes a line on `faults` that says what happened. Whether that
-/// line could be written changes nothing.
+/// line could be written changes nothing. At 0 it writes nothing there.
 pub fn serve<A: Allocator + Copy, R: Read, W: Write, E: Write>(
     alloc: A,
     input: &mut R,
@@ -40,6 +40,7 @@ pub fn serve<A: Allocator + Copy, R: Read, W: Write, E: Write>(
     ensures not_a_command { result ≡ 2 → IfSome (R.remaining input.old) (SpellsNone A) }
     ensures silent { (result ≡ 2) ⊎ (result ≡ 3)
         → Keeps (W.contents output.old) (W.contents output.new) }
+    ensures quiet { result ≡ 0 → Keeps (E.contents faults.old) (E.contents faults.new) }
 {
     match exchange(alloc, input, output) {
         Ok(()) => DONE,

@@ -64,7 +64,7 @@ impl<K: IntKey, A: Allocator + Copy> IntSet<K, A> {
     /// its `size_hint`, and then [`extend`](IntSet::extend), which counts what it compares. The
     /// iterator must end.
     ///
-    /// It fails if either call fails and for the same cause. Then it drops everything.
+    /// It fails if either call fails, with the same cause. A failed call drops everything.
     ///
     /// ```text
     /// let first = IntSet::from_iter(alloc, [1, 2].into_iter())?;

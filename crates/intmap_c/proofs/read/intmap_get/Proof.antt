@@ -58,7 +58,7 @@ intmap_get_spec {M = M} 𝓤 𝓛 𝓜 𝓡 wired =
     some (λ (ws : Lasts g.ended z.0.0 z.0.3). ‵ (lasts g.ended z.0.0 z.0.3 ws) ⊛ raw (fact 𝓤 (r ≡ value_found (bound_to (map_of m) k))))))) (id⊢ 𝓤 _) $
     await ! tt $ pick ! (λ r. split ! $ split ! $ split ! $ move ! (2 ∷ []) $ peeks ! Out (Is Out) (shows 𝓛 Out) r (v ∷ []) (λ is.
     lands_as ! refl refl ((answer_laws.the_row_laws.lawful 𝓛).typed r (v ∷ []) is).0 $ returns ! (look_at ! 0 refl) $ free_all ! refl $
-    -- [the number; the token of the loan; nothing; what the callee left and says; what stays lent; the token of the `&`; ..]
+    -- [the result; the token of the loan; nothing; what the callee left and says; what stays lent; the token of the `&`; ..]
     move ! (3 ∷ []) $ pick ! (λ ws. split ! $ drop ! $ heard ! _ (λ told.
     keep ! (1 ∷ 3 ∷ 0 ∷ 4 ∷ []) $ fjoin ! $ move ! (1 ∷ []) $
     suffices ! _ (ends_at 𝓛 f.ended stayed c y v r (tt, (tt, tt)) (tt, (tt, tt))) $

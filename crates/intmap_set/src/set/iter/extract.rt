@@ -55,7 +55,8 @@ impl<K: IntKey, A: Allocator + Copy> IntSet<K, A> {
     }
 
     /// Removes the first member that the closure picks, of those from the cursor on, and returns it.
-    /// The cursor moves on to the one behind it. As many members are `before` it.
+    /// The cursor moves on to the member behind it, and `before` becomes the number of members before
+    /// the cursor.
     fn extract_next<F: FnMut(K) -> bool>(
         &mut self,
         at: &mut Cursor,

@@ -13,7 +13,7 @@ pub loop-line-preserved-in-Blank : goal.loop-line-preserved-in-Blank
 loop-line-preserved-in-Blank g c =
     let loop = c.loop-line in
     let line = c.in-Some.line in
-    let blank = rw c.in-Blank.is at c.in_ok-read_line.ensures in
+    let blank = rw c.in-Blank.is at c.in_ok-read_line.ensures.read in
     record {
       said = blank_more loop.yielded line loop.found.items loop.invariant.said blank;
       left =
@@ -26,7 +26,7 @@ loop-line-preserved g c =
     let loop = c.loop-line in
     let line = c.in-Some.line in
     let command = c.in-Command.command in
-    let says = rw c.in-Command.is at c.in_ok-read_line.ensures in
+    let says = rw c.in-Command.is at c.in_ok-read_line.ensures.read in
     record {
       said =
           rw c.in_ok-push-in-Command.ensures.items
@@ -43,4 +43,4 @@ returns-in-Unknown-clause-err g c =
     loop.found.items
     (rw c.loop-line.invariant.left (rw c.in-Some.ensures.steps refl))
     loop.invariant.counted loop.invariant.said
-    (rw c.in-Unknown.is at c.in_ok-read_line.ensures)
+    (rw c.in-Unknown.is at c.in_ok-read_line.ensures.read)

@@ -37,7 +37,7 @@ impl<K: IntKey, A: Allocator + Copy> IntSet<K, A> {
     /// its `size_hint`, and then [`extend`](IntSet::extend), which counts what it compares. The
     /// iterator must end.
     ///
-    /// It fails if either call fails and for the same cause. Then it drops everything.
+    /// It fails if either call fails, with the same cause. A failed call drops everything.
     pub fn from_iter<I: Iterator<Item = K>>(alloc: A, iter: I) -> Result<IntSet<K, A>, Cause> {
         let (lower, _) = iter.size_hint();
         let mut set = IntSet::with_capacity(alloc, lower)?;
