@@ -1,6 +1,4 @@
 """Tries the library for C as it is printed, for tools/printed, beside the archive that was built."""
-import os
-import re
 import shutil
 
 from crates import GIVEN_IN_C, PRINTED_IN_C, kit, skip, text_of, told

@@ -2,7 +2,7 @@
 
 /// Declares structs of one field, a key, that are keys themselves. Each has `Clone`, `Copy`,
 /// `PartialEq` and `Eq`, so don't derive these yourself. Derive others above it, such as `Debug`. A
-/// key has the number of its field, so equal numbers are of equal keys.
+/// key has the number of its field, so keys with equal numbers are equal.
 ///
 /// ```
 /// use intmap_proved::{IntMap, int_key};
@@ -31,8 +31,8 @@
 /// # Keys that strangers choose
 ///
 /// Whoever chooses the keys can choose thousands of one slot, and then each call compares thousands
-/// of keys. `scrambled by` a secret, a key has the number that [`scramble`](crate::scramble) makes
-/// of that of its field, so which keys share a slot depends on the secret. The secret is an
+/// of keys. With `scrambled by` and a secret, [`scramble`](crate::scramble) makes a key's number of
+/// the secret and the number of the field. So the secret decides which keys share a slot. It is an
 /// expression, which each call on a key evaluates. It must be the same number as long as there are
 /// maps with such keys, so take a `static`:
 ///
@@ -84,7 +84,7 @@ macro_rules! int_key {
 ///
 /// It is the mixing of SplitMix64 behind an exclusive or with the secret. In a test, fewer than 10 of
 /// 1,000 keys with 12, 32 or 44 equal low bits share a slot. It is no cipher, and nobody has shown
-/// that who doesn't know the secret can't choose many keys of one slot. Who sees the order of
+/// that someone without the secret can't choose many keys of one slot. Whoever sees the order of
 /// iteration, or measures the time of calls, may learn the secret, or enough of it to choose such
 /// keys. Where that matters, or one secret serves many parties, take std's map with its
 /// `RandomState`.

@@ -67,11 +67,10 @@
 //! A call that may allocate has two forms. [`try_insert`](IntMap::try_insert) returns the failure
 //! and hands the value back, and the map is as it was, but may keep memory that it was granted
 //! before. [`insert`](IntMap::insert) does what std's collections do: if an allocation fails, it
-//! calls `handle_alloc_error`, which ends the process, and if the map would need more than 2^63
-//! slots, it panics. The message of the former names the size of one word, whatever was requested.
-//! The operators of sets, such as `|`, and `clone_from` have this form alone;
-//! [`IntSet::try_from_iter`] of the members and [`try_clone`](IntMap::try_clone) stand for the
-//! other. All other calls allocate nothing: lookups, removals, `retain`, `clear`, and all iterators.
+//! calls `handle_alloc_error`, which ends the process with a message that names the size of one word,
+//! whatever was requested. If the map would need more than 2^63 slots, it panics. The operators of
+//! sets, such as `|`, and `clone_from` have no `try_` form: take [`IntSet::try_from_iter`] of the
+//! members, and [`try_clone`](IntMap::try_clone). All other calls allocate nothing: lookups, removals, `retain`, `clear`, and all iterators.
 //!
 //! ```
 //! use intmap_proved::{Cause, IntMap, Refused};

@@ -186,7 +186,7 @@ impl<K: IntKey, V> IntMap<K, V> {
     }
 
     /// Returns references to the key and the value of the pair that iteration visits first, or
-    /// `None` if the map is empty. Its key isn't the least. The cost is *O*(1 + *c*/64).
+    /// `None` if the map is empty. Its key need not be the least. The cost is *O*(1 + *c*/64).
     ///
     /// Proved of `IntMap::first_key_value`: `value`.
     ///

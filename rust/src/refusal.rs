@@ -5,7 +5,8 @@ use core::alloc::Layout;
 #[doc(inline)]
 pub use crate::proved::map::{Cause, Refused, RefusedPair};
 
-/// What a call returned that didn't fail. A failure is handled as std's collections do it.
+/// Returns what a successful call returned. A failure ends the process or panics, as in std's
+/// collections.
 #[inline(always)]
 pub(crate) fn granted<T, E: Into<Cause>>(result: Result<T, E>) -> T {
     match result {

@@ -13,7 +13,8 @@ pub(crate) fn slots_for(pairs: usize, factor: usize) -> usize {
     usize::try_from(least).unwrap_or(usize::MAX)
 }
 
-/// A load factor in thousandths. A debug build tells what is no number of pairs for each slot.
+/// Returns a load factor in thousandths, cut to a whole number. A debug build panics at 10 or more,
+/// and at a `NaN`.
 #[track_caller]
 pub(crate) fn thousandths_of(load_factor: f32) -> usize {
     debug_assert!(

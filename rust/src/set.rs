@@ -104,9 +104,9 @@ impl<K: IntKey> IntSet<K> {
         granted(self.try_insert(key))
     }
 
-    /// The same as [`insert`](Self::insert), or [`Cause::TooLarge`] if the set needs more than 2^63
-    /// slots or 2^64 members, [`Cause::Memory`] if an allocation fails. The set then stays as it
-    /// was. It never fails if the key is a member, nor if no member shares its slot and the capacity
+    /// The same as [`insert`](Self::insert), or [`Cause::TooLarge`] if the set would need more than
+    /// 2^63 slots or have 2^64 members, [`Cause::Memory`] if an allocation fails. The set then stays as
+    /// it was. It never fails if the key is a member, nor if no member shares its slot and the capacity
     /// stays.
     ///
     /// Proved of `IntSet::insert`: `new`, `inserted`, `state`, `err`, `refused`, `succeeds`.

@@ -29,7 +29,7 @@
 //!
 //! # Texts from strangers
 //!
-//! Who writes a text can choose keys that share one slot. Reading *n* of them takes time in the
+//! Whoever writes a text can choose keys that share one slot. Reading *n* of them takes time in the
 //! square of *n*: a text of 1 MB took more than a second.
 //! [`int_key!`](intmap_proved::int_key) declares types of keys that are scrambled by a secret, and
 //! may derive serde's traits; the README has an example.

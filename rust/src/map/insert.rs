@@ -27,7 +27,7 @@ impl<K: IntKey, V> IntMap<K, V> {
     }
 
     /// The same as [`insert`](Self::insert), but it returns a failure, with the value:
-    /// [`TooLarge`](crate::Cause::TooLarge) if the map needs more than 2^63 slots or 2^64 pairs,
+    /// [`TooLarge`](crate::Cause::TooLarge) if the map would need more than 2^63 slots or have 2^64 pairs,
     /// [`Memory`](crate::Cause::Memory) if an allocation fails. The map then stays as it was. It
     /// never fails if the key is present, nor if no other key shares its slot and the capacity stays.
     ///

@@ -67,9 +67,10 @@ impl<K: IntKey, V> IntMap<K, V> {
         self.try_reserve(slots.saturating_sub(self.len()))
     }
 
-    /// Makes the capacity the least power of two in which the pairs meet the load factor, or leaves
-    /// it if it is that. Order, cost and failures are those of [`shrink_to`](Self::shrink_to), and
-    /// [`try_shrink_to_fit`](Self::try_shrink_to_fit) returns a failure.
+    /// Makes the capacity the least power of two, from 2 on, in which the pairs meet the load
+    /// factor, or leaves it if it is that. Order, cost and failures are those of
+    /// [`shrink_to`](Self::shrink_to), and [`try_shrink_to_fit`](Self::try_shrink_to_fit) returns a
+    /// failure.
     ///
     /// ```
     /// let mut map: intmap_proved::IntMap<u64, u64> = (0..1000).zip(0..).collect();
@@ -87,9 +88,9 @@ impl<K: IntKey, V> IntMap<K, V> {
         self.try_shrink_to(0)
     }
 
-    /// Makes the capacity the least power of two that is at least `min_capacity` and in which the
-    /// pairs meet the load factor. A smaller capacity stays. The cost is *O*(*n s* + *c*), or *O*(1)
-    /// if the capacity stays.
+    /// Makes the capacity the least power of two, from 2 on, that is at least `min_capacity` and in
+    /// which the pairs meet the load factor. A smaller capacity stays. The cost is *O*(*n s* +
+    /// *c*), or *O*(1) if the capacity stays.
     ///
     /// The map then has the order of a new one of that capacity into which the pairs were inserted
     /// in iteration order. The load factor stays. For a while there are both maps. The new slots are

@@ -30,7 +30,7 @@ impl<K: IntKey, V> IntMap<K, V> {
         self.map.is_empty()
     }
 
-    /// Returns the number of slots, a power of two. The cost is *O*(1).
+    /// Returns the number of slots, a power of two from 2 to 2^63. The cost is *O*(1).
     ///
     /// Unlike std's, it isn't the number of pairs for which there is room: it says which keys share
     /// a slot.

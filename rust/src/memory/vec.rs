@@ -24,13 +24,6 @@ impl<T, A: Allocator> Vec<T, A> {
         Ok(made)
     }
 
-    /// A vector of these items.
-    pub fn from_array<const N: usize>(alloc: A, items: [T; N]) -> Result<Vec<T, A>, AllocError> {
-        let mut made = Vec::with_capacity(alloc, N)?;
-        made.items.extend(items);
-        Ok(made)
-    }
-
     /// A copy of the items.
     pub fn from_slice(alloc: A, items: &[T]) -> Result<Vec<T, A>, AllocError>
     where

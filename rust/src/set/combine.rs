@@ -80,7 +80,8 @@ impl<K: IntKey> IntSet<K> {
         self.set.is_subset(&other.set)
     }
 
-    /// Returns whether each member of `other` is one of this set.
+    /// Returns whether each member of `other` is one of this set. It looks the members of `other` up in
+    /// turn, up to the first that is absent from this set.
     ///
     /// Proved of `IntSet::is_superset`: `value`.
     ///

@@ -35,7 +35,8 @@ impl<K: IntKey> IntSet<K> {
         guarded!(&mut self.set, |set| set.retain(keep))
     }
 
-    /// Removes all members. The capacity and the memory stay. The cost is *O*(*n* + *c*).
+    /// Removes all members. The capacity, the load factor and the memory stay. The cost is
+    /// *O*(*n* + *c*).
     ///
     /// Proved of `IntSet::clear`: `state`, `updates`, `len`.
     ///
@@ -49,7 +50,7 @@ impl<K: IntKey> IntSet<K> {
     }
 
     /// Returns an iterator that removes one member at each step and returns it, in iteration order.
-    /// The members that it didn't return stay, in their order. The capacity stays.
+    /// The members that it didn't return stay, in their order. The capacity and the load factor stay.
     ///
     /// A step costs *O*(*s*), all of them with the look for the next slots *O*(*n s* + *c*).
     ///

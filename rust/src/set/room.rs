@@ -5,7 +5,7 @@ use crate::refusal::{Cause, granted};
 use crate::room::{FIRST_FACTOR, LEAST_SLOTS, slots_for, thousandths_of};
 
 impl<K: IntKey> IntSet<K> {
-    /// Returns the number of slots, a power of two. The cost is *O*(1).
+    /// Returns the number of slots, a power of two from 2 to 2^63. The cost is *O*(1).
     ///
     /// Proved of `IntSet::capacity`: `value`.
     ///
@@ -159,9 +159,10 @@ impl<K: IntKey> IntSet<K> {
         self.set.load()
     }
 
-    /// Makes the capacity the least power of two in which the members meet the load factor, or
-    /// leaves it if it is that. Order, cost and failures are those of [`shrink_to`](Self::shrink_to),
-    /// and [`try_shrink_to_fit`](Self::try_shrink_to_fit) returns a failure.
+    /// Makes the capacity the least power of two, from 2 on, in which the members meet the load
+    /// factor, or leaves it if it is that. Order, cost and failures are those of
+    /// [`shrink_to`](Self::shrink_to), and [`try_shrink_to_fit`](Self::try_shrink_to_fit) returns a
+    /// failure.
     ///
     /// ```
     /// let mut set: intmap_proved::IntSet<u64> = (0..1000).collect();
@@ -179,9 +180,9 @@ impl<K: IntKey> IntSet<K> {
         self.try_shrink_to(0)
     }
 
-    /// Makes the capacity the least power of two that is at least `min_capacity` and in which the
-    /// members meet the load factor. A smaller capacity stays. The cost is *O*(*n s* + *c*), or
-    /// *O*(1) if the capacity stays.
+    /// Makes the capacity the least power of two, from 2 on, that is at least `min_capacity` and in
+    /// which the members meet the load factor. A smaller capacity stays. The cost is *O*(*n s* +
+    /// *c*), or *O*(1) if the capacity stays.
     ///
     /// The set then has the order of a new one of that capacity into which the members were inserted
     /// in iteration order. The load factor stays. For a while there are both sets. As in a map, the

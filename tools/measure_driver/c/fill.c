@@ -1,5 +1,5 @@
 // Fills one of several maps of C, and ends while it is full, so that its bytes can be counted. The arguments are those
-// of the program in Rust beside it; without any it prints the maps' names.
+// of tools/measure_driver/rust/main.rs; without any it prints the maps' names.
 #include "intmap.h"
 #include <stdio.h>
 #include <stdlib.h>

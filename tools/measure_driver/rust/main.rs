@@ -1,5 +1,5 @@
-//! Times the calls of one of several maps of Rust from `u64` to `u64`, one phase after another. It takes the same
-//! arguments as the program beside this one, and prints the same lines, and more.
+//! Times the calls of one of several maps of Rust from `u64` to `u64`, one phase after another. It takes the
+//! arguments of tools/measure_driver/src/main.rt.txt, and prints the same lines, and more.
 use std::collections::HashMap;
 use std::env;
 use std::hash::{BuildHasherDefault, Hasher};
