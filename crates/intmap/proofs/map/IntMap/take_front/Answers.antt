@@ -25,6 +25,7 @@ returns-in_default g c =
       len = rw same (add-zero _);
       passed = told.passed;
       slot = tt;
+      stays = told.stays;
       valid = c.self.invariant.map;
       valid_after = rw (same, told.capacity) c.self.invariant.map;
     }
