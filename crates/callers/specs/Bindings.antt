@@ -9,11 +9,11 @@ module _ {V : Type 0} where
   abbrev pub value_at : List (ℕ × V) → ℕ → Option V
   value_at L n = value_of (λ key. key) L n
 
-  -- every number but one has what it had
+  -- every number but n has the value that it had
   abbrev pub OthersStay : List (ℕ × V) → List (ℕ × V) → ℕ → Type 0
   OthersStay before after n = (q : ℕ) → q ≢ n → value_at after q ≡ value_at before q
 
-  -- every number has what it had
+  -- every number has the value that it had
   abbrev pub AllStay : List (ℕ × V) → List (ℕ × V) → Type 0
   AllStay before after = (q : ℕ) → value_at after q ≡ value_at before q
 
@@ -22,7 +22,7 @@ module _ {K : Type 0} (number : K → ℕ) where
   abbrev pub count_of : List (K × ℕ) → K → ℕ
   count_of L k = unwrap_or (value_of number L k) 0
 
-  -- what was never counted has no pair
+  -- no pair has the count 0
   abbrev pub HasNoZeros : List (K × ℕ) → Type 0
   HasNoZeros L = (k : K) → value_of number L k ≢ Some 0
 
@@ -44,8 +44,8 @@ module _ {V : Type 0} where
   abbrev pub pairs_of : List (Waiting V) → List (ℕ × V)
   pairs_of waiting = map (λ w. (w.key, w.value)) waiting
 
-  -- of the pairs that came, some were moved into the map and the others wait: each of them as often as it came. The map
-  -- binds what was moved, the first of a key, over what it bound before
+  -- of the pairs that came, some were moved into the map and the others wait: each of them as often as it came. A key
+  -- has the value of the first moved pair with this key, or, if there is none, the value that it had
   pub record Moves (came before waits after : List (ℕ × V)) : Type 0 where
     pub moved : List (ℕ × V)
     pub none_lost : (test : ℕ × V → Bool) → count_by test came ≡ count_by test moved + count_by test waits

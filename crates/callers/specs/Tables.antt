@@ -15,7 +15,7 @@ module _ {V : Type 0} where
   GivesBack value (Taken v) = v ≡ value
   GivesBack value (Refused refused) = refused.value ≡ value
 
--- the pairs have the numbers below their length, and in C slots one each
+-- the keys of the pairs are the numbers below the number of pairs, and each pair has a slot of its own among C
 pub record IsDense {V : Type 0} (W : List (ℕ × V)) (C : ℕ) : Type 0 where
   pub room : length W ≤ C
   pub below : All (λ p. p.0 < C) W

@@ -81,7 +81,7 @@ pub fn rooms<A: Allocator + Copy>(house: &IntMap<i64, u64, A>, floor: i64) -> Op
 
 /// Notes the number of rooms on a floor, and returns the number noted before.
 ///
-/// It fails if there is no memory. Each floor then keeps its number.
+/// It fails if the insertion of a new floor fails. Each floor then keeps its number.
 pub fn note_rooms<A: Allocator + Copy>(
     house: &mut IntMap<i64, u64, A>,
     floor: i64,

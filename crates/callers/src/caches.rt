@@ -66,11 +66,12 @@ pub fn square_by_entry<A: Allocator + Copy>(
     known_or_squared(table, x)
 }
 
-// A cache of limited size: the first pair makes room for a new one.
+// A cache of limited size: if it is full, an insertion first removes the first pair.
 
-/// Gives a key its value. If there are as many pairs as the limit, the first one goes before.
+/// Gives a key its value. If there are as many pairs as the limit, the first pair is removed first,
+/// even if the key is present.
 ///
-/// It fails if the insertion fails.
+/// It fails if the insertion fails. The removed pair is then gone all the same.
 pub fn keep<A: Allocator + Copy>(
     cache: &mut IntMap<u64, u64, A>,
     limit: usize,

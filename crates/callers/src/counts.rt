@@ -68,8 +68,8 @@ pub fn count_by_get_mut<A: Allocator + Copy>(
     Ok(())
 }
 
-/// Counts one occurrence of the number, and the sum of all counts rises by one as well. No count is
-/// above that sum, so it fits.
+/// Counts one occurrence of the number. The sum of all counts rises by one too. No count is above
+/// that sum, so the new count fits.
 ///
 /// It fails if the insertion of a new number fails.
 pub fn count_within_sum<A: Allocator + Copy>(
@@ -91,7 +91,7 @@ pub fn count_within_sum<A: Allocator + Copy>(
 /// Each number of the slice, with how often it occurs there. The counts add up to how many numbers
 /// there are.
 ///
-/// It fails if the insertion of a new number fails.
+/// It fails if the map can't be made or the insertion of a new number fails.
 pub fn tally_by_entry<A: Allocator + Copy>(
     alloc: A,
     numbers: &[u64],

@@ -1,4 +1,4 @@
-//! What a map is once an entry of it has ended, whatever the type of its keys.
+//! Calls by entries: what they return, and what the map is once its entry has ended.
 ghost use Rattle.std.specs.Prelude.{◌*◌, ◌+◌, ◌-◌, ◌<◌, ◌^◌, ◌≡◌, IfErr, IfOk, IfSome, None, OnErr, OnOk, Some, false, unwrap_or};
 ghost use Rattle.intmap.specs.Bindings.{Updates, value_of};
 ghost use Rattle.intmap.specs.Classes.{same_key};

@@ -7,7 +7,8 @@ use std::alloc::Allocator;
 
 /// Marks a node, and puts it into the queue if it is new.
 ///
-/// It fails if there is no memory.
+/// It fails if there is no memory for the queue, or if the insertion of a new node fails. In the
+/// second case the node stands in the queue, unmarked.
 pub fn visit<A: Allocator + Copy>(
     visited: &mut IntMap<u64, (), A>,
     queue: &mut Vec<u64, A>,
@@ -29,7 +30,8 @@ pub fn visit<A: Allocator + Copy>(
 
 /// The same by `insert_checked`, with one search.
 ///
-/// It fails if there is no memory.
+/// It fails if the insertion of a new node fails, or if there is no memory for the queue. In the
+/// second case the node is marked and isn't in the queue, so another call doesn't put it there.
 pub fn visit_once<A: Allocator + Copy>(
     visited: &mut IntMap<u64, (), A>,
     queue: &mut Vec<u64, A>,
@@ -45,7 +47,8 @@ pub fn visit_once<A: Allocator + Copy>(
     Ok(())
 }
 
-/// The root of a node: it follows parents while they are smaller.
+/// The root of a node, to which the parents lead. Each parent is smaller than its child, so this
+/// ends.
 pub fn root<A: Allocator + Copy>(parents: &IntMap<u64, u64, A>, node: u64) -> u64
     requires { (q p : ℕ) → value_of (λ k. k) parents.now.walk q ≡ Some p → p < q }
     ensures { value_of (λ k. k) parents.now.walk result ≡ None }

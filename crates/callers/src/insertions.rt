@@ -200,8 +200,8 @@ pub fn move_into<V: Drop, A: Allocator + Copy>(
     Ok(())
 }
 
-/// Inserts the pair, or lets it wait if the insertion fails. There is room for it to wait. If the
-/// pair was the last of those that were still to be moved, there is one fewer.
+/// Inserts the pair, or lets it wait if the insertion fails. There must be room for a waiting pair.
+/// The clause `moved` takes this pair off the end of the pairs that are left.
 fn bind<V: Drop, A: Allocator + Copy>(
     map: &mut IntMap<u64, V, A>,
     key: u64,

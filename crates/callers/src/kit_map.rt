@@ -1,5 +1,8 @@
-//! Texts by number: a caller written for the kit's map. Compared with the source for a
-//! `HashMap<u64, String>`, only the types, the places of `?`, and keys passed by value are changed.
+//! Texts by number, from a source for the kit's `HashMap<u64, String>`. Only three things were
+//! changed: the types, the places of `?`, and keys, which are passed by value here.
+//!
+//! A call that returns a `Result` fails if there is no memory or the map would be too large.
+//! `missing` and `first_length` never fail.
 ghost use Rattle.std.specs.Prelude.{◌≡◌, IfOk, IfSome, IsSome, None, Some, unwrap_or, string_len};
 ghost use Rattle.std.specs.Map.{keys_of, values_of};
 ghost use Rattle.intmap.specs.Bindings.{value_of, Updates};

@@ -1,4 +1,7 @@
-//! Callers of a map from integer keys. The contract of each says in its own words what it does.
+//! Callers of maps, sets, runs and sessions. The contract of each says in its own words what is
+//! proved of it. Some functions of `kit_map` have no contract: they only show that a source for the
+//! kit's map compiles. Those of `walks` that write by `iter_mut` or `values_mut` don't say which
+//! values they write, since no clause of these two calls tells that.
 #![tactic(auto)]
 
 pub mod bindings;

@@ -58,9 +58,11 @@ pub fn forget_both<V: Drop, A: Allocator + Copy>(map: &mut IntMap<u64, V, A>, a:
     map.remove(b);
 }
 
-/// Gives the value of a key to a new key, and returns whether the first was present.
+/// Removes the key `from`, gives its value to the key `to`, and returns whether `from` was present.
+/// A value that `to` had is then dropped.
 ///
-/// It fails if the insertion of the new key fails, and returns the value.
+/// It fails if the insertion of a new key `to` fails, and returns the value. The key `from` is then
+/// absent.
 pub fn rename<V: Drop, A: Allocator + Copy>(
     map: &mut IntMap<u64, V, A>,
     from: u64,
@@ -81,7 +83,8 @@ pub fn rename<V: Drop, A: Allocator + Copy>(
     Ok(true)
 }
 
-/// Moves a number to another map: it is inserted there before it is removed here.
+/// Moves a number to another map: it is inserted there before it is removed here. It returns
+/// whether the key was present.
 ///
 /// It fails if the insertion fails. Both maps then stay.
 pub fn move_number<A: Allocator + Copy>(
@@ -105,8 +108,8 @@ pub fn move_number<A: Allocator + Copy>(
     Ok(true)
 }
 
-/// Moves an owned value to another map. Its key shares its slot with none, so the value goes back
-/// if it can't be inserted there, and nothing is lost.
+/// Moves an owned value to another map, and returns whether the key was present. The key shares its
+/// slot with none, so the value goes back if it can't be inserted there, and nothing is lost.
 ///
 /// It fails if the insertion fails. Each key then has the value that it had.
 pub fn move_owned<V: Drop, A: Allocator + Copy>(

@@ -83,7 +83,8 @@ pub fn keep_rising<A: Allocator + Copy>(map: &mut IntMap<u64, u64, A>)
     map.retain(|key, value| key < *value);
 }
 
-/// Keeps the pairs that a closure picks. No key comes.
+/// Keeps the pairs whose value is at least `least`, and drops the others. An absent key stays
+/// absent.
 pub fn keep_some<K: IntKey, A: Allocator + Copy>(map: &mut IntMap<K, u64, A>, least: u64)
     ensures none_comes { (q : K) → value_of K.number_of map.old.walk q ≡ None
         → value_of K.number_of map.new.walk q ≡ None }
@@ -96,7 +97,9 @@ pub fn keep_some<K: IntKey, A: Allocator + Copy>(map: &mut IntMap<K, u64, A>, le
 /// What a name stands for, and the depth of the scope that declared it.
 #[derive(Clone, Copy)]
 pub struct Symbol {
+    /// The depth of the scope that declared the name.
     pub depth: u64,
+    /// What the name stands for.
     pub value: u64,
 }
 

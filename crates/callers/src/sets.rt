@@ -1,6 +1,6 @@
 //! Facts of sets that a caller draws from their clauses and laws: when the next member grows the
-//! table, when there is room for it, and how many members two sets have together, in common and
-//! apart.
+//! table, when there is room for it, how many members two sets have together, in common and apart,
+//! which members a set made of two has, and how many of some numbers are distinct.
 ghost use Rattle.std.specs.Prelude.{◌+◌, ◌<◌, ◌||◌, ◌↔◌, ◌≡◌, ◌≤◌, IfErr, IfOk, IfSome, IsErrOf, IsTrue, OnOk, length, not};
 ghost use Rattle.intmap.specs.Growth.{IsNext, MeetsLoad};
 ghost use Rattle.intmap.specs.Map.{IsCapacityAfter, IsOutOfRange};

@@ -139,7 +139,8 @@ impl<V: Drop, A: Allocator + Copy> Dense<V, A> {
 
     /// Gives the value the next number, and returns that number.
     ///
-    /// It fails if there is no memory, and returns the value. Each number then keeps its value.
+    /// It fails if there is no memory, or if the table would need more than 2^63 slots, and returns
+    /// the value. Each number then keeps its value.
     pub fn add(&mut self, value: V) -> Result<u64, Refused<V>>
         ensures next { IfOk result (λ number. number ≡ length self.old) }
         ensures len { OnOk result (length self.new ≡ length self.old + 1) }

@@ -67,9 +67,10 @@ impl IntKey for Cell {
     }
 }
 
-/// Writes a value into the cell of a sheet, and returns the one that was there.
+/// Writes a value into the cell of a sheet, and returns the value that was there, if there was one.
 ///
-/// Err: there was no room; each cell has what it had.
+/// It fails if there is no memory, or if the map would be too large. Each cell then keeps its
+/// value.
 pub fn write<V: Drop, A: Allocator + Copy>(
     sheet: &mut IntMap<Cell, V, A>,
     cell: Cell,

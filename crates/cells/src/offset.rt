@@ -5,7 +5,8 @@ ghost use Rattle.std.specs.Prelude.{◌≡◌};
 use intmap::IntKey;
 use std::marker::Model;
 
-/// How many rows a row is below another one; below zero if it is above that one. Contracts see it as an integer.
+/// How many rows one row lies under another. The number is negative if the row lies above.
+/// Contracts see an integer.
 #[derive(Clone, Copy, PartialEq, Eq, Debug)]
 pub struct Offset {
     rows: i64,
@@ -22,7 +23,7 @@ impl Model for Offset {
 }
 
 impl Offset {
-    /// The offset of so many rows.
+    /// The offset of `rows` rows.
     pub fn new(rows: i64) -> Offset
         ensures offset { result ≡ rows }
     {

@@ -7,7 +7,7 @@ use std::alloc::Allocator;
 
 /// Gives the key the value.
 ///
-/// Err: the insertion failed, and this is the value. Every key has what it had.
+/// It fails if the insertion fails, and returns the value. Each key then keeps its value.
 pub fn insert_or_return<V: Drop, A: Allocator + Copy>(
     map: &mut IntMap<u64, V, A>,
     key: u64,

@@ -1,6 +1,7 @@
-//! Small tasks with maps: a function for each in a module, and here what it gives.
+//! Small tasks with maps. Each is a function of a module, or of the crate `cells`. This file prints
+//! what they give.
 //!
-//! Run it by `rt run` in this folder. It reads nothing.
+//! Run it by `rt try` in this folder, or by `rt run`, which proves it first. It reads nothing.
 #![tactic(auto)]
 
 use crate::fixed::FixedMap;

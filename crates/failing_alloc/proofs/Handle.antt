@@ -1,4 +1,4 @@
--- What both walks find behind `&self`: the allocator in `inner`, and the counts in `counts`.
+-- What both proofs by hand find behind `&self`: the allocator in `inner`, and the counts in `counts`.
 use Rattle.failing_alloc.proofs.Steps.{ℕ, ◌+◌, List, [], ◌∷◌, Al, seen, ftrue, fsep, flft, Fml, align, size, ‵, ◌⊛◌, ◌$◌, ◌∵◌, !, qed, done, move, keep, split, fsplit, plain, Val}
 use Rattle.std.proofs.Common.{Bor}
 use Rattle.std.proofs.alloc.Calls.{α}

@@ -1,4 +1,4 @@
--- Passes on the names that the walks cite.
+-- Passes on the names that the proofs by hand cite.
 pub use Rattle.std.proofs.Common.{Bool, ◌≡◌, ℕ, ◌+◌, ◌^◌, List, [], ◌∷◌, true, false, Ok, Err, refl, ap, w64}
 pub use Rattle.std.proofs.raw_atomic.Walks.{leaves, proved}
 pub use Rattle.std.proofs.VecSteps.Shapes.{after, arm_body, front}

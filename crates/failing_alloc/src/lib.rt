@@ -38,11 +38,11 @@ struct Counts {
     most: Cell<u64>,
     /// How many allocations were made to fail since `fail_above`.
     failures: Cell<u64>,
-    /// The bytes that were granted since then, before the first of these.
+    /// The bytes that were granted since `fail_above`, before the first of these failures.
     granted: Cell<u64>,
     /// The blocks that were returned and not handed back.
     blocks: Cell<u64>,
-    /// Their bytes.
+    /// The bytes of the blocks that were not handed back.
     bytes: Cell<u64>,
 }
 
@@ -89,8 +89,8 @@ impl<B: Allocator> FailingAlloc<B> {
         self.counts.granted.get()
     }
 
-    /// Returns how many allocations away the failing one of `arm` is: 1 if the next one fails. It is 0
-    /// if none will fail, because one has failed already or none was to fail.
+    /// Returns how many allocations away the one is that `new` or `arm` makes fail: 1 if it is the
+    /// next. It is 0 if that one has failed already, or if none was to fail.
     pub fn left(&self) -> u64 {
         self.counts.left.get()
     }
@@ -116,7 +116,7 @@ impl<B: Allocator> Drop for FailingAlloc<B> {
 }
 
 impl Counts {
-    // counts one allocation of so many bytes, and returns whether it is to fail
+    // counts one allocation of `size` bytes, and returns whether it is to fail
     fn request(&self, size: usize) -> bool {
         let before = self.left.get();
         self.left.set(before.saturating_sub(1));

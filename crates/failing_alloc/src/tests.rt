@@ -98,8 +98,8 @@ fn what_the_allocator_inside_refuses_is_not_alive(rt: HostRuntime) {
     assert_eq!(rt; refused_inside(&inner), (true, (0, 0)));
 }
 
-// makes a list with room for so many numbers: whether that failed, how many allocations did, and how many
-// bytes were granted
+// makes a list with room for `room` numbers: whether that failed, how many allocations did, and how
+// many bytes were granted
 fn list_of(memory: &FailingAlloc<Global>, room: usize) -> (bool, u64, u64) {
     let has_failed = Vec::<u64, _>::with_capacity(memory, room).is_err();
     (has_failed, memory.failures(), memory.granted_bytes())

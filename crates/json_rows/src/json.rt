@@ -1,4 +1,4 @@
-//! The calls on JSON. None needs anything of the one before.
+//! The calls on JSON. Each row stands alone.
 
 use intmap::{IntMap, JsonCause};
 use serde_json::Value;
@@ -148,8 +148,8 @@ const STEP: u64 = 7;
 /// The value of the first member. Each is one more than the one before.
 const FIRST_VALUE: u64 = 1_000_000_000_000;
 
-// what the map is like that an object of so many members is read as, and whether that object is
-// written of it; or why there is none
+// reads an object of `count` members, and says what the map is like, and whether the same object is
+// written again, or why there is no map
 fn answer_to_members(alloc: Global, count: u64) -> Result<String, AllocError> {
     let text = object_text(alloc, count)?;
     let Some(object) = parse(alloc, text.as_str())? else {
@@ -161,7 +161,7 @@ fn answer_to_members(alloc: Global, count: u64) -> Result<String, AllocError> {
     }
 }
 
-// the text of an object of so many members
+// the text of an object of `count` members
 fn object_text(alloc: Global, count: u64) -> Result<String, AllocError> {
     let mut text = String::from_str(alloc, "{")?;
     for place in 0..count {

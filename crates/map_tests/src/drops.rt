@@ -1,7 +1,7 @@
 //! Each value that a map had is dropped once, and no memory is lost.
 //!
-//! Each step is taken on a map that is lent. A function that owns one has to be proved to let it go
-//! at each of its ways out, so the one that owns one here lends it at once.
+//! Each step is taken on a map that is lent. Each exit of a function that owns a map costs a proof,
+//! so `follow_whole`, which owns one, lends it at once.
 
 mod lone;
 

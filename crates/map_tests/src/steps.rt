@@ -24,7 +24,7 @@ pub enum Step {
     Write(u64, u32),
     /// A write by `and_modify`, if the key is bound.
     Modify(u64, u32),
-    /// A write by `for_each_mut` over each value, of one whose number is so much greater.
+    /// A write by `for_each_mut` over each value, of one whose number is greater by this.
     WriteEach(u32),
     /// `insert_entry` by the entry of the key.
     InsertEntry(u64, u32),
@@ -40,7 +40,7 @@ pub enum Step {
     RetainBy(u32),
     /// `for_each_mut` of a closure that owns a value, and changes none.
     VisitEach(u32),
-    /// `insert`, of which a `?` leaves the cause alone where it is refused.
+    /// `insert`. If it fails, a `?` keeps the cause and drops the value.
     InsertOrCause(u64, u32),
     /// The same with the cause of a call on JSON.
     InsertOrJsonCause(u64, u32),
@@ -54,9 +54,9 @@ pub enum Step {
     Retain(u64, u32),
     /// `retain` of the key.
     RetainKey(u64),
-    /// `reserve` for so many pairs.
+    /// `reserve` for this number of pairs.
     Reserve(usize),
-    /// `set_load_factor` to so many thousandths.
+    /// `set_load_factor` to this number of thousandths.
     SetLoadFactor(usize),
     /// `clear`.
     Clear,
@@ -70,14 +70,15 @@ pub enum Step {
     FromIter(Numbers),
     /// `clone`. The clone is let go.
     Clone,
-    /// So many steps of a `drain`, which is then let go.
+    /// This number of steps of a `drain`, which is then let go.
     Drain(usize),
-    /// So many steps of `extract_if`, whose closure picks the values with numbers that are odd or even
-    /// as this one is. The iterator is forgotten.
+    /// Steps of `extract_if`, as many as the second number says. The closure picks the values whose
+    /// numbers are odd or even as the first one is. The iterator is forgotten.
     Extract(u32, usize),
-    /// So many steps of a cursor, and then so many pairs are cut out.
+    /// Steps of a cursor, as many as the first number says. Then as many pairs are cut out as the
+    /// second one says.
     Cut(usize, usize),
-    /// So many steps of the map by value, in whose place a new one stands.
+    /// This number of steps of the map by value. A new map takes its place.
     IntoIter(usize),
     /// The same of its keys.
     IntoKeys(usize),

@@ -1,4 +1,5 @@
-//! Steps that take pairs out one by one, that make a map of an array, and that a `?` ends.
+//! Steps by entries and by closures that own a value, steps that take pairs out one by one, that
+//! make a map of an array, and that a `?` ends.
 use crate::counted::{Counted, CountedMap, Ground};
 use crate::steps::Numbers;
 use intmap::entry::Entry;
@@ -114,7 +115,8 @@ impl<'a> Cuts<'_, 'a> {
     }
 }
 
-/// The last value that is cut out behind so many.
+/// Steps over `passed` pairs, and cuts out `count` pairs behind them. Returns the value of the last
+/// one that was cut out.
 pub fn cut<'a>(map: &mut CountedMap<'a>, passed: usize, count: usize) -> Option<Counted<'a>> {
     let mut cuts = Cuts {
         map,
@@ -132,14 +134,15 @@ pub fn cut<'a>(map: &mut CountedMap<'a>, passed: usize, count: usize) -> Option<
     last
 }
 
-/// Goes through so many keys of the map by value, in whose place a new one stands.
+/// Goes through the first `count` keys of the map by value. A new map takes its place.
 pub fn keys<'a>(map: &mut CountedMap<'a>, count: usize, ground: Ground<'a>) -> Result<(), Cause> {
     let fresh = IntMap::new(ground.memory)?;
     for _ in mem::replace(map, fresh).into_keys().take(count) {}
     Ok(())
 }
 
-/// The last of so many values of the map by value, in whose place a new one stands.
+/// Goes through the first `count` values of the map by value, and returns the last of them. A new
+/// map takes its place.
 pub fn values<'a>(
     map: &mut CountedMap<'a>,
     count: usize,

@@ -8,7 +8,7 @@ use std::test::Fail;
 
 type Texts<'a> = IntMap<u64, String, &'a FailingAlloc<Global>>;
 
-/// What a map is before a call: made with so many slots, given a load factor, and then bound keys.
+/// A map before a call: it is made with these slots, is given the load factor, and then the keys.
 #[derive(Clone, Copy, Debug)]
 struct Start {
     slots: usize,
@@ -42,7 +42,7 @@ fn bind(alloc: Global, map: &mut Texts<'_>, keys: &[u64]) -> Result<(), Fail> {
     Ok(())
 }
 
-// the texts in the order of the walk, and the number of slots
+// the texts in the order of the walk, the number of slots, and the load factor
 fn shown(alloc: Global, map: &Texts<'_>) -> Result<String, AllocError> {
     let mut shown = String::new(alloc);
     for (_, text) in map.iter() {

@@ -18,7 +18,7 @@ pub struct Ended {
 /// A text, and what its session is to end with: its status, its output and what it tells of faults.
 pub type Row<'a> = (&'a [u8], u8, &'a [u8], &'a [u8]);
 
-/// A session over a reader, and writers that stand so.
+/// A session over a reader and two writers.
 pub fn end<A: Allocator + Copy, R: Read>(
     alloc: A,
     input: &mut R,

@@ -45,7 +45,7 @@ fn an_interrupted_read_is_asked_again(rt: HostRuntime) {
     expect_interrupted(&rt, rt.alloc(), &SESSIONS);
 }
 
-// expects a session to fail by its input, after so many bytes of each length
+// expects a session to fail by its input, wherever in the text the reader fails
 fn expect_failing_input(rt: &impl Abort, alloc: Global, text: &[u8]) {
     let ample = Limited::new(MOST, true);
     for length in 0..=text.len() {

@@ -45,8 +45,8 @@ impl<'a> Slow<'a> {
 /// More bytes than any session here writes.
 pub const MOST: usize = 1024;
 
-/// Takes so many bytes, at most `MOST`, then fails; it may also fail when it is flushed, and keeps how
-/// many it held when it was. It holds them in itself, so nothing is to be let go where a test ends.
+/// Takes `room` bytes, at most `MOST`, and then fails. A flush may fail too. One that succeeds
+/// notes how many bytes there are. The bytes are in the struct, so a test has nothing to drop.
 #[derive(Clone, Copy)]
 pub struct Limited {
     held: [u8; MOST],
@@ -103,7 +103,7 @@ impl Limited {
     }
 }
 
-// writes bytes behind so many others; answers whether they fitted in
+// writes bytes behind the first `len` bytes, and returns whether there was room for them
 fn put(held: &mut [u8], len: usize, bytes: &[u8]) -> bool {
     let Some(free) = held.get_mut(len..) else {
         return false;

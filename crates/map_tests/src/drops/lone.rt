@@ -1,5 +1,5 @@
-//! The same where each pair has a slot of its own. By a load factor of 200, the fourth pair of these
-//! maps makes 32 such slots.
+//! Each value is dropped once, and no memory is lost, also in a map whose slots have one pair each.
+//! At a load factor of 200, the fourth pair of these maps makes 32 such slots.
 
 use crate::drops::{Row, end_of};
 use crate::steps::Step;
