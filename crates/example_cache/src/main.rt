@@ -1,13 +1,13 @@
 //! A cache of two texts, which evicts the text that was not read or written for the longest time. It
 //! reads the lines `put KEY TEXT`, `get KEY` and `forget KEY`, and prints what each did.
 //!
-//! Run it by `rt run` in this folder; it reads the file `stdin` there.
+//! Run it by `rt try <stdin` in this folder, or by `rt run <stdin`, which proves it first.
 #![tactic(auto)]
 
 ghost use Rattle.std.specs.Prelude.{◌≡◌, None, option_map};
 ghost use Rattle.intmap.specs.Bindings.{value_of};
 
-use anyhow::{Context, Result, bail};
+use anyhow::{Result, bail};
 use intmap::IntMap;
 use std::alloc::Global;
 
@@ -27,7 +27,7 @@ struct Cache {
 }
 
 impl Cache {
-    /// A cache for so many texts, with none in it.
+    /// A cache for `limit` texts, with none in it.
     fn new(alloc: Global, limit: usize) -> Result<Cache> {
         Ok(Cache {
             limit,
@@ -78,32 +78,52 @@ impl Cache {
     }
 }
 
+/// What a line asks for.
+enum Command<'a> {
+    Put(u64, &'a str),
+    Get(u64),
+    Forget(u64),
+}
+
+/// The command that a line spells.
+fn command_of(line: &str) -> Option<Command<'_>> {
+    let (name, rest) = line.split_once(' ')?;
+    match name {
+        "put" => {
+            let (key, text) = rest.split_once(' ')?;
+            Some(Command::Put(key.parse().ok()?, text))
+        }
+        "get" => Some(Command::Get(rest.parse().ok()?)),
+        "forget" => Some(Command::Forget(rest.parse().ok()?)),
+        _ => None,
+    }
+}
+
 fn main(rt: HostRuntime) -> Result<()> {
     let mut cache = Cache::new(rt.alloc(), 2)?;
-    for line in rt.lines(rt.alloc()) {
+    for (i, line) in rt.lines(rt.alloc()).enumerate() {
         let line = line?;
-        let (command, rest) = line
-            .as_str()
-            .split_once(' ')
-            .context("a command and a key")?;
-        if command == "put" {
-            let (key, text) = rest.split_once(' ').context("a key and a text")?;
-            match cache.put(key.parse()?, String::from_str(rt.alloc(), text)?)? {
-                Some(evicted) => println!(rt; "put {key}, evicted {evicted}")?,
-                None => println!(rt; "put {key}")?,
+        let Some(command) = command_of(line.as_str()) else {
+            bail!(
+                "line {}: not `put KEY TEXT`, `get KEY` or `forget KEY`",
+                i + 1
+            );
+        };
+        match command {
+            Command::Put(key, text) => {
+                match cache.put(key, String::from_str(rt.alloc(), text)?)? {
+                    Some(evicted) => println!(rt; "put {key}, evicted {evicted}")?,
+                    None => println!(rt; "put {key}")?,
+                }
             }
-        } else if command == "get" {
-            match cache.get(rest.parse()?) {
-                Some(text) => println!(rt; "{rest} has {text}")?,
-                None => println!(rt; "{rest} is absent")?,
-            }
-        } else if command == "forget" {
-            match cache.forget(rest.parse()?) {
+            Command::Get(key) => match cache.get(key) {
+                Some(text) => println!(rt; "{key} has {text}")?,
+                None => println!(rt; "{key} is absent")?,
+            },
+            Command::Forget(key) => match cache.forget(key) {
                 Some(text) => println!(rt; "forgot {text}")?,
-                None => println!(rt; "{rest} is absent")?,
-            }
-        } else {
-            bail!("an unknown command");
+                None => println!(rt; "{key} is absent")?,
+            },
         }
     }
     Ok(())

@@ -1,14 +1,14 @@
 //! Prints the three most frequent numbers of a text with one number a line, each with its count. Of
 //! two numbers with equal counts, the smaller is first.
 //!
-//! Run it by `rt run` in this folder; it reads the file `stdin` there.
+//! Run it by `rt try <stdin` in this folder, or by `rt run <stdin`, which proves it first.
 #![tactic(auto)]
 
 ghost use Rattle.std.specs.Prelude.{◌≡◌, ◌+◌, ◌-◌, ◌^◌, ◌<◌, ◌==◌, ℕ, Some, IfOk, OnOk, count_by};
 ghost use Rattle.intmap.specs.Bindings.{Updates};
 ghost use Rattle.example_counter.specs.Counts.{count_of};
 
-use anyhow::Result;
+use anyhow::{Result, bail};
 use intmap::{Cause, IntMap};
 use std::alloc::{AllocError, Global};
 use std::cmp::Reverse;
@@ -49,8 +49,11 @@ fn most_frequent(alloc: Global, counts: &IntMap<u64, u64>) -> Result<Vec<(u64, u
 
 fn main(rt: HostRuntime) -> Result<()> {
     let mut numbers = Vec::new(rt.alloc());
-    for line in rt.lines(rt.alloc()) {
-        numbers.push(line?.as_str().trim().parse()?)?;
+    for (i, line) in rt.lines(rt.alloc()).enumerate() {
+        let Ok(number) = line?.as_str().trim().parse::<u64>() else {
+            bail!("line {}: not a number from 0 to 2^64 - 1", i + 1);
+        };
+        numbers.push(number)?;
     }
     let counts = count(rt.alloc(), numbers.as_slice())?;
     for (number, count) in most_frequent(rt.alloc(), &counts)?.iter().take(3) {

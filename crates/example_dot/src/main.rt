@@ -1,7 +1,7 @@
 //! Prints the dot product of two vectors. Each is a list of lines with a place and its value. A blank
 //! line separates the two.
 //!
-//! Run it by `rt run` in this folder; it reads the file `stdin` there.
+//! Run it by `rt try <stdin` in this folder, or by `rt run <stdin`, which proves it first.
 #![tactic(auto)]
 
 ghost use Rattle.std.specs.Prelude.{◌≡◌, ℕ, IfOk, IfSome};
@@ -67,7 +67,7 @@ fn main(rt: HostRuntime) -> Result<()> {
     }
     ensure!(!is_left, "no blank line separates two vectors");
     let product = dot_product(rt.alloc(), left.as_slice(), right.as_slice())?;
-    let product = product.context("too large")?;
+    let product = product.context("a sum of the products needs more than 128 bits")?;
     println!(rt; "{product}")?;
     Ok(())
 }

@@ -1,10 +1,10 @@
 //! Reads the edges of a graph, two nodes a line, and prints each node that a path from node 0 leads
 //! to, in ascending order.
 //!
-//! Run it by `rt run` in this folder; it reads the file `stdin` there.
+//! Run it by `rt try <stdin` in this folder, or by `rt run <stdin`, which proves it first.
 #![tactic(auto)]
 
-use anyhow::{Context, Result};
+use anyhow::{Result, bail};
 use intmap::IntMap;
 use intmap_set::IntSet;
 use std::alloc::Global;
@@ -33,12 +33,19 @@ fn reachable(alloc: Global, edges: &Edges, start: u64) -> Result<IntSet<u64>> {
     Ok(visited)
 }
 
+/// The two nodes of a line such as `5 3`.
+fn edge_of(line: &str) -> Option<(u64, u64)> {
+    let (from, to) = line.split_once(' ')?;
+    Some((from.parse().ok()?, to.parse().ok()?))
+}
+
 fn main(rt: HostRuntime) -> Result<()> {
     let mut edges: Edges = IntMap::new(rt.alloc())?;
-    for line in rt.lines(rt.alloc()) {
-        let line = line?;
-        let (from, to) = line.as_str().split_once(' ').context("two nodes")?;
-        edges.entry(from.parse()?).or_default()?.push(to.parse()?)?;
+    for (i, line) in rt.lines(rt.alloc()).enumerate() {
+        let Some((from, to)) = edge_of(line?.as_str()) else {
+            bail!("line {}: not two nodes", i + 1);
+        };
+        edges.entry(from).or_default()?.push(to)?;
     }
     let reached = reachable(rt.alloc(), &edges, 0)?;
     let mut nodes = reached.iter().copied().collect::<Vec<u64>>(rt.alloc())?;

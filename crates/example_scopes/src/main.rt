@@ -1,13 +1,14 @@
-//! A symbol table with scopes. It reads the lines `enter`, `leave`, `let SYMBOL VALUE` and `SYMBOL`.
-//! For the last it prints the value of the symbol, or `undefined`.
+//! A symbol table with scopes, whose symbols and values are numbers. It reads the lines `enter`,
+//! `leave`, `let SYMBOL VALUE` and `SYMBOL`. For the last it prints the value of the symbol, or
+//! `undefined`.
 //!
-//! Run it by `rt run` in this folder; it reads the file `stdin` there.
+//! Run it by `rt try <stdin` in this folder, or by `rt run <stdin`, which proves it first.
 #![tactic(auto)]
 
 ghost use Rattle.std.specs.Prelude.{◌≡◌, ◌==◌, ℕ, Some, OnOk, cond};
 ghost use Rattle.example_scopes.specs.Scopes.{value_in, outer_scopes};
 
-use anyhow::{Context, Result, bail};
+use anyhow::{Result, bail, ensure};
 use intmap::IntMap;
 use std::alloc::Global;
 
@@ -56,23 +57,36 @@ fn value_of(scopes: &[Scope], symbol: u64) -> Option<i64>
     None
 }
 
+/// The symbol and the value of a line such as `let 5 -3`.
+fn definition_of(line: &str) -> Option<(u64, i64)> {
+    let (symbol, value) = line.strip_prefix("let ")?.split_once(' ')?;
+    Some((symbol.parse().ok()?, value.parse().ok()?))
+}
+
 fn main(rt: HostRuntime) -> Result<()> {
     let mut scopes = Vec::new(rt.alloc());
     enter(rt.alloc(), &mut scopes)?;
-    for line in rt.lines(rt.alloc()) {
+    for (i, line) in rt.lines(rt.alloc()).enumerate() {
         let line = line?;
         let line = line.as_str().trim();
         if line == "enter" {
             enter(rt.alloc(), &mut scopes)?;
         } else if line == "leave" {
+            ensure!(scopes.len() > 1, "line {}: no scope was entered", i + 1);
             leave(&mut scopes);
-        } else if let Some(definition) = line.strip_prefix("let ") {
-            let (symbol, value) = definition.split_once(' ').context("a symbol and a value")?;
-            define(&mut scopes, symbol.parse()?, value.parse()?)?;
-        } else if let Some(value) = value_of(&scopes, line.parse()?) {
-            println!(rt; "{value}")?;
+        } else if line.starts_with("let ") {
+            let Some((symbol, value)) = definition_of(line) else {
+                bail!("line {}: not `let SYMBOL VALUE`", i + 1);
+            };
+            define(&mut scopes, symbol, value)?;
         } else {
-            println!(rt; "undefined")?;
+            let Ok(symbol) = line.parse::<u64>() else {
+                bail!("line {}: neither a command nor a symbol", i + 1);
+            };
+            match value_of(&scopes, symbol) {
+                Some(value) => println!(rt; "{value}")?,
+                None => println!(rt; "undefined")?,
+            }
         }
     }
     Ok(())
