@@ -9,10 +9,12 @@ ghost use Rattle.intmap.specs.PlainLists.{RefusalIsDue, list_of};
 use intmap::{Cause, IntKey, IntMap, laws};
 use std::alloc::Allocator;
 
-/// Counts one more hit of a bin. The sum of all counts rises by one.
+/// Counts one more hit of a bin, and of no other. The sum of all counts rises by one.
 ///
 /// It fails if the count doesn't fit, or if the insertion of a new bin fails. All counts then stay.
 pub fn hit<A: Allocator + Copy>(histogram: &mut IntMap<u64, u64, A>, bin: u64) -> Result<(), Cause>
+    ensures counts { OnOk result (Updates (λ k. k) histogram.old.walk histogram.new.walk bin
+        (Some (unwrap_or (value_of (λ k. k) histogram.old.walk bin) 0 + 1))) }
     ensures total { OnOk result
         (sum (values_of histogram.new.walk) ≡ sum (values_of histogram.old.walk) + 1) }
     ensures err { OnErr result (histogram.new.walk ≡ histogram.old.walk) }
@@ -97,8 +99,7 @@ pub fn total<K: IntKey, A: Allocator + Copy>(map: &IntMap<K, u64, A>) -> Option<
     Some(total)
 }
 
-/// The pair with the greatest value; of several, the last of the walk. It is `None` exactly if the
-/// map is empty.
+/// A pair with the greatest value. It is `None` exactly if the map is empty.
 pub fn greatest<A: Allocator + Copy>(map: &IntMap<u64, u64, A>) -> Option<(u64, u64)>
     ensures present { IfSome result (λ pair. Contains map.now.walk pair) }
     ensures greatest { IfSome result (λ greatest. All (λ pair. pair.1 ≤ greatest.1) map.now.walk) }
@@ -181,7 +182,8 @@ pub fn open_account<K: IntKey, A: Allocator + Copy>(
     Ok(accounts.insert_checked(account, balance)?)
 }
 
-/// Opens an account that isn't there yet. The sum of all balances rises by its own.
+/// Opens an account that isn't there yet. Every other account keeps its balance. The sum of all
+/// balances rises by that of the new one.
 ///
 /// It fails if the insertion fails. Every balance then stays.
 pub fn add_account<K: IntKey, A: Allocator + Copy>(
@@ -190,6 +192,8 @@ pub fn add_account<K: IntKey, A: Allocator + Copy>(
     balance: u64,
 ) -> Result<(), Cause>
     requires { value_of K.number_of accounts.old.walk account ≡ None }
+    ensures updates { OnOk result (Updates K.number_of accounts.old.walk accounts.new.walk account
+        (Some balance)) }
     ensures total { OnOk result
         (sum (values_of accounts.new.walk) ≡ sum (values_of accounts.old.walk) + balance) }
     ensures err { OnErr result (accounts.new.walk ≡ accounts.old.walk) }
