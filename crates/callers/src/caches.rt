@@ -1,5 +1,5 @@
 //! Tables of results, in which each number has its square or no value yet; and a cache.
-ghost use Rattle.std.specs.Prelude.{◌%◌, ◌*◌, ◌<◌, ◌^◌, ◌≡◌, ◌≤◌, IfOk, OnErr, OnOk, Some, ℕ, length, unwrap_or};
+ghost use Rattle.std.specs.Prelude.{◌%◌, ◌*◌, ◌+◌, ◌<◌, ◌^◌, ◌≡◌, ◌≢◌, ◌≤◌, IfOk, OnErr, OnOk, Some, ℕ, length, unwrap_or};
 ghost use Rattle.intmap.specs.Bindings.{Updates, value_of};
 
 use intmap::{Cause, IntMap};
@@ -12,15 +12,19 @@ fn squared(x: u64) -> u64
     x.wrapping_mul(x)
 }
 
-/// The square of a number, from the table or computed and then kept there.
+/// The square of a number, from the table or computed and then kept there. Every other number keeps
+/// its value.
 ///
-/// It fails if the insertion of a new number fails.
+/// It fails if the insertion of a new number fails. Every number then keeps its value.
 pub fn square_by_get<A: Allocator + Copy>(
     table: &mut IntMap<u64, u64, A>,
     x: u64,
 ) -> Result<u64, Cause>
     requires { (q v : ℕ) → value_of (λ key. key) table.old.walk q ≡ Some v → v ≡ (q * q) % 2 ^ 64 }
     ensures answer { IfOk result (λ r. r ≡ (x * x) % 2 ^ 64) }
+    ensures kept { IfOk result (λ r. value_of (λ key. key) table.new.walk x ≡ Some r) }
+    ensures others { (q : ℕ) → q ≢ x
+        → value_of (λ key. key) table.new.walk q ≡ value_of (λ key. key) table.old.walk q }
     ensures right { (q v : ℕ) → value_of (λ key. key) table.new.walk q ≡ Some v
         → v ≡ (q * q) % 2 ^ 64 }
 {
@@ -50,16 +54,19 @@ fn known_or_squared<A: Allocator + Copy>(
     Ok(*found)
 }
 
-/// The square of a number, by one search. The function before says what it changes of the table,
-/// and this one what that means.
+/// The square of a number, by one search, which is then kept in the table. The function before says
+/// what it changes of the table, and this one what that means.
 ///
-/// It fails if the insertion of a new number fails.
+/// It fails if the insertion of a new number fails. Every number then keeps its value.
 pub fn square_by_entry<A: Allocator + Copy>(
     table: &mut IntMap<u64, u64, A>,
     x: u64,
 ) -> Result<u64, Cause>
     requires { (q v : ℕ) → value_of (λ key. key) table.old.walk q ≡ Some v → v ≡ (q * q) % 2 ^ 64 }
     ensures answer { IfOk result (λ r. r ≡ (x * x) % 2 ^ 64) }
+    ensures kept { IfOk result (λ r. value_of (λ key. key) table.new.walk x ≡ Some r) }
+    ensures others { (q : ℕ) → q ≢ x
+        → value_of (λ key. key) table.new.walk q ≡ value_of (λ key. key) table.old.walk q }
     ensures right { (q v : ℕ) → value_of (λ key. key) table.new.walk q ≡ Some v
         → v ≡ (q * q) % 2 ^ 64 }
 {
@@ -69,7 +76,7 @@ pub fn square_by_entry<A: Allocator + Copy>(
 // A cache of limited size: if it is full, an insertion first removes the first pair.
 
 /// Gives a key its value. If there are as many pairs as the limit, the first pair is removed first,
-/// even if the key is present.
+/// even if the key is present. No other pair is removed.
 ///
 /// It fails if the insertion fails. The removed pair is then gone all the same.
 pub fn keep<A: Allocator + Copy>(
@@ -82,6 +89,7 @@ pub fn keep<A: Allocator + Copy>(
     requires full { length cache.old.walk ≤ limit }
     ensures here { OnOk result (value_of (λ k. k) cache.new.walk key ≡ Some value) }
     ensures few { length cache.new.walk ≤ limit }
+    ensures one { length cache.old.walk ≤ length cache.new.walk + 1 }
 {
     if cache.len() >= limit {
         cache.take_front(&mut 0);

@@ -1,6 +1,6 @@
 //! Calls by entries: what they return, and what the map is once its entry has ended.
 ghost use Rattle.std.specs.Prelude.{◌*◌, ◌+◌, ◌-◌, ◌<◌, ◌^◌, ◌≡◌, IfErr, IfOk, IfSome, None, OnErr, OnOk, Some, false, unwrap_or};
-ghost use Rattle.intmap.specs.Bindings.{Updates, value_of};
+ghost use Rattle.intmap.specs.Bindings.{IsPresent, Updates, value_of};
 ghost use Rattle.intmap.specs.Classes.{same_key};
 ghost use Rattle.intmap.specs.Map.{after_search, written};
 ghost use Rattle.callers.specs.Bindings.{count_of};
@@ -110,7 +110,8 @@ pub fn read_and_let_go<K: IntKey, V: Copy, A: Allocator + Copy>(
     }
 }
 
-/// If the key is present, sets its value in its place, by an entry that is only dropped.
+/// If the key is present, sets its value in its place, by an entry that is only dropped. If it is
+/// absent, only the count of compared keys is changed.
 pub fn write_and_let_go<K: IntKey, V: Drop, A: Allocator + Copy>(
     map: &mut IntMap<K, V, A>,
     key: K,
@@ -118,6 +119,8 @@ pub fn write_and_let_go<K: IntKey, V: Drop, A: Allocator + Copy>(
 )
     ensures bound { (old : V) → value_of K.number_of map.old.walk key ≡ Some old
         → map.new ≡ written K.number_of (after_search K.number_of map.old key) key value }
+    ensures missing { value_of K.number_of map.old.walk key ≡ None
+        → map.new ≡ after_search K.number_of map.old key }
 {
     match map.entry(key) {
         Entry::Occupied(mut entry) => *entry.get_mut() = value,
@@ -133,9 +136,14 @@ pub fn insert_and_let_go<K: IntKey, V: Drop, A: Allocator + Copy>(
 )
     ensures bound { (old : V) → value_of K.number_of map.old.walk key ≡ Some old
         → map.new ≡ written K.number_of (after_search K.number_of map.old key) key value }
+    ensures missing { value_of K.number_of map.old.walk key ≡ None
+        → map.new ≡ after_search K.number_of map.old key }
 {
-    if let Entry::Occupied(mut entry) = map.entry(key) {
-        let _old = entry.insert(value);
+    match map.entry(key) {
+        Entry::Occupied(mut entry) => {
+            let _old = entry.insert(value);
+        }
+        Entry::Vacant(_entry) => (),
     }
 }
 
@@ -178,7 +186,8 @@ pub fn square<A: Allocator + Copy>(
     Ok(*square)
 }
 
-/// The value of the key. If the key was absent, that is the given value.
+/// The value of the key. If the key is absent, the given value becomes its value first. Every other
+/// key keeps its value.
 ///
 /// It fails if the insertion fails, and returns the value.
 pub fn value_or<K: IntKey, V: Copy, A: Allocator + Copy>(
@@ -188,6 +197,8 @@ pub fn value_or<K: IntKey, V: Copy, A: Allocator + Copy>(
 ) -> Result<V, Refused<V>>
     ensures ok { IfOk result
         (λ now. now ≡ unwrap_or (value_of K.number_of map.old.walk key) value) }
+    ensures updates { IfOk result
+        (λ now. Updates K.number_of map.old.walk map.new.walk key (Some now)) }
     ensures value_returned { IfErr result (λ refused. refused.value ≡ value) }
 {
     Ok(*map.entry(key).or_insert_with(|| value)?)
@@ -235,6 +246,7 @@ pub fn missing_key<K: IntKey, V, A: Allocator + Copy>(
 ) -> Option<K>
     ensures missing { IfSome result (λ missing. (missing ≡ key)
         × (value_of K.number_of map.old.walk key ≡ None)) }
+    ensures none { result ≡ None → IsPresent K.number_of map.old.walk key }
     ensures state { map.new ≡ after_search K.number_of map.old key }
 {
     match map.entry(key) {

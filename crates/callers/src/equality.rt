@@ -1,6 +1,6 @@
 //! Maps that are compared: their pairs matter, and the slots and the order of the walk don't.
 //! And documents that are the same after JSON.
-ghost use Rattle.std.specs.Prelude.{◌≡◌, IfOk, IsTrue, ℕ, length, true};
+ghost use Rattle.std.specs.Prelude.{◌&&◌, ◌≡◌, IfOk, IsTrue, ℕ, length, true};
 ghost use Rattle.intmap.specs.Bindings.{value_of};
 ghost use Rattle.intmap.specs.Equality.{maps_equal};
 ghost use Rattle.intmap.specs.Json.{BindSameTrees};
@@ -74,7 +74,8 @@ pub fn are_equal<K: IntKey, V: PartialEq, A: Allocator + Copy>(
     first: &IntMap<K, V, A>,
     second: &IntMap<K, V, A>,
 ) -> bool
-    ensures { IsTrue result → length first.now.walk ≡ length second.now.walk }
+    ensures value { result ≡ maps_equal K.number_of V.eq first.now second.now }
+    ensures len { IsTrue result → length first.now.walk ≡ length second.now.walk }
 {
     laws::equal_maps_are_as_long::<K, V>();
     let (_first, _second) = (first.len(), second.len());
@@ -87,6 +88,8 @@ pub fn are_all_equal<K: IntKey, V: PartialEq, A: Allocator + Copy>(
     second: &IntMap<K, V, A>,
     third: &IntMap<K, V, A>,
 ) -> bool
+    ensures value { result ≡ (maps_equal K.number_of V.eq first.now second.now
+        && maps_equal K.number_of V.eq second.now third.now) }
     ensures first_second { IsTrue result
         → IsTrue (maps_equal K.number_of V.eq first.now second.now) }
     ensures second_third { IsTrue result
@@ -114,6 +117,7 @@ fn are_one_turned<T: PartialEq>(value: &T, other: &T) -> bool
 
 /// Whether the first value is equal to the second, and this to the third.
 fn are_three_one<T: PartialEq>(first: &T, second: &T, third: &T) -> bool
+    ensures value { result ≡ (T.eq first.now second.now && T.eq second.now third.now) }
     ensures first_second { IsTrue result → IsTrue (T.eq first.now second.now) }
     ensures second_third { IsTrue result → IsTrue (T.eq second.now third.now) }
     ensures first_third { IsTrue result → IsTrue (T.eq first.now third.now) }

@@ -1,5 +1,5 @@
 //! Pairs that move: to another key, to another map, and back; and maps that cross threads.
-ghost use Rattle.std.specs.Prelude.{◌+◌, ◌^◌, ◌≡◌, ◌≢◌, ◌≤◌, IfErr, IfOk, IfSome, None, OnErr, OnOk, Some, ℕ, false, is_some, length, option_copied, true};
+ghost use Rattle.std.specs.Prelude.{◌&&◌, ◌+◌, ◌^◌, ◌≡◌, ◌≢◌, ◌≤◌, IfErr, IfOk, IfSome, None, OnErr, OnOk, Some, ℕ, false, is_some, length, option_copied, true};
 ghost use Rattle.std.specs.List.{sum};
 ghost use Rattle.std.specs.Map.{values_of};
 ghost use Rattle.intmap.specs.Bindings.{Updates, value_of};
@@ -27,14 +27,18 @@ fn set<A: Allocator + Copy>(map: &mut IntMap<u64, u64, A>, key: u64, value: u64)
     }
 }
 
-/// Swaps the values of two keys, if both are present, and returns whether they are.
+/// Swaps the values of two keys, if both are present, and returns whether they are. If not, the map
+/// stays. Every other key keeps its value.
 pub fn swap_values<A: Allocator + Copy>(map: &mut IntMap<u64, u64, A>, a: u64, b: u64) -> bool
+    ensures answer { result ≡ (is_some (value_of (λ k. k) map.old.walk a)
+        && is_some (value_of (λ k. k) map.old.walk b)) }
     ensures first { result ≡ true
         → value_of (λ k. k) map.new.walk a ≡ value_of (λ k. k) map.old.walk b }
     ensures second { result ≡ true
         → value_of (λ k. k) map.new.walk b ≡ value_of (λ k. k) map.old.walk a }
     ensures others { (q : ℕ) → q ≢ a → q ≢ b
         → value_of (λ k. k) map.new.walk q ≡ value_of (λ k. k) map.old.walk q }
+    ensures refused { result ≡ false → map.new ≡ map.old }
 {
     let Some(first) = map.get(a).copied() else {
         return false;
@@ -59,9 +63,10 @@ pub fn forget_both<V: Drop, A: Allocator + Copy>(map: &mut IntMap<u64, V, A>, a:
 }
 
 /// Removes the key `from`, gives its value to the key `to`, and returns whether `from` was present.
-/// A value that `to` had is then dropped.
+/// If it was, a value that `to` had is dropped. If not, the map's pairs stay. Every other key keeps
+/// its value.
 ///
-/// It fails if the insertion of a new key `to` fails, and returns the value. The key `from` is then
+/// It fails if the insertion of a new key `to` fails, and returns the value. Both keys are then
 /// absent.
 pub fn rename<V: Drop, A: Allocator + Copy>(
     map: &mut IntMap<u64, V, A>,
@@ -69,12 +74,16 @@ pub fn rename<V: Drop, A: Allocator + Copy>(
     to: u64,
 ) -> Result<bool, Refused<V>>
     requires { from ≢ to }
-    ensures gone { OnOk result (value_of (λ k. k) map.new.walk from ≡ None) }
+    ensures moved { IfOk result
+        (λ moved. moved ≡ is_some (value_of (λ k. k) map.old.walk from)) }
+    ensures gone { value_of (λ k. k) map.new.walk from ≡ None }
     ensures there { IfOk result (λ moved. moved ≡ true
         → value_of (λ k. k) map.new.walk to ≡ value_of (λ k. k) map.old.walk from) }
     ensures others { (q : ℕ) → q ≢ from → q ≢ to
         → value_of (λ k. k) map.new.walk q ≡ value_of (λ k. k) map.old.walk q }
+    ensures stays { IfOk result (λ moved. moved ≡ false → map.new.walk ≡ map.old.walk) }
     ensures err { IfErr result (λ refused. value_of (λ k. k) map.old.walk from ≡ Some refused.value) }
+    ensures missing { OnErr result (value_of (λ k. k) map.new.walk to ≡ None) }
 {
     let Some(value) = map.remove(from) else {
         return Ok(false);
@@ -84,7 +93,8 @@ pub fn rename<V: Drop, A: Allocator + Copy>(
 }
 
 /// Moves a number to another map: it is inserted there before it is removed here. It returns
-/// whether the key was present.
+/// whether the key was present. If not, the pairs of both maps stay. Every other key keeps its value
+/// in both.
 ///
 /// It fails if the insertion fails. Both maps then stay.
 pub fn move_number<A: Allocator + Copy>(
@@ -94,9 +104,10 @@ pub fn move_number<A: Allocator + Copy>(
 ) -> Result<bool, Cause>
     ensures moved { IfOk result
         (λ moved. moved ≡ is_some (value_of (λ k. k) from.old.walk key)) }
-    ensures gone { OnOk result (value_of (λ k. k) from.new.walk key ≡ None) }
-    ensures there { IfOk result (λ moved. moved ≡ true
-        → value_of (λ k. k) to.new.walk key ≡ value_of (λ k. k) from.old.walk key) }
+    ensures gone { OnOk result (Updates (λ k. k) from.old.walk from.new.walk key None) }
+    ensures there { IfOk result (λ moved. moved ≡ true → Updates (λ k. k) to.old.walk to.new.walk key
+        (value_of (λ k. k) from.old.walk key)) }
+    ensures stays { IfOk result (λ moved. moved ≡ false → to.new.walk ≡ to.old.walk) }
     ensures from_stays { OnErr result (from.new.walk ≡ from.old.walk) }
     ensures to_stays { OnErr result (to.new.walk ≡ to.old.walk) }
 {
@@ -108,8 +119,9 @@ pub fn move_number<A: Allocator + Copy>(
     Ok(true)
 }
 
-/// Moves an owned value to another map, and returns whether the key was present. The key shares its
-/// slot with none, so the value goes back if it can't be inserted there, and nothing is lost.
+/// Moves an owned value to another map, and returns whether the key was present. Every other key
+/// keeps its value in both maps. The key shares its slot with none, so the value goes back if it
+/// can't be inserted there, and nothing is lost.
 ///
 /// It fails if the insertion fails. Each key then has the value that it had.
 pub fn move_owned<V: Drop, A: Allocator + Copy>(
@@ -121,8 +133,9 @@ pub fn move_owned<V: Drop, A: Allocator + Copy>(
     ensures moved { IfOk result
         (λ moved. moved ≡ is_some (value_of (λ k. k) from.old.walk key)) }
     ensures gone { OnOk result (Updates (λ k. k) from.old.walk from.new.walk key None) }
-    ensures there { IfOk result (λ moved. moved ≡ true
-        → value_of (λ k. k) to.new.walk key ≡ value_of (λ k. k) from.old.walk key) }
+    ensures there { IfOk result (λ moved. moved ≡ true → Updates (λ k. k) to.old.walk to.new.walk key
+        (value_of (λ k. k) from.old.walk key)) }
+    ensures stays { IfOk result (λ moved. moved ≡ false → to.new.walk ≡ to.old.walk) }
     ensures from_stays { OnErr result ((q : ℕ)
         → value_of (λ k. k) from.new.walk q ≡ value_of (λ k. k) from.old.walk q) }
     ensures to_stays { OnErr result (to.new.walk ≡ to.old.walk) }
