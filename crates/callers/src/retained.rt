@@ -1,5 +1,5 @@
 //! Pairs that stay and pairs that go: by a test, by the scope of a name, and from a queue's front.
-ghost use Rattle.std.specs.Prelude.{[], ◌%◌, ◌++◌, ◌+◌, ◌==◌, ◌≡◌, ◌≤◌, All, IfSome, IsSome, None, OnOk, Some, ℕ, cond, count_by, false, filter, is_some, length, nat_le, nat_lt, not, slice_index_or, take};
+ghost use Rattle.std.specs.Prelude.{[], ◌%◌, ◌++◌, ◌+◌, ◌==◌, ◌≡◌, ◌≤◌, All, IfSome, IsSome, None, OnOk, Some, ℕ, cond, count_by, drop, false, filter, is_some, length, nat_le, nat_lt, not, slice_index_or, take};
 ghost use Rattle.std.specs.List.{slice_get};
 ghost use Rattle.std.specs.Option.{option_map};
 ghost use Rattle.intmap.specs.Bindings.{Updates, value_of};
@@ -86,6 +86,7 @@ pub fn keep_rising<A: Allocator + Copy>(map: &mut IntMap<u64, u64, A>)
 /// Keeps the pairs whose value is at least `least`, and drops the others. An absent key stays
 /// absent.
 pub fn keep_some<K: IntKey, A: Allocator + Copy>(map: &mut IntMap<K, u64, A>, least: u64)
+    ensures walk { map.new.walk ≡ filter (λ pair. nat_le least pair.1) map.old.walk }
     ensures none_comes { (q : K) → value_of K.number_of map.old.walk q ≡ None
         → value_of K.number_of map.new.walk q ≡ None }
 {
@@ -103,10 +104,15 @@ pub struct Symbol {
     pub value: u64,
 }
 
-/// Removes the first name of this depth, if there is one, and returns it. It was declared, and no
-/// other name is removed.
+/// Removes the first name of this depth, if there is one, and returns it. It was declared. No other
+/// name is removed.
 pub fn forget_one(names: &mut IntMap<u64, Symbol>, depth: u64) -> Option<(u64, Symbol)>
+    ensures first { result ≡ slice_get (filter (λ name. name.1.depth == depth) names.old.walk) 0 }
     ensures declared { IfSome result (λ name. IsSome (value_at names.old.walk name.0)) }
+    ensures same_depth { filter (λ name. name.1.depth == depth) names.new.walk
+        ≡ drop 1 (filter (λ name. name.1.depth == depth) names.old.walk) }
+    ensures others { filter (λ name. not (name.1.depth == depth)) names.new.walk
+        ≡ filter (λ name. not (name.1.depth == depth)) names.old.walk }
     ensures count { length names.new.walk + cond (is_some result) 1 0 ≡ length names.old.walk }
     ensures capacity { names.new.capacity ≡ names.old.capacity }
 {
@@ -152,8 +158,11 @@ pub fn next_job<V, A: Allocator + Copy>(queue: &IntMap<u64, V, A>) -> Option<u64
     Some(*number)
 }
 
-/// Removes the job at the front of the queue and returns it. No other job is lost.
+/// Removes the job at the front of the queue and returns it. No other job is lost, and the others
+/// keep their order.
 pub fn pop<V: Drop, A: Allocator + Copy>(queue: &mut IntMap<u64, V, A>) -> Option<(u64, V)>
+    ensures first { result ≡ slice_get queue.old.walk 0 }
+    ensures walk { queue.new.walk ≡ drop 1 queue.old.walk }
     ensures updates { IfSome result (λ job. Updates (λ key. key) queue.old.walk queue.new.walk
         job.0 None) }
     ensures len { length queue.new.walk + cond (is_some result) 1 0 ≡ length queue.old.walk }

@@ -1,11 +1,11 @@
 //! Facts of sets that a caller draws from their clauses and laws: when the next member grows the
 //! table, when there is room for it, how many members two sets have together, in common and apart,
 //! which members a set made of two has, and how many of some numbers are distinct.
-ghost use Rattle.std.specs.Prelude.{◌+◌, ◌<◌, ◌||◌, ◌↔◌, ◌≡◌, ◌≤◌, IfErr, IfOk, IfSome, IsErrOf, IsTrue, OnOk, length, not};
+ghost use Rattle.std.specs.Prelude.{◌+◌, ◌<◌, ◌||◌, ◌↔◌, ◌≡◌, ◌≤◌, IfErr, IfOk, IfSome, IsErrOf, IsTrue, None, OnOk, length, not};
 ghost use Rattle.intmap.specs.Growth.{IsNext, MeetsLoad};
 ghost use Rattle.intmap.specs.Map.{IsCapacityAfter, IsOutOfRange};
 ghost use Rattle.intmap.specs.Reach.{class_size};
-ghost use Rattle.intmap_set.specs.Combined.{IsDifference, IsIntersection, IsUnion, difference_of, symmetric_difference_of};
+ghost use Rattle.intmap_set.specs.Combined.{IsDifference, IsIntersection, IsSubset, IsUnion, difference_of, sets_equal, symmetric_difference_of};
 ghost use Rattle.intmap_set.specs.Sets.{AreBelow, holds, load_factor, paired};
 
 use intmap::{Cause, IntKey, IntMap};
@@ -20,6 +20,7 @@ pub fn slots_with<K: IntKey, A: Allocator + Copy>(
     set: &mut IntSet<K, A>,
     key: K,
 ) -> Result<usize, Cause>
+    ensures here { OnOk result (IsTrue (holds K.number_of set.new.walk key)) }
     ensures slots { IfOk result (λ slots. IsCapacityAfter K.number_of (paired set.old.walk)
         set.old.capacity load_factor key slots) }
     ensures too_large { IsErrOf result Cause.TooLarge
@@ -56,7 +57,8 @@ pub fn are_equal<K: IntKey, A: Allocator + Copy>(
     first: &IntSet<K, A>,
     second: &IntSet<K, A>,
 ) -> bool
-    ensures { IsTrue result → length first.now.walk ≡ length second.now.walk }
+    ensures value { result ≡ sets_equal K.number_of first.now second.now }
+    ensures len { IsTrue result → length first.now.walk ≡ length second.now.walk }
 {
     laws::equal_sets_are_as_long::<K>();
     let (_first, _second) = (first.len(), second.len());
@@ -68,7 +70,9 @@ pub fn count_missing<K: IntKey, A: Allocator + Copy>(
     part: &IntSet<K, A>,
     group: &IntSet<K, A>,
 ) -> Option<usize>
-    ensures { IfSome result (λ missing. missing + length part.now.walk ≡ length group.now.walk) }
+    ensures missing { IfSome result
+        (λ missing. missing + length part.now.walk ≡ length group.now.walk) }
+    ensures none { result ≡ None → IsSubset K.number_of part.now.walk group.now.walk → ⊥ }
 {
     laws::subsets_are_no_longer::<K>();
     let (some, all) = (part.len(), group.len());
