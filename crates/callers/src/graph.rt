@@ -1,5 +1,5 @@
 //! Nodes that are visited, and parents of nodes.
-ghost use Rattle.std.specs.Prelude.{◌≡◌, ◌≢◌, ◌<◌, ℕ, List, ◌∷◌, [], ◌++◌, None, Some, OnOk, OnErr, IfOk, IfSome, is_none, is_some, cond, true};
+ghost use Rattle.std.specs.Prelude.{◌≡◌, ◌≢◌, ◌<◌, ◌≤◌, ℕ, List, ◌∷◌, [], ◌++◌, None, Some, OnOk, OnErr, IfOk, IfSome, is_none, is_some, cond, true};
 ghost use Rattle.intmap.specs.Bindings.{value_of};
 
 use intmap::{Cause, IntMap};
@@ -7,16 +7,19 @@ use std::alloc::Allocator;
 
 /// Marks a node, and puts it into the queue if it is new.
 ///
-/// It fails if there is no memory for the queue, or if the insertion of a new node fails. In the
-/// second case the node stands in the queue, unmarked.
+/// It fails if there is no memory for the queue, or if the insertion of a new node fails. Every mark
+/// then stays. In the second case the node stands in the queue, unmarked.
 pub fn visit<A: Allocator + Copy>(
     visited: &mut IntMap<u64, (), A>,
     queue: &mut Vec<u64, A>,
     node: u64,
 ) -> Result<(), Cause>
     ensures marked { OnOk result (is_some (value_of (λ k. k) visited.new.walk node) ≡ true) }
+    ensures others { (q : ℕ) → q ≢ node
+        → value_of (λ k. k) visited.new.walk q ≡ value_of (λ k. k) visited.old.walk q }
     ensures queued { OnOk result (queue.new.items ≡ cond (is_none (value_of (λ k. k) visited.old.walk node))
         (queue.old.items ++ node ∷ []) queue.old.items) }
+    ensures marks_stay { OnErr result (visited.new.walk ≡ visited.old.walk) }
 {
     if visited.contains_key(node) {
         return Ok(());
@@ -30,16 +33,19 @@ pub fn visit<A: Allocator + Copy>(
 
 /// The same by `insert_checked`, with one search.
 ///
-/// It fails if the insertion of a new node fails, or if there is no memory for the queue. In the
-/// second case the node is marked and isn't in the queue, so another call doesn't put it there.
+/// It fails if the insertion of a new node fails, or if there is no memory for the queue. The queue
+/// then stays. In the second case the node is marked, so another call doesn't put it into the queue.
 pub fn visit_once<A: Allocator + Copy>(
     visited: &mut IntMap<u64, (), A>,
     queue: &mut Vec<u64, A>,
     node: u64,
 ) -> Result<(), Cause>
     ensures marked { OnOk result (is_some (value_of (λ k. k) visited.new.walk node) ≡ true) }
+    ensures others { (q : ℕ) → q ≢ node
+        → value_of (λ k. k) visited.new.walk q ≡ value_of (λ k. k) visited.old.walk q }
     ensures queued { OnOk result (queue.new.items ≡ cond (is_none (value_of (λ k. k) visited.old.walk node))
         (queue.old.items ++ node ∷ []) queue.old.items) }
+    ensures queue_stays { OnErr result (queue.new.items ≡ queue.old.items) }
 {
     if visited.insert_checked(node, ())? && queue.push(node).is_err() {
         return Err(Cause::Memory);
@@ -48,10 +54,14 @@ pub fn visit_once<A: Allocator + Copy>(
 }
 
 /// The root of a node, to which the parents lead. Each parent is smaller than its child, so this
-/// ends.
+/// ends. What every node shares with its parent, the node shares with its root.
 pub fn root<A: Allocator + Copy>(parents: &IntMap<u64, u64, A>, node: u64) -> u64
     requires { (q p : ℕ) → value_of (λ k. k) parents.now.walk q ≡ Some p → p < q }
-    ensures { value_of (λ k. k) parents.now.walk result ≡ None }
+    ensures root { value_of (λ k. k) parents.now.walk result ≡ None }
+    ensures least { result ≤ node }
+    ensures shared { (f : ℕ → ℕ)
+        → ((q p : ℕ) → value_of (λ k. k) parents.now.walk q ≡ Some p → f q ≡ f p)
+        → f node ≡ f result }
 {
     match parents.get(node) {
         Some(parent) => root(parents, *parent),
@@ -59,16 +69,23 @@ pub fn root<A: Allocator + Copy>(parents: &IntMap<u64, u64, A>, node: u64) -> u6
     }
 }
 
-/// Joins the trees of two nodes, if they are two.
+/// Joins the trees of two nodes, if they are two. Every parent stays, and what every node shares with
+/// its parent then, the two nodes share.
 ///
-/// It fails if the insertion of a parent fails.
+/// It fails if the insertion of a parent fails. No node then gets a parent.
 pub fn join<A: Allocator + Copy>(
     parents: &mut IntMap<u64, u64, A>,
     a: u64,
     b: u64,
 ) -> Result<(), Cause>
     requires { (q p : ℕ) → value_of (λ k. k) parents.old.walk q ≡ Some p → p < q }
-    ensures { (q p : ℕ) → value_of (λ k. k) parents.new.walk q ≡ Some p → p < q }
+    ensures smaller { (q p : ℕ) → value_of (λ k. k) parents.new.walk q ≡ Some p → p < q }
+    ensures kept { (q p : ℕ) → value_of (λ k. k) parents.old.walk q ≡ Some p
+        → value_of (λ k. k) parents.new.walk q ≡ Some p }
+    ensures shared { OnOk result ((f : ℕ → ℕ)
+        → ((q p : ℕ) → value_of (λ k. k) parents.new.walk q ≡ Some p → f q ≡ f p)
+        → f a ≡ f b) }
+    ensures err { OnErr result (parents.new.walk ≡ parents.old.walk) }
 {
     let first = root(parents, a);
     let second = root(parents, b);

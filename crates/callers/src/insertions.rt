@@ -1,11 +1,12 @@
 //! Insertions of many pairs, insertions that never fail, and pairs that wait after a failure.
-ghost use Rattle.std.specs.Prelude.{[], ◌++◌, ◌+◌, ◌<◌, ◌^◌, ◌∷◌, ◌≡◌, ◌≤◌, All, IfOk, List, None, OnErr, OnOk, Some, ℕ, length, reverse, true, vec_capacity};
+ghost use Rattle.std.specs.Prelude.{[], ◌++◌, ◌+◌, ◌<◌, ◌^◌, ◌∷◌, ◌≡◌, ◌≤◌, All, IfOk, IsTrue, List, None, OnErr, OnOk, Some, ℕ, length, reverse, true, vec_capacity};
 ghost use Rattle.std.specs.Option.{option_or};
 ghost use Rattle.intmap.specs.Bindings.{HasDistinctKeys, Updates, value_of};
 ghost use Rattle.intmap.specs.Growth.{IsNext, MeetsLoad};
 ghost use Rattle.intmap.specs.Insertions.{IsInsertion};
 ghost use Rattle.intmap.specs.Reach.{class_size};
 ghost use Rattle.intmap.specs.Room.{AreInRow, HasRoomFor};
+ghost use Rattle.intmap_set.specs.Sets.{holds};
 ghost use Rattle.callers.specs.Bindings.{Moves, pairs_of};
 
 use intmap::{Cause, IntKey, IntMap, RefusedPair, laws};
@@ -140,7 +141,9 @@ pub fn made_of_one<V: Drop, A: Allocator + Copy>(
     key: u64,
     value: V,
 ) -> Result<(IntMap<u64, V, A>, bool), Cause>
-    ensures { IfOk result (λ made. made.1 ≡ true) }
+    ensures inserted { IfOk result (λ made. made.1 ≡ true) }
+    ensures here { IfOk result (λ made. value_of (λ k. k) made.0.walk key ≡ Some value) }
+    ensures len { IfOk result (λ made. length made.0.walk ≡ 1) }
 {
     let mut map = IntMap::new(alloc)?;
     let is_in = map.insert(key, value).is_ok();
@@ -155,10 +158,15 @@ pub fn made_of_one_count<A: Allocator + Copy>(
     alloc: A,
     key: u64,
 ) -> Result<(IntMap<u64, u64, A>, bool), Cause>
-    ensures { IfOk result (λ made. made.1 ≡ true) }
+    ensures inserted { IfOk result (λ made. made.1 ≡ true) }
+    ensures here { IfOk result (λ made. value_of (λ k. k) made.0.walk key ≡ Some 1) }
+    ensures len { IfOk result (λ made. length made.0.walk ≡ 1) }
 {
     let mut map = IntMap::new(alloc)?;
-    let is_in = map.entry(key).or_insert(1).is_ok();
+    let is_in = match map.entry(key).or_insert(1) {
+        Ok(_count) => true,
+        Err(_refused) => false,
+    };
     Ok((map, is_in))
 }
 
@@ -169,7 +177,9 @@ pub fn made_of_one_member<A: Allocator + Copy>(
     alloc: A,
     key: u64,
 ) -> Result<(IntSet<u64, A>, bool), Cause>
-    ensures { IfOk result (λ made. made.1 ≡ true) }
+    ensures inserted { IfOk result (λ made. made.1 ≡ true) }
+    ensures here { IfOk result (λ made. IsTrue (holds (λ k. k) made.0.walk key)) }
+    ensures len { IfOk result (λ made. length made.0.walk ≡ 1) }
 {
     let mut set = IntSet::new(alloc)?;
     let is_in = set.insert(key).is_ok();
