@@ -1,8 +1,9 @@
 //! Two types of keys: the cells of a sheet, with two fields, and how far rows are apart, with a sign.
 #![tactic(auto)]
 
-ghost use Rattle.std.specs.Prelude.{◌≡◌, ◌≢◌, ◌↔◌, ℕ, ◌<◌, IfOk, IfSome, IsSome, OnOk, OnErr, Some};
+ghost use Rattle.std.specs.Prelude.{◌≡◌, ◌≢◌, ◌↔◌, ℕ, ◌<◌, IfErr, IfOk, IfSome, IsSome, OnOk, OnErr, Some};
 ghost use Rattle.intmap.specs.Bindings.{value_of};
+ghost use Rattle.intmap.specs.PlainLists.{RefusalIsDue, list_of};
 ghost use Rattle.cells.specs.Cells.{IsCell, cell_number};
 
 use intmap::{Cause, IntKey, IntMap};
@@ -69,8 +70,8 @@ impl IntKey for Cell {
 
 /// Writes a value into the cell of a sheet, and returns the value that was there, if there was one.
 ///
-/// It fails if there is no memory, or if the map would be too large. Each cell then keeps its
-/// value.
+/// It fails if the cell has no value, and there is no memory or the map would be too large. Each
+/// cell then keeps its value.
 pub fn write<V: Drop, A: Allocator + Copy>(
     sheet: &mut IntMap<Cell, V, A>,
     cell: Cell,
@@ -80,6 +81,7 @@ pub fn write<V: Drop, A: Allocator + Copy>(
     ensures here { OnOk result (value_of cell_number sheet.new.walk cell ≡ Some value) }
     ensures others { (other : ℕ × ℕ) → IsCell other → other ≢ cell
         → value_of cell_number sheet.new.walk other ≡ value_of cell_number sheet.old.walk other }
+    ensures refused { IfErr result (RefusalIsDue cell_number (list_of sheet.old) cell) }
     ensures err { OnErr result ((other : ℕ × ℕ)
         → value_of cell_number sheet.new.walk other ≡ value_of cell_number sheet.old.walk other) }
 {
