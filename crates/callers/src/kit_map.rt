@@ -3,9 +3,9 @@
 //!
 //! A call that returns a `Result` fails if there is no memory or the map would be too large.
 //! `missing` and `first_length` never fail.
-ghost use Rattle.std.specs.Prelude.{◌≡◌, IfOk, IfSome, IsSome, None, Some, unwrap_or, string_len};
+ghost use Rattle.std.specs.Prelude.{◌≡◌, IfOk, IfSome, IsSome, None, OnOk, Some, unwrap_or, string_len};
 ghost use Rattle.std.specs.Map.{keys_of, values_of};
-ghost use Rattle.intmap.specs.Bindings.{value_of, Updates};
+ghost use Rattle.intmap.specs.Bindings.{IsPresent, value_of, Updates};
 ghost use Rattle.std.specs.Option.{option_map};
 
 use intmap::entry::Entry;
@@ -29,8 +29,10 @@ fn copy_of(alloc: Global, word: &str) -> Result<String, Cause>
 
 /// The length of the number's text. If the number has none, it gets the given one first.
 pub fn length_or(texts: &mut Texts, number: u64, text: String) -> Result<usize, Cause>
-    ensures { IfOk result (λ len. len
+    ensures len { IfOk result (λ len. len
         ≡ string_len (unwrap_or (value_of (λ key. key) texts.old.walk number) text)) }
+    ensures updates { OnOk result (Updates (λ key. key) texts.old.walk texts.new.walk number
+        (Some (unwrap_or (value_of (λ key. key) texts.old.walk number) text))) }
 {
     Ok(texts.entry(number).or_insert_with(|| text)?.len())
 }
@@ -69,14 +71,16 @@ pub fn append(texts: &mut Texts, number: u64, word: &str) -> Result<(), Cause> {
 
 /// Sets the text of the number, and returns its length.
 pub fn set(texts: &mut Texts, number: u64, text: String) -> Result<usize, Cause>
-    ensures { IfOk result (λ len. len ≡ string_len text) }
+    ensures len { IfOk result (λ len. len ≡ string_len text) }
+    ensures updates { OnOk result (Updates (λ key. key) texts.old.walk texts.new.walk number
+        (Some text)) }
 {
     let entry = texts.entry(number).insert_entry(text)?;
     Ok(entry.get().len())
 }
 
 /// If the number has a text, removes and returns the number with its text. Otherwise gives it the
-/// text.
+/// text. Its contract says what is returned, and nothing of the map.
 pub fn toggle(texts: &mut Texts, number: u64, text: String) -> Result<Option<(u64, String)>, Cause>
     ensures { IfOk result (λ taken. taken
         ≡ option_map (λ text. (number, text)) (value_of (λ key. key) texts.old.walk number)) }
@@ -92,8 +96,10 @@ pub fn toggle(texts: &mut Texts, number: u64, text: String) -> Result<Option<(u6
 
 /// The number, if it has no text.
 pub fn missing(texts: &mut Texts, number: u64) -> Result<Option<u64>, Cause>
-    ensures { IfOk result (λ missing. IfSome missing (λ missing. (missing ≡ number)
+    ensures missing { IfOk result (λ missing. IfSome missing (λ missing. (missing ≡ number)
         × (value_of (λ key. key) texts.old.walk number ≡ None))) }
+    ensures none { IfOk result (λ missing. missing ≡ None
+        → IsPresent (λ key. key) texts.old.walk number) }
 {
     match texts.entry(number) {
         Entry::Occupied(_entry) => Ok(None),
