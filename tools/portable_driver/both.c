@@ -3,8 +3,7 @@
 // block. Some requests are refused in both, alone or with all that follow in the call.
 //
 //     cd bindings/c
-//     cc -shared -Wl,--wrap=malloc,--wrap=realloc,--wrap=free -o /tmp/one.so -Wl,--whole-archive \
-//         ../../crates/intmap_c/out/libintmap_c.a -Wl,--no-whole-archive "$(dirname "$(rt doc)")/c/liblibc_c.a"
+//     cc -shared -Wl,--wrap=malloc,--wrap=realloc,--wrap=free -o /tmp/one.so -Wl,--whole-archive ../../crates/intmap_c/out/libintmap_c.a -Wl,--no-whole-archive "$(dirname "$(rt doc)")/c/liblibc_c.a"
 //     cc -shared -fPIC -Wl,--wrap=malloc,--wrap=realloc,--wrap=free intmap.c -o /tmp/other.so
 //     cc -I . -rdynamic ../../tools/portable_driver/both.c -ldl -o /tmp/both
 //     /tmp/both /tmp/one.so /tmp/other.so CALLS SEED

@@ -3,8 +3,7 @@
 // there. Compiled as C++ it has std::unordered_map too, and boost::unordered_flat_map if that is
 // there.
 //
-//     c++ -O2 -I bindings/c tools/measure_driver/c/times.c bindings/c/intmap.c \
-//         $(pkg-config --cflags --libs glib-2.0) -o /tmp/times
+//     c++ -O2 -I bindings/c tools/measure_driver/c/times.c bindings/c/intmap.c $(pkg-config --cflags --libs glib-2.0) -o /tmp/times
 //     /tmp/times KEYS
 //
 // Each figure is the least of many runs, each on a new map, until KEYS keys were inserted. Fewer
