@@ -13,8 +13,8 @@
 // is. An enum for each struct has the places of its fields: a map is a block of INT_MAP_SIZE bytes. Maps,
 // slots, pairs, fields and indices have the names of the sources. A name such as r12 is the optimiser's.
 //
-// Compilers: rattle-kit-13b logic dac8208d650f15bf; clang version 22.1.8
-// Sources: f724ebb6a91b5322f837292f07c06fafefaa30df59d06280bda6b06104b46a6b
+// Compilers: rattle-kit-13f logic dac8208d650f15bf; clang version 22.1.8
+// Sources: 84bf1c35aaac41bbe8e0f47e8c013103271e1b1cbc41bc0c6d0e14ec6e9d46a4
 //
 // SPDX-License-Identifier: MIT
 //

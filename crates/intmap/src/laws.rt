@@ -3,7 +3,7 @@
 //!
 //! A call such as `laws::small_keys_are_found_at_once::<u64, V>();` adds its law to the proof of
 //! the function that contains the call.
-ghost use Rattle.std.specs.Prelude.{◌≡◌, ◌+◌, ◌^◌, ◌<◌, ◌≤◌, ◌↔◌, ℕ, List, ◌∷◌, ◌++◌, Option, All, IsTrue, Contains, cond, is_none, is_some, length, sum, unwrap_or, Some, None, false};
+ghost use Rattle.std.specs.Prelude.{◌≡◌, ◌+◌, ◌^◌, ◌<◌, ◌≤◌, ◌↔◌, ℕ, List, ◌∷◌, ◌++◌, Option, All, IsTrue, Contains, cond, is_none, is_some, length, sum, unwrap_or, Some, None};
 ghost use Rattle.std.specs.Map.{values_of};
 ghost use Rattle.intmap_table.specs.Classes.{IsCapacity};
 ghost use Rattle.intmap_table.specs.Bindings.{value_of, IsPresent, take_key, put_pair, write_value, HasDistinctKeys, Updates, BindSame};

@@ -1,5 +1,5 @@
 //! One slot of a table: the first pair in its place, the others behind it.
-ghost use Rattle.std.specs.Prelude.{◌≡◌, ◌+◌, ◌^◌, ◌<◌, [], ◌∷◌, length, position, slice_index_or, nat_lt, IfOk, IfSome, IfNone, option_copied, ◌≤◌, vec_capacity};
+ghost use Rattle.std.specs.Prelude.{◌≡◌, ◌+◌, ◌^◌, ◌<◌, [], length, position, slice_index_or, nat_lt, IfOk, option_copied, ◌≤◌, vec_capacity};
 ghost use Rattle.intmap_table.specs.Classes.{same_key};
 ghost use Rattle.intmap_table.specs.Reach.{through_first};
 ghost use Rattle.intmap_table.specs.Tables.Slots.{all_pairs};

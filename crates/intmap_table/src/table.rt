@@ -25,7 +25,6 @@ ghost use Rattle.std.specs.List.{AllZip};
 ghost use Rattle.intmap_table.specs.Cloning.{IsPairClone};
 
 use crate::key::IntKey;
-use crate::steps::Steps;
 use crate::table::stored::Stored;
 pub use closures::Progress;
 use locate::Location;

@@ -1,7 +1,7 @@
 //! Texts as values: they own memory, which no call may lose.
 
 use failing_alloc::FailingAlloc;
-use intmap::{Cause, IntMap, Refused};
+use intmap::{IntMap, Refused};
 use std::alloc::{AllocError, Global};
 use std::process::Abort;
 use std::test::Fail;

@@ -5,7 +5,7 @@ ghost use Rattle.std.specs.Fmt.{decimal};
 ghost use Rattle.serde_json.specs.Data.{put};
 ghost use Rattle.serde_json.specs.View.{view, members_view};
 ghost use Rattle.intmap.specs.Map.{IsMap};
-ghost use Rattle.serde_json.specs.Written.{has_float, members_have_float};
+ghost use Rattle.serde_json.specs.Written.{has_float};
 
 mod read;
 

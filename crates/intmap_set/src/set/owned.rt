@@ -1,5 +1,5 @@
 //! New sets that are made of two, and a set that takes the members of another.
-ghost use Rattle.std.specs.Prelude.{◌≡◌, ◌⊎◌, ◌*◌, ◌/◌, ◌^◌, ◌<◌, ◌≤◌, length, OnOk, IfOk, IfErr, MatchResult};
+ghost use Rattle.std.specs.Prelude.{◌≡◌, ◌*◌, ◌/◌, ◌^◌, ◌<◌, ◌≤◌, length, OnOk, IfOk, IfErr, MatchResult};
 ghost use Rattle.std.specs.Iterator.{IsFinite};
 ghost use Rattle.intmap_set.specs.Sets.{IsSet, empty_set, load_factor};
 ghost use Rattle.intmap_set.specs.Combined.{IsDifference, IsIntersection, IsUnion, IsSymmetricDifference, difference_of, intersection_of, union_of, symmetric_difference_of};

@@ -23,7 +23,7 @@ ghost use Rattle.std.specs.List.{AllZip};
 ghost use Rattle.intmap_table.specs.Classes.{IsCapacity, same_key};
 ghost use Rattle.intmap_table.specs.Cloning.{IsPairClone};
 ghost use Rattle.intmap_table.specs.Reach.{through_first};
-ghost use Rattle.intmap_table.specs.Tables.Slots.{rows, row_of, joined, AreMarked, IsNextRow, IsRowSet, IsSlotWord, all_pairs};
+ghost use Rattle.intmap_table.specs.Tables.Slots.{rows, row_of, joined, AreMarked, IsNextRow, IsSlotWord, all_pairs};
 
 use crate::bits::{Bits, HeldWord};
 use crate::key::IntKey;

@@ -16,7 +16,6 @@ pub mod walk;
 
 use crate::memory::prelude::*;
 use crate::proved::table::key::IntKey;
-use crate::proved::table::steps::Steps;
 use crate::proved::table::table::stored::Stored;
 pub use closures::Progress;
 use locate::Location;

@@ -1,4 +1,4 @@
-use Rattle.std.proofs.Common.{rules, ◌∙◌, ◌++◌, option_to_list, ◌≡◌, ◌∷◌, [], List, reverse, length, refl, arith, ap, sym}
+use Rattle.std.proofs.Common.{rules, ◌∙◌, ◌++◌, option_to_list, ◌≡◌, ◌∷◌, [], List, reverse, length, refl, arith, ap}
 use Rattle.std.proofs.lemmas.List.{reverse-append, reverse-reverse}
 use Rattle.intmap_run.proofs.PlacementLemmas.{RunPlacesFew-run, RunLeavesFewSlots-run}
 use Rattle.intmap_run.proofs.RunLemmas.{Leads-start, Leads-step, Leads-end}

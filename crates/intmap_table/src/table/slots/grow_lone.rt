@@ -1,5 +1,5 @@
 //! Growth of lone slots, which stay lone: a slot gets pairs of one old slot alone.
-ghost use Rattle.std.specs.Prelude.{◌≡◌, ◌+◌, ◌-◌, ◌*◌, ◌/◌, ◌<◌, ◌≤◌, ℕ, [], ◌++◌, length, replicate, false, OnOk, OnErr, vec_capacity};
+ghost use Rattle.std.specs.Prelude.{◌≡◌, ◌+◌, ◌-◌, ◌*◌, ◌/◌, ◌<◌, ◌≤◌, [], ◌++◌, length, replicate, false, OnOk, OnErr, vec_capacity};
 ghost use Rattle.intmap_table.specs.Tables.Slots.{rows, joined, AreFew, AreMarked, IsDirectory};
 ghost use Rattle.intmap_table.specs.Tables.Moves.{CanGrow, CanMoveOn, HasGrown, IsMoved, bare_slot};
 

@@ -1,5 +1,5 @@
 //! Growth of shared slots that become lone: each pair gets a slot of its own.
-ghost use Rattle.std.specs.Prelude.{◌≡◌, ◌+◌, ◌<◌, ◌≤◌, ℕ, List, [], ◌∷◌, ◌++◌, get_or, length, true, false, OnOk, OnErr};
+ghost use Rattle.std.specs.Prelude.{◌≡◌, ◌+◌, ◌<◌, ◌≤◌, ℕ, List, [], ◌++◌, get_or, length, true, false, OnOk, OnErr};
 ghost use Rattle.intmap_table.specs.Classes.{IsCapacity};
 ghost use Rattle.intmap_table.specs.Tables.Slots.{rows, joined, AreMarked, IsDirectory, AreSlots};
 ghost use Rattle.intmap_table.specs.Tables.Moves.{need, ArePut, CanGrow, CanPut, HasGrown};

@@ -1,5 +1,5 @@
 //! Growth of lone slots that become shared, since a new pair meets another one.
-ghost use Rattle.std.specs.Prelude.{◌≡◌, ◌+◌, ◌≤◌, ℕ, List, [], ◌∷◌, ◌++◌, length, vec_capacity, OnOk, OnErr, IfErr};
+ghost use Rattle.std.specs.Prelude.{◌≡◌, ◌+◌, List, [], ◌∷◌, ◌++◌, vec_capacity, OnOk, OnErr, IfErr};
 ghost use Rattle.intmap_table.specs.Tables.Slots.{rows, joined, AreFew, AreMarked, AreSlots, IsDirectory};
 ghost use Rattle.intmap_table.specs.Tables.Moves.{ArePut, CanGrow, CanPut, HasGrown};
 
