@@ -1,5 +1,5 @@
 //! Tables of results, in which each number has its square or no value yet; and a cache.
-ghost use Rattle.std.specs.Prelude.{◌%◌, ◌*◌, ◌+◌, ◌<◌, ◌^◌, ◌≡◌, ◌≢◌, ◌≤◌, IfOk, OnErr, OnOk, Some, ℕ, length, unwrap_or};
+ghost use Rattle.std.specs.Prelude.{◌%◌, ◌*◌, ◌+◌, ◌<◌, ◌^◌, ◌≡◌, ◌≢◌, ◌≤◌, IfOk, OnErr, OnOk, Some, ℕ, drop, length, unwrap_or};
 ghost use Rattle.intmap.specs.Bindings.{Updates, value_of};
 
 use intmap::{Cause, IntMap};
@@ -89,6 +89,10 @@ pub fn keep<A: Allocator + Copy>(
     requires full { length cache.old.walk ≤ limit }
     ensures here { OnOk result (value_of (λ k. k) cache.new.walk key ≡ Some value) }
     ensures few { length cache.new.walk ≤ limit }
+    ensures others { length cache.old.walk < limit → (q : ℕ) → q ≢ key
+        → value_of (λ k. k) cache.new.walk q ≡ value_of (λ k. k) cache.old.walk q }
+    ensures evicts { length cache.old.walk ≡ limit → (q : ℕ) → q ≢ key
+        → value_of (λ k. k) cache.new.walk q ≡ value_of (λ k. k) (drop 1 cache.old.walk) q }
     ensures one { length cache.old.walk ≤ length cache.new.walk + 1 }
 {
     if cache.len() >= limit {

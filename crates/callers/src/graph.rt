@@ -1,5 +1,5 @@
 //! Nodes that are visited, and parents of nodes.
-ghost use Rattle.std.specs.Prelude.{◌≡◌, ◌≢◌, ◌<◌, ◌≤◌, ℕ, List, ◌∷◌, [], ◌++◌, None, Some, OnOk, OnErr, IfOk, IfSome, is_none, is_some, cond, true};
+ghost use Rattle.std.specs.Prelude.{◌≡◌, ◌≢◌, ◌<◌, ◌≤◌, ℕ, ◌∷◌, [], ◌++◌, None, Some, OnOk, OnErr, is_none, is_some, cond, true};
 ghost use Rattle.intmap.specs.Bindings.{value_of};
 
 use intmap::{Cause, IntMap};
@@ -17,7 +17,8 @@ pub fn visit<A: Allocator + Copy>(
     ensures marked { OnOk result (is_some (value_of (λ k. k) visited.new.walk node) ≡ true) }
     ensures others { (q : ℕ) → q ≢ node
         → value_of (λ k. k) visited.new.walk q ≡ value_of (λ k. k) visited.old.walk q }
-    ensures queued { OnOk result (queue.new.items ≡ cond (is_none (value_of (λ k. k) visited.old.walk node))
+    ensures queued { OnOk result (queue.new.items
+        ≡ cond (is_none (value_of (λ k. k) visited.old.walk node))
         (queue.old.items ++ node ∷ []) queue.old.items) }
     ensures marks_stay { OnErr result (visited.new.walk ≡ visited.old.walk) }
 {
@@ -43,7 +44,8 @@ pub fn visit_once<A: Allocator + Copy>(
     ensures marked { OnOk result (is_some (value_of (λ k. k) visited.new.walk node) ≡ true) }
     ensures others { (q : ℕ) → q ≢ node
         → value_of (λ k. k) visited.new.walk q ≡ value_of (λ k. k) visited.old.walk q }
-    ensures queued { OnOk result (queue.new.items ≡ cond (is_none (value_of (λ k. k) visited.old.walk node))
+    ensures queued { OnOk result (queue.new.items
+        ≡ cond (is_none (value_of (λ k. k) visited.old.walk node))
         (queue.old.items ++ node ∷ []) queue.old.items) }
     ensures queue_stays { OnErr result (queue.new.items ≡ queue.old.items) }
 {

@@ -1,5 +1,5 @@
 //! Pairs that move: to another key, to another map, and back; and maps that cross threads.
-ghost use Rattle.std.specs.Prelude.{◌&&◌, ◌+◌, ◌^◌, ◌≡◌, ◌≢◌, ◌≤◌, IfErr, IfOk, IfSome, None, OnErr, OnOk, Some, ℕ, false, is_some, length, option_copied, true};
+ghost use Rattle.std.specs.Prelude.{◌&&◌, ◌+◌, ◌^◌, ◌≡◌, ◌≢◌, ◌≤◌, IfErr, IfOk, IfSome, None, OnErr, OnOk, Some, ℕ, false, is_some, option_copied, true};
 ghost use Rattle.std.specs.List.{sum};
 ghost use Rattle.std.specs.Map.{values_of};
 ghost use Rattle.intmap.specs.Bindings.{Updates, value_of};
@@ -105,8 +105,8 @@ pub fn move_number<A: Allocator + Copy>(
     ensures moved { IfOk result
         (λ moved. moved ≡ is_some (value_of (λ k. k) from.old.walk key)) }
     ensures gone { OnOk result (Updates (λ k. k) from.old.walk from.new.walk key None) }
-    ensures there { IfOk result (λ moved. moved ≡ true → Updates (λ k. k) to.old.walk to.new.walk key
-        (value_of (λ k. k) from.old.walk key)) }
+    ensures there { IfOk result (λ moved. moved ≡ true
+        → Updates (λ k. k) to.old.walk to.new.walk key (value_of (λ k. k) from.old.walk key)) }
     ensures stays { IfOk result (λ moved. moved ≡ false → to.new.walk ≡ to.old.walk) }
     ensures from_stays { OnErr result (from.new.walk ≡ from.old.walk) }
     ensures to_stays { OnErr result (to.new.walk ≡ to.old.walk) }
@@ -133,8 +133,8 @@ pub fn move_owned<V: Drop, A: Allocator + Copy>(
     ensures moved { IfOk result
         (λ moved. moved ≡ is_some (value_of (λ k. k) from.old.walk key)) }
     ensures gone { OnOk result (Updates (λ k. k) from.old.walk from.new.walk key None) }
-    ensures there { IfOk result (λ moved. moved ≡ true → Updates (λ k. k) to.old.walk to.new.walk key
-        (value_of (λ k. k) from.old.walk key)) }
+    ensures there { IfOk result (λ moved. moved ≡ true
+        → Updates (λ k. k) to.old.walk to.new.walk key (value_of (λ k. k) from.old.walk key)) }
     ensures stays { IfOk result (λ moved. moved ≡ false → to.new.walk ≡ to.old.walk) }
     ensures from_stays { OnErr result ((q : ℕ)
         → value_of (λ k. k) from.new.walk q ≡ value_of (λ k. k) from.old.walk q) }

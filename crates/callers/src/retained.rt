@@ -1,5 +1,5 @@
 //! Pairs that stay and pairs that go: by a test, by the scope of a name, and from a queue's front.
-ghost use Rattle.std.specs.Prelude.{[], ◌%◌, ◌++◌, ◌+◌, ◌==◌, ◌≡◌, ◌≤◌, All, IfSome, IsSome, None, OnOk, Some, ℕ, cond, count_by, drop, false, filter, is_some, length, nat_le, nat_lt, not, slice_index_or, take};
+ghost use Rattle.std.specs.Prelude.{[], ◌%◌, ◌++◌, ◌+◌, ◌==◌, ◌≡◌, ◌≤◌, IfSome, IsSome, None, OnOk, Some, ℕ, cond, count_by, drop, false, filter, is_some, length, nat_le, nat_lt, not, slice_index_or, take};
 ghost use Rattle.std.specs.List.{slice_get};
 ghost use Rattle.std.specs.Option.{option_map};
 ghost use Rattle.intmap.specs.Bindings.{Updates, value_of};
