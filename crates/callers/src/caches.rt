@@ -78,7 +78,8 @@ pub fn square_by_entry<A: Allocator + Copy>(
 /// Gives a key its value. If there are as many pairs as the limit, the first pair is removed first,
 /// even if the key is present. No other pair is removed.
 ///
-/// It fails if the insertion fails. The removed pair is then gone all the same.
+/// It fails if the insertion fails. The removed pair is then gone all the same, and every other
+/// pair stays.
 pub fn keep<A: Allocator + Copy>(
     cache: &mut IntMap<u64, u64, A>,
     limit: usize,
@@ -93,6 +94,10 @@ pub fn keep<A: Allocator + Copy>(
         → value_of (λ k. k) cache.new.walk q ≡ value_of (λ k. k) cache.old.walk q }
     ensures evicts { length cache.old.walk ≡ limit → (q : ℕ) → q ≢ key
         → value_of (λ k. k) cache.new.walk q ≡ value_of (λ k. k) (drop 1 cache.old.walk) q }
+    ensures stays { OnErr result (length cache.old.walk < limit
+        → cache.new.walk ≡ cache.old.walk) }
+    ensures lost { OnErr result (length cache.old.walk ≡ limit
+        → cache.new.walk ≡ drop 1 cache.old.walk) }
     ensures one { length cache.old.walk ≤ length cache.new.walk + 1 }
 {
     if cache.len() >= limit {

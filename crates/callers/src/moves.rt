@@ -82,7 +82,8 @@ pub fn rename<V: Drop, A: Allocator + Copy>(
     ensures others { (q : ℕ) → q ≢ from → q ≢ to
         → value_of (λ k. k) map.new.walk q ≡ value_of (λ k. k) map.old.walk q }
     ensures stays { IfOk result (λ moved. moved ≡ false → map.new.walk ≡ map.old.walk) }
-    ensures err { IfErr result (λ refused. value_of (λ k. k) map.old.walk from ≡ Some refused.value) }
+    ensures err { IfErr result
+        (λ refused. value_of (λ k. k) map.old.walk from ≡ Some refused.value) }
     ensures missing { OnErr result (value_of (λ k. k) map.new.walk to ≡ None) }
 {
     let Some(value) = map.remove(from) else {
