@@ -1,12 +1,13 @@
 """What is written from the sources into the pages of docs/reference that have calls: the types, functions and laws of a crate,
 each with its signature, its comment, its cost, lines of code and its contract. It stands between two marks, and the rest of a
-page is by hand. Behind a contract are links to the definitions that it cites, which tools/tables.py writes into a page too."""
+page is by hand. Behind a contract are links to the definitions that it cites, in the files of specs."""
 import functools
 import re
+import textwrap
 
 from packed import headings
 from sources import Sources
-from tables import DEFINITIONS, Definitions, calls_of_laws, wrapped
+from tables import Definitions, calls_of_laws, wrapped
 
 API, LAWS, HEADER = "docs/API.md", "docs/reference/Laws.md", "bindings/c/intmap.h"
 # the first mark says who writes it
@@ -122,15 +123,20 @@ class Reference:
 
     def contract(self, text, path):
         """A contract, with links to the definitions that it cites."""
-        return f"{block('rust', text)}\n{wrapped(self.definitions.links(text, self.files[path]))}" if text else ""
+        return f"{block('rust', text)}\n{self.links(text, path)}" if text else ""
+
+    def links(self, text, path):
+        return wrapped(self.definitions.links(text, self.files[path]))
 
     def call(self, item, name="", note=""):
-        """A call: signature, comment, cost, lines of code, contract."""
+        """A call: signature with contract, links to the definitions that this cites, comment, cost, lines of code."""
         # a `for` over a reference is no call of its own
         cost = None if " of `&" in name else self.costs.of(item.owner, item.name)[0]
-        text = f"### {name or f'`{item.name}`'}\n\n{block('rust', item.signature)}\n{paragraph(item.comment)}"
-        text += wrapped(f"Cost: {cost}." if cost else note) + "".join(f"{block('text', it)}\n" for it in item.example)
-        return text + self.contract(item.contract, item.path)
+        is_of_trait = item.contract.startswith("impl")
+        told = item.signature if is_of_trait or not item.contract else f"{item.signature}\n{textwrap.indent(item.contract, '    ')}"
+        text = f"### {name or f'`{item.name}`'}\n\n{paragraph(item.comment)}{block('rust', told)}\n"
+        text += self.contract(item.contract, item.path) if is_of_trait else self.links(item.contract, item.path)
+        return text + wrapped(f"Cost: {cost}." if cost else note) + "".join(f"{block('text', it)}\n" for it in item.example)
 
     def traits(self, kind):
         """The traits of a type, and what those promise of which no method has a comment."""
@@ -190,5 +196,4 @@ def rendered(files):
     definitions, shown = Definitions(files), calls_of_laws(files)
     pages = {f"docs/reference/{name}.md": Reference(it[0], files, definitions).page(*it[1:]) for name, it in PAGES.items()}
     pages[LAWS] = "".join(Reference(crate, files, definitions).laws(shown) for crate in CRATES)
-    pages[DEFINITIONS] = definitions.page()
     return {page: with_index(page, text, files) for page, text in pages.items()}

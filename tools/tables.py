@@ -1,15 +1,14 @@
-"""What tools/calls writes into pages beside the calls: the definitions that contracts cite, where laws are called, and the table of
-scripts. A definition has the comment above it, and its lines as a file of specs has them."""
+"""What tools/calls writes into pages beside the calls: links to the definitions that contracts cite, where laws are called, and the
+table of scripts."""
 import glob
 import os
 import re
 import textwrap
 
 from crates import text_of
-from packed import headings
 
-# the pages that have the tables
-DEFINITIONS, SCRIPTS = "docs/reference/Definitions.md", "CONTRIBUTING.md"
+# the page that has the table of scripts
+SCRIPTS = "CONTRIBUTING.md"
 # from the folder of these pages
 TOP = "../../"
 # whose sources show how to call, and whose answers how to apply
@@ -19,19 +18,8 @@ IMPORTED = re.compile(r"^use (\w+)::(?:\{[^}]*\blaws\b[^}]*\}|laws);", re.M)
 APPLIED = re.compile(r"\bc\.(\w+)\.ensures")
 # what the gate runs, and the line at which its proofs begin
 GATE, PROOFS = ".ci/run", 'echo "== rt ci"'
-# by crate, in order: its heading
-HEADINGS = {
-    "intmap_table": "Keys, slots and lists of pairs",
-    "intmap": "Maps",
-    "intmap_set": "Sets",
-    "intmap_sparse": "Sparse vectors",
-    "intmap_run": "Runs",
-    "intmap_text": "Text",
-    "intmap_c": "The library for C",
-}
+CRATES = ["intmap_table", "intmap", "intmap_set", "intmap_sparse", "intmap_run", "intmap_text", "intmap_c"]
 DEFINITION = re.compile(r"^( *)((?:-- .*\n *)*)((?:(?:abbrev|unfoldable) pub|pub (?:record|data)) (\w+)(?= [:({])(?:.+\n)+)", re.M)
-# what the definitions behind it take first
-GROUP = re.compile(r"^( *)module _ .*\n", re.M)
 MODULE = re.compile(r"^pub mod (\w+)$", re.M)
 # the definitions that a file names
 USED = re.compile(r"\buse Rattle\.(\w+)\.specs\.(\w+)\.\{([^}]*)\}")
@@ -63,52 +51,29 @@ def files_of(crate, files):
     return [(it, path) for it, path in found if DEFINITION.search(files.get(path, "")) and not UNCITED.match(files[path])]
 
 
-def definitions_of(text):
-    """The definitions of a file: name, comment, and lines, behind those of the groups around it."""
-    for mark in DEFINITION.finditer(text):
-        indent, comment, lines, name = mark.groups()
-        around = f"{indent}{lines}"
-        for group in reversed([*GROUP.finditer(text, 0, mark.start())]):
-            if len(group[1]) < len(indent):
-                around, indent = group[0] + around, group[1]
-        yield name, comment_of(comment), around
-
-
 class Definitions:
-    """The page of definitions, and links to what it has."""
+    """The definitions that contracts cite, by crate, module and name: each with its file, its line there, and its comment."""
 
     def __init__(self, files):
-        self.files, self.anchors = files, {}
-        self.found = {crate: [(*it, [*definitions_of(files[it[1]])]) for it in files_of(crate, files)] for crate in HEADINGS}
-        places = [(crate, module, it[0]) for crate, found in self.found.items() for module, _, those in found for it in those]
-        self.anchors = dict(zip(places, [anchor for depth, _, anchor in headings(self.page()) if depth == 4]))
+        self.found = {}
+        for crate in CRATES:
+            for module, path in files_of(crate, files):
+                for mark in DEFINITION.finditer(files[path]):
+                    line = files[path].count("\n", 0, mark.start(3)) + 1
+                    self.found[crate, module, mark[4]] = path, line, comment_of(mark[2])
 
-    def links(self, text, source, page=os.path.basename(DEFINITIONS)):
+    def links(self, text, source):
         """Links to the definitions that a text cites, of those that its source names."""
         named = {name: (crate, module) for crate, module, names in USED.findall(source) for name in names.split(", ")}
         cited = [(it, *named[it]) for it in dict.fromkeys(WORD.findall(text)) if it in named]
         # `intmap` passes on modules of the crate below
-        at = [(it, self.anchors.get((crate, module, it)) or self.anchors.get(("intmap_table", module, it))) for it, crate, module in cited]
-        links = [f"[{it}]({page}#{anchor})" for it, anchor in at if anchor]
+        at = [(it, self.found.get((crate, module, it)) or self.found.get(("intmap_table", module, it))) for it, crate, module in cited]
+        links = [f"[{it}]({TOP}{place[0]}#L{place[1]})" for it, place in at if place]
         return f"Definitions: {', '.join(links)}." if links else ""
-
-    def page(self):
-        """What stands between the marks of the page, but for the links at its front."""
-        text = ""
-        for crate, heading in HEADINGS.items():
-            text += f"## {heading}\n\n"
-            for module, path, found in self.found[crate]:
-                source = self.files[path]
-                told = comment_of(re.match(r"(?:-- .*\n)+", source)[0])
-                text += f"### {module} of {crate}\n\n" + wrapped(f"{told}. In [{path}]({TOP}{path}).")
-                for name, told, lines in found:
-                    text += f"#### `{name}`\n\n{wrapped(told)}```antt\n{lines.rstrip()}\n```\n\n"
-                    text += wrapped(self.links(lines, source, ""))
-        return text
 
     def uncommented(self):
         """The definitions without a comment."""
-        return [f"{path}: no comment is above {name}" for found in self.found.values() for _, path, those in found for name, told, _ in those if not told]
+        return [f"{path}: no comment is above {name}" for (_, _, name), (path, _, told) in self.found.items() if not told]
 
 
 def calls_of_laws(files):
