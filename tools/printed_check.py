@@ -14,12 +14,12 @@ EMULATED = [
 ]
 # all that the file may need
 NEEDED = {"malloc", "realloc", "free", "memmove", "memset", "memcpy", "abort", "__udivti3", "__divti3", "__popcountdi2"}
-# makes the same calls in two libraries
-BOTH = "tools/portable_driver/both.c"
+# makes the same calls in each library, and tells what it requested
+TEST = f"{FOLDER}/test.c"
+# a setting of glibc
+UNFRESH = ["env", "MALLOC_PERTURB_=90"]
 # becomes C by way of a module, and is tried beside itself
 SAMPLES = "tools/portable_driver/samples.c"
-# an archive from which the linker takes all, and others
-WHOLE, PARTS = "-Wl,--whole-archive", "-Wl,--no-whole-archive"
 WRAPPED = [f"-Wl,--wrap={it}" for it in ("malloc", "realloc", "free")]
 CALLS, CALLS_IN_BOTH = 20_000, 1_000_000
 # fills each variable that a function doesn't start, if a compiler knows it
@@ -51,42 +51,22 @@ def wrong_names(compiler, room):
         yield f"{PORTABLE} by {compiler} exports {sorted(exported)}, and as a shared library {sorted(shared)}"
 
 
-class Both:
-    """The archive and, beside it, the printed C as one compiler takes it."""
-
-    def __init__(self, compiler, room, archive):
-        self.compiler, self.room = compiler, room
-        self.program, self.first = f"{room}/both", f"{room}/first.so"
-        words = ["-std=gnu11", "-O2", f"-I{FOLDER}", "-rdynamic", BOTH, "-ldl", "-o", self.program]
-        self.wrong = self.compiled(*words) or self.library([WHOLE, archive, PARTS, f"{kit()}/c/liblibc_c.a"], self.first)
-        self.filled = [] if self.compiled(FILLED, "-fsyntax-only", "-x", "c", "/dev/null") else [FILLED]
-
-    def compiled(self, *words):
-        """What the compiler said, if it failed."""
-        status, said = told(self.compiler, *words)
-        return f"{self.compiler} {' '.join(words)}: {said}" if status else ""
-
-    def library(self, files, made, *words):
-        return self.compiled("-shared", "-fPIC", f"-I{FOLDER}", *words, *WRAPPED, *files, "-o", made)
-
-    def difference(self, path, *words):
-        """What both do differently, this file being compiled with some words; nothing if they do the same."""
-        other = f"{self.room}/other.so"
-        wrong = self.wrong or self.library([path], other, *words)
-        if wrong:
-            return wrong
-        status, said = told(self.program, self.first, other, str(CALLS_IN_BOTH), timeout=LIMIT)
-        return "" if status == 0 and said.startswith(f"{CALLS_IN_BOTH} calls in both, ") else f"status {status}: {said}"
+def said_in(room, compiler, library, *words):
+    """What the test says over this library, behind words for the compiler. New and freed blocks are filled."""
+    program = f"{room}/test"
+    status, said = told(compiler, "-std=gnu11", "-O2", f"-I{FOLDER}", *words, *WRAPPED, TEST, *library, "-o", program)
+    return said if status else told(*UNFRESH, program, str(CALLS_IN_BOTH), timeout=LIMIT)[1]
 
 
 def unlike_calls(room, archive):
     """By which compilers the file differs from the archive in some call."""
     for compiler in filter(shutil.which, COMPILERS):
-        both = Both(compiler, room, archive)
-        for words in (["-O2"], ["-O3", "-DINTMAP_PLAIN_C"], ["-O1", *both.filled]):
-            said = both.difference(PORTABLE, *words)
-            if said:
-                yield f"{PORTABLE} by {compiler} {' '.join(words)} isn't like the archive: {said}"
+        wanted = said_in(room, compiler, [archive, f"{kit()}/c/liblibc_c.a"])
+        filled = [] if told(compiler, FILLED, "-fsyntax-only", "-x", "c", "/dev/null")[0] else [FILLED]
+        for words in (["-O2"], ["-O3", "-DINTMAP_PLAIN_C"], ["-O1", *filled]):
+            said = said_in(room, compiler, [PORTABLE], *words)
+            if said != wanted or ", 0 wrong, " not in said:
+                yield f"{PORTABLE} by {compiler} {' '.join(words)} isn't like the archive: {said}in place of {wanted}"
 
 
 def wrong_samples(compiler, room):

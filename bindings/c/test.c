@@ -6,7 +6,8 @@
 //
 // It compares each answer, the figures and the walk with the model's. A failed call must change
 // nothing. It counts requests and blocks, so it sees memory that isn't given back. It ends with one
-// line of counts, and with status 0 if nothing was wrong.
+// line of counts, and with status 0 if nothing was wrong. The line also has a digest of all requests,
+// by which two forms of the library are compared that are to request the same.
 #include "intmap.h"
 #include <inttypes.h>
 #include <stdio.h>
@@ -22,7 +23,11 @@ void __real_free(void *block);
 // Requests until the refused one; with 0, none is refused. It may be refused with all that follow.
 static uint64_t until_refused;
 static bool are_all_refused, is_refusing;
-static uint64_t requests, refused, granted_bytes, live_blocks;
+static uint64_t requests, refused, granted_bytes, live_blocks, digest;
+
+static void note(uint64_t what) {
+    digest = (digest ^ what) * 0x9E3779B97F4A7C15u + 1;
+}
 
 // Larger requests are refused too, so that a map of 2^32 slots costs nothing.
 enum { LARGEST_REQUEST = 1 << 28 };
@@ -32,6 +37,7 @@ static bool is_refused(size_t size) {
     bool is_due = until_refused > 0 && --until_refused == 0;
     bool is_now = size > largest_request || is_due || is_refusing;
     is_refusing = is_refusing || (is_due && are_all_refused);
+    note(size);
     requests++;
     refused += is_now;
     granted_bytes += is_now ? 0 : size;
@@ -45,13 +51,17 @@ void *__wrap_malloc(size_t size) {
 }
 
 void *__wrap_realloc(void *block, size_t size) {
+    note(1);
     void *moved = is_refused(size) ? NULL : __real_realloc(block, size);
     live_blocks += block == NULL && moved != NULL;
     return moved;
 }
 
 void __wrap_free(void *block) {
-    live_blocks -= block != NULL;
+    if (block != NULL) {
+        note(2);
+        live_blocks--;
+    }
     __real_free(block);
 }
 
@@ -1382,6 +1392,6 @@ int main(int count, char **words) {
     test_each();
     RUN(call_at_random(calls));
     printf("%" PRIu64 " calls, %" PRIu64 " requests refused, ", calls, refused);
-    printf("%" PRIu64 " blocks left, %" PRIu64 " wrong\n", live_blocks, wrong);
+    printf("%" PRIu64 " blocks left, %" PRIu64 " wrong, digest %" PRIx64 "\n", live_blocks, wrong, digest);
     return wrong == 0 ? 0 : 1;
 }
