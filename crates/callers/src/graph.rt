@@ -1,5 +1,5 @@
 //! Nodes that are visited, and parents of nodes.
-ghost use Rattle.std.specs.Prelude.{◌≡◌, ◌≢◌, ◌<◌, ◌≤◌, ℕ, ◌∷◌, [], ◌++◌, None, Some, OnOk, OnErr, is_none, is_some, cond, true};
+ghost use Rattle.std.specs.Prelude.{◌≡◌, ◌≢◌, ◌<◌, ◌≤◌, ℕ, ◌∷◌, [], ◌++◌, ◌⊎◌, None, Some, OnOk, OnErr, is_none, is_some, cond, true};
 ghost use Rattle.intmap.specs.Bindings.{value_of};
 
 use intmap::{Cause, IntMap};
@@ -21,6 +21,8 @@ pub fn visit<A: Allocator + Copy>(
         ≡ cond (is_none (value_of (λ k. k) visited.old.walk node))
         (queue.old.items ++ node ∷ []) queue.old.items) }
     ensures marks_stay { OnErr result (visited.new.walk ≡ visited.old.walk) }
+    ensures queue_left { OnErr result ((queue.new.items ≡ queue.old.items)
+        ⊎ (queue.new.items ≡ queue.old.items ++ node ∷ [])) }
 {
     if visited.contains_key(node) {
         return Ok(());
@@ -48,6 +50,8 @@ pub fn visit_once<A: Allocator + Copy>(
         ≡ cond (is_none (value_of (λ k. k) visited.old.walk node))
         (queue.old.items ++ node ∷ []) queue.old.items) }
     ensures queue_stays { OnErr result (queue.new.items ≡ queue.old.items) }
+    ensures marks_left { OnErr result ((visited.new.walk ≡ visited.old.walk)
+        ⊎ (is_some (value_of (λ k. k) visited.new.walk node) ≡ true)) }
 {
     if visited.insert_checked(node, ())? && queue.push(node).is_err() {
         return Err(Cause::Memory);

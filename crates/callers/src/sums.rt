@@ -36,9 +36,12 @@ pub fn put<A: Allocator + Copy>(
     key: u64,
     value: u64,
 ) -> Result<(), Cause>
+    ensures updates { OnOk result
+        (Updates (λ k. k) map.old.walk map.new.walk key (Some value)) }
     ensures total { OnOk result (sum (values_of map.new.walk)
         + unwrap_or (value_of (λ k. k) map.old.walk key) 0
         ≡ sum (values_of map.old.walk) + value) }
+    ensures err { OnErr result (map.new.walk ≡ map.old.walk) }
 {
     laws::insertions_change_sum::<u64>();
     map.insert(key, value)?;
