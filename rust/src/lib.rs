@@ -59,8 +59,8 @@
 //! two from 2 to 2^63, and the load factor is met at the last length at which insertions check it.
 //!
 //! Not proved, but tested: mutable references to several values, which [`IntMap::iter_mut`],
-//! [`IntMap::values_mut`], `&mut map` and [`IntMap::get_disjoint_mut`] hand out; what mends a map
-//! after a panic; and that code by hand, a few lines a call.
+//! [`IntMap::values_mut`], `&mut map`, [`IntMap::retain_mut`] and [`IntMap::get_disjoint_mut`] hand
+//! out; what mends a map after a panic; and that code by hand, a few lines a call.
 //!
 //! # Failed allocations
 //!

@@ -29,8 +29,7 @@ impl<K: IntKey, V> IntMap<K, V> {
     }
 
     /// The same as [`retain`](Self::retain), but `keep` may change each value that it sees. The cost
-    /// is *O*(*n s* + *c*): it is [`extract_if`](Self::extract_if) with the opposite answer, to its
-    /// end.
+    /// is the same. Its code is by hand, and tested.
     ///
     /// ```
     /// let mut lives = intmap_proved::IntMap::from([(0u64, 1), (1, 2)]);
@@ -41,7 +40,7 @@ impl<K: IntKey, V> IntMap<K, V> {
     /// assert_eq!(format!("{lives:?}"), "{1: 1}");
     /// ```
     pub fn retain_mut<F: FnMut(K, &mut V) -> bool>(&mut self, mut keep: F) {
-        self.extract_if(|key, value| !keep(key, value)).for_each(drop)
+        guarded!(&mut self.map, |map| map.retain_mut(&mut keep))
     }
 
     /// Removes all pairs. The capacity, the load factor and the memory stay. If the drop of a value

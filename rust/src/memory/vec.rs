@@ -102,6 +102,11 @@ impl<T, A: Allocator> Vec<T, A> {
         self.items.truncate(len);
     }
 
+    /// Drops the items for which the closure returns `false`. The others keep their order.
+    pub fn retain_mut<F: FnMut(&mut T) -> bool>(&mut self, f: F) {
+        self.items.retain_mut(f);
+    }
+
     /// Drops all items, and keeps the room.
     pub fn clear(&mut self) {
         self.items.clear();

@@ -83,6 +83,11 @@ impl<K: IntKey, V, A: Allocator + Copy> IntMap<K, V, A> {
         values
     }
 
+    /// Keeps the pairs for which the closure returns true, in their order. It may write each value.
+    pub fn retain_mut<F: FnMut(K, &mut V) -> bool>(&mut self, f: &mut F) {
+        self.len = self.table.retain_mut(f);
+    }
+
     /// The next pair that the closure picks, which it removes: a step of an iterator that has the
     /// progress and the closure elsewhere.
     pub fn extract_step<F: FnMut(K, &mut V) -> bool>(

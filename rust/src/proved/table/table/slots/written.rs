@@ -1,11 +1,12 @@
 //! The pairs of all slots, slot after slot, each with a mutable reference to its value; and those at
 //! places that are known.
-use super::{Directory, Slots};
+use super::{Directory, Slots, unmark_unless};
 use crate::memory::Vec;
 use crate::memory::alloc::{Allocator, Global};
 use crate::proved::table::IntKey;
 use crate::proved::table::bits::Bits;
 use crate::proved::table::bits::written::{MarkedMut, take_at};
+use crate::proved::table::kept::Kept;
 use crate::proved::table::lone::Lone;
 use crate::proved::table::slot::Slot;
 use crate::proved::table::table::stored::Stored;
@@ -130,5 +131,31 @@ impl<K: IntKey, X, A: Allocator> Slots<K, X, A> {
             FilledMut::Lone(marks.pick(&mut self.lone))
         };
         PairsMut { rest: &mut [], filled }
+    }
+}
+
+impl<K: IntKey, V, A: Allocator> Slots<K, Kept<V>, A> {
+    /// Keeps the pairs for which the closure returns true, slot after slot, and returns their number.
+    /// A word of marks is held as by the proved `retain`.
+    pub(in crate::proved::table) fn retain_mut<F: FnMut(K, &mut V) -> bool>(
+        &mut self,
+        f: &mut F,
+    ) -> usize {
+        let (mut count, mut from) = (0, 0);
+        let mut held = self.hold(from);
+        while let Some(index) = self.next_in(&mut held, from) {
+            from = index + 1;
+            if let Some(slot) = self.lone.get_mut(index) {
+                slot.retain_mut(f);
+                unmark_unless(&mut self.directory.bits, slot.is_filled(), index);
+                count += slot.len();
+            } else {
+                let slot = &mut self.shared[index];
+                slot.retain_mut(f);
+                unmark_unless(&mut self.directory.bits, slot.is_filled(), index);
+                count += slot.len();
+            }
+        }
+        count
     }
 }
