@@ -127,11 +127,13 @@ compile_error!("intmap_proved is for targets that are 64 bits wide");
 extern crate alloc;
 
 mod declared;
-mod entry;
 mod guard;
 pub mod iter;
 mod key;
 mod map;
+// behind `map`, so that `entry` stands behind the other calls of a map
+#[rustfmt::skip]
+mod entry;
 mod memory;
 pub mod original;
 #[rustfmt::skip]
