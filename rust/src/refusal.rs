@@ -25,3 +25,28 @@ fn end(cause: Cause) -> ! {
         Cause::TooLarge => panic!("capacity overflow"),
     }
 }
+
+/// Whether both have the same cause and equal values, such as `assert_eq!` asks.
+///
+/// ```
+/// let mut map = intmap_proved::IntMap::new();
+/// assert_eq!(map.try_insert(21u64, 'a'), Ok(None));
+/// ```
+impl<V: PartialEq> PartialEq for Refused<V> {
+    fn eq(&self, other: &Refused<V>) -> bool {
+        self.cause == other.cause && self.value == other.value
+    }
+}
+
+impl<V: Eq> Eq for Refused<V> {}
+
+/// Whether both have the same cause and number, and equal keys and values.
+impl<K: PartialEq, V: PartialEq> PartialEq for RefusedPair<K, V> {
+    fn eq(&self, other: &RefusedPair<K, V>) -> bool {
+        (self.cause, self.applied) == (other.cause, other.applied)
+            && self.key == other.key
+            && self.value == other.value
+    }
+}
+
+impl<K: Eq, V: Eq> Eq for RefusedPair<K, V> {}
