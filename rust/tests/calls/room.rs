@@ -1,6 +1,6 @@
 //! Room for a number of pairs, and slots that are given back.
 use crate::random::Random;
-use intmap_proved::{IntMap, IntSet};
+use intmap_proved::{Cause, IntMap, IntSet};
 
 /// Whether so many pairs meet a load factor in so many slots, as an insertion decides it.
 fn meets(pairs: usize, factor: usize, slots: usize) -> bool {
@@ -125,4 +125,12 @@ fn clone_from_makes_what_clone_makes() {
         assert_eq!((set.capacity(), set.len()), (members.capacity(), members.len()));
     }
     assert!(kept > 300, "only {kept} maps kept their slots");
+}
+
+#[test]
+fn more_pairs_than_a_usize_counts_are_too_many() {
+    let mut map = IntMap::from([(1u64, 'a')]);
+    assert_eq!(map.try_reserve_pairs(usize::MAX), Err(Cause::TooLarge));
+    let mut set = IntSet::from([1u64]);
+    assert_eq!(set.try_reserve_members(usize::MAX), Err(Cause::TooLarge));
 }

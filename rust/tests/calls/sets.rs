@@ -236,3 +236,11 @@ fn a_set_iterates_in_one_order_and_gives_its_keys_away() {
     set.clear();
     assert!(set.is_empty() && set.capacity() > 4, "the slots stay");
 }
+
+#[test]
+fn an_exclusive_or_removes_as_remove_does() {
+    // keys of one slot
+    let mut set = IntSet::from([0u64, 4, 8]);
+    set ^= &IntSet::from([0]);
+    assert_eq!(set.iter().collect::<Vec<_>>(), [&8, &4]);
+}
