@@ -39,7 +39,7 @@
 // - The two words of intmap_clone differ. The array of intmap_copy_pairs has room for `room` pairs.
 // - An address from intmap_place, intmap_at or intmap_at_or_insert isn't used after the next call
 //   with the map, whatever that call does.
-// - There is enough stack: a call takes less than 1 KB of it, or less than 5 KB if the compiler
+// - There is enough stack: a call takes less than 1.2 KB of it, or less than 7 KB if the compiler
 //   doesn't optimise, besides what malloc takes.
 //
 // THREADS. Any number of threads may make calls with `const intmap *` at once, as long as no other

@@ -16,12 +16,12 @@
 //!
 //! You want | Take
 //! ---|---
-//! the fastest map for random keys, or little memory | std's or hashbrown's with a hasher that multiplies: most calls are 2 to 4 times as fast, in half the memory
-//! ids that count up, and come and go | this: a look-up takes 0.6 of the time of the maps in the row above, a removal 0.3 to 0.5, a pair 27 to 54 bytes
+//! the fastest map for random keys, or little memory | std's or hashbrown's with a hasher that multiplies: insertions and look-ups are 2 to 4 times as fast, whole-map calls such as `clone` 2 to 40 times, in a third of the memory
+//! ids that count up with hardly a gap, and come and go | this: a look-up of a present one takes 0.6 of the time of the maps in the row above, a removal 0.3 to 0.5, but a pair 27 to 54 bytes in place of 20 to 39
 //! a program that goes on when memory fails | this: it returns the failure and the value, and the map is as it was. std's has `try_reserve` alone
 //! the same order on every run and machine | this, or `indexmap` (in order of insertion), or `BTreeMap` (sorted)
 //! look-ups, removals and growth that are proved | this
-//! to go on with code for `intmap` 2.0.0 | this, by [one `use` line](original): an insertion takes 0.2 to 0.75 of its time, a removal 0.5 to 2
+//! to go on with code for `intmap` 2.0.0 | this, by [one `use` line](original): the insertion of a new key takes 0.2 to 0.75 of its time, that of a present one 0.35 to 1.15, a removal 0.5 to 2
 //! 32-bit targets, a hasher of your own, keys that strangers choose | std's; [`int_key!`] says what a secret is worth
 //!
 //! The figures are of 1,000 and 20,000 keys, from `docs/SPEED.md` of the repository. The traits of

@@ -100,6 +100,7 @@ static void choose_keys(size_t kind) {
     if (kind == SHUFFLED) {
         shuffle(keys);
     }
+    shuffle(absent);
     memcpy(others, keys, count * sizeof *keys);
     if (kind != DENSE) {
         shuffle(others);

@@ -230,7 +230,8 @@ fn main() {
     if kind == "shuffled" {
         keys = shuffled(&mixed);
     }
-    let others = (count..2 * count).map(|at| key_at(kind, at)).collect();
+    let others: Vec<u64> = (count..2 * count).map(|at| key_at(kind, at)).collect();
+    let others = shuffled(&others);
     let work = Work { keys, mixed, others };
     (0..times).for_each(|_| go(&work, !rest.is_empty()));
 }
