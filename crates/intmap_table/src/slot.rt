@@ -210,6 +210,7 @@ pub(crate) fn clone_pair<K: IntKey, X: Clone>(
 
 /// The same keys with clones of their values, in the same order. It allocates room for exactly
 /// these pairs before it clones the first value. If there is no pair, it allocates nothing.
+#[inline(never)]
 fn clone_in<K: IntKey, X: Clone, A: Allocator>(
     alloc: A,
     pairs: &[(Stored<K>, X)],
@@ -227,6 +228,7 @@ fn clone_in<K: IntKey, X: Clone, A: Allocator>(
 impl<K: IntKey, X: Clone, A: Allocator + Copy> Slot<K, X, A> {
     /// The same keys in the same order, with clones of their values. It allocates room for exactly
     /// the pairs behind the first one.
+    #[inline(always)]
     pub(crate) fn clone(&self) -> Result<Slot<K, X, A>, AllocError>
         ensures pairs { IfOk result
             (λ made. AllZip (IsPairClone X.is_clone) self.now.pairs made.pairs) }
@@ -236,7 +238,15 @@ impl<K: IntKey, X: Clone, A: Allocator + Copy> Slot<K, X, A> {
             Some(pair) => Some(clone_pair(pair)?),
             None => None,
         };
-        let rest = clone_in(*self.rest.allocator(), &self.rest)?;
+        let alloc = *self.rest.allocator();
+        // most slots have no block: a vector without items is made without a call
+        if self.rest.is_empty() {
+            return Ok(Slot {
+                first,
+                rest: Vec::new(alloc),
+            });
+        }
+        let rest = clone_in(alloc, &self.rest)?;
         Ok(Slot { first, rest })
     }
 }
