@@ -12,7 +12,7 @@ SCRIPTS = "CONTRIBUTING.md"
 # from the folder of these pages
 TOP = "../../"
 # whose sources show how to call, and whose answers how to apply
-CALLERS = "crates/callers"
+CALLERS = "crates/caller"
 IMPORTED = re.compile(r"^use (\w+)::(?:\{[^}]*\blaws\b[^}]*\}|laws);", re.M)
 # an answer's law
 APPLIED = re.compile(r"\bc\.(\w+)\.ensures")

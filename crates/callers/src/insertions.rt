@@ -1,16 +1,14 @@
 //! Insertions of many pairs, insertions that never fail, and pairs that wait after a failure.
-ghost use Rattle.std.specs.Prelude.{[], ◌++◌, ◌+◌, ◌<◌, ◌^◌, ◌∷◌, ◌≡◌, ◌≤◌, All, IfOk, IsTrue, List, None, OnErr, OnOk, Some, ℕ, length, reverse, true, vec_capacity};
+ghost use Rattle.std.specs.Prelude.{[], ◌++◌, ◌+◌, ◌<◌, ◌^◌, ◌∷◌, ◌≡◌, ◌≤◌, All, IfOk, List, None, OnErr, OnOk, Some, ℕ, length, reverse, true, vec_capacity};
 ghost use Rattle.std.specs.Option.{option_or};
 ghost use Rattle.intmap.specs.Bindings.{HasDistinctKeys, Updates, value_of};
 ghost use Rattle.intmap.specs.Growth.{IsNext, MeetsLoad};
 ghost use Rattle.intmap.specs.Insertions.{IsInsertion};
 ghost use Rattle.intmap.specs.Reach.{class_size};
 ghost use Rattle.intmap.specs.Room.{AreInRow, HasRoomFor};
-ghost use Rattle.intmap_set.specs.Sets.{holds};
 ghost use Rattle.callers.specs.Bindings.{Moves, pairs_of};
 
 use intmap::{Cause, IntKey, IntMap, RefusedPair, laws};
-use intmap_set::IntSet;
 use std::alloc::{AllocError, Allocator};
 
 // Settings by number. The last value of a setting counts.
@@ -168,22 +166,6 @@ pub fn made_of_one_count<A: Allocator + Copy>(
         Err(_refused) => false,
     };
     Ok((map, is_in))
-}
-
-/// A new set with one member, and whether its insertion succeeded, which it does.
-///
-/// It fails if the set can't be made.
-pub fn made_of_one_member<A: Allocator + Copy>(
-    alloc: A,
-    key: u64,
-) -> Result<(IntSet<u64, A>, bool), Cause>
-    ensures inserted { IfOk result (λ made. made.1 ≡ true) }
-    ensures here { IfOk result (λ made. IsTrue (holds (λ k. k) made.0.walk key)) }
-    ensures len { IfOk result (λ made. length made.0.walk ≡ 1) }
-{
-    let mut set = IntSet::new(alloc)?;
-    let is_in = set.insert(key).is_ok();
-    Ok((set, is_in))
 }
 
 /// Moves the pairs into the map, the last first. A pair whose insertion fails waits with its cause,

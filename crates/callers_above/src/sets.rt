@@ -1,7 +1,7 @@
 //! Facts of sets that a caller draws from their clauses and laws: when the next member grows the
 //! table, when there is room for it, how many members two sets have together, in common and apart,
 //! which members a set made of two has, and how many of some numbers are distinct.
-ghost use Rattle.std.specs.Prelude.{◌+◌, ◌<◌, ◌||◌, ◌↔◌, ◌≡◌, ◌≤◌, IfErr, IfOk, IfSome, IsErrOf, IsTrue, None, OnOk, length, not};
+ghost use Rattle.std.specs.Prelude.{◌+◌, ◌<◌, ◌||◌, ◌↔◌, ◌≡◌, ◌≤◌, IfErr, IfOk, IfSome, IsErrOf, IsTrue, None, OnOk, length, not, true};
 ghost use Rattle.intmap.specs.Growth.{IsNext, MeetsLoad};
 ghost use Rattle.intmap.specs.Map.{IsCapacityAfter, IsOutOfRange};
 ghost use Rattle.intmap.specs.Reach.{class_size};
@@ -223,4 +223,20 @@ pub fn distinct_by_set<A: Allocator + Copy>(alloc: A, numbers: &[u64]) -> Result
 {
     let set: IntSet<u64, A> = IntSet::from_iter(alloc, numbers.iter().copied())?;
     Ok(set.len())
+}
+
+/// A new set with one member, and whether its insertion succeeded, which it does.
+///
+/// It fails if the set can't be made.
+pub fn made_of_one_member<A: Allocator + Copy>(
+    alloc: A,
+    key: u64,
+) -> Result<(IntSet<u64, A>, bool), Cause>
+    ensures inserted { IfOk result (λ made. made.1 ≡ true) }
+    ensures here { IfOk result (λ made. IsTrue (holds (λ k. k) made.0.walk key)) }
+    ensures len { IfOk result (λ made. length made.0.walk ≡ 1) }
+{
+    let mut set = IntSet::new(alloc)?;
+    let is_in = set.insert(key).is_ok();
+    Ok((set, is_in))
 }

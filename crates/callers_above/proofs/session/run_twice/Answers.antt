@@ -1,4 +1,4 @@
-use Rattle.callers.proofs.session.run_twice.Goals as goal
+use Rattle.callers_above.proofs.session.run_twice.Goals as goal
 
 -- the second run left the map as the first did
 pub returns-in-Err-run-clause-err : goal.returns-in-Err-run-clause-err

@@ -6,7 +6,7 @@ use Rattle.intmap_run.specs.declared.command.Command.TheVariants as command
 use Rattle.intmap_run.specs.declared.answer.Answer.{Answer}
 use Rattle.intmap_run.specs.declared.answer.Answer.TheVariants as answer
 use Rattle.intmap_run.specs.Runs.{AnswersInsert, SeesOption, Runs}
-use Rattle.callers.proofs.session.five_answers.Goals as goal
+use Rattle.callers_above.proofs.session.five_answers.Goals as goal
 
 -- each answer follows from the list that the commands before it left, and an insertion may be refused: a proof by cases,
 -- one a command

@@ -6,8 +6,8 @@ use Rattle.intmap.specs.PlainLists.{PlainList, Stands}
 use Rattle.intmap_run.specs.declared.command.Command.{Command}
 use Rattle.intmap_run.specs.declared.answer.Answer.{Answer}
 use Rattle.intmap_run.specs.Runs.{Runs, RunsFrom}
-use Rattle.callers.specs.declared.session.Stopped.{Stopped}
-use Rattle.callers.specs.declared.session.Stopped.TheVariants.{First, Second}
+use Rattle.callers_above.specs.declared.session.Stopped.{Stopped}
+use Rattle.callers_above.specs.declared.session.Stopped.TheVariants.{First, Second}
 
 module _ {K V S A : Type 0} (number : K → ℕ) (sees : V → S → Type 0) (keeps : K → V → Bool) where
   -- from every list that stands for the map m, the first commands and answers lead to a list, and the second on from there to

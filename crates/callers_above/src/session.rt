@@ -1,6 +1,6 @@
 //! Runs of commands, described by one plain list of pairs.
 ghost use Rattle.std.specs.Prelude.{◌≡◌, ◌∷◌, [], IfOk, IfErr, Some, None};
-ghost use Rattle.callers.specs.Sessions.{RunsTwice, Stops};
+ghost use Rattle.callers_above.specs.Sessions.{RunsTwice, Stops};
 
 use intmap::{Cause, IntKey, IntMap, laws};
 use intmap_run::{Answer, Command, Judge, run};

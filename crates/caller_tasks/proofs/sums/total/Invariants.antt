@@ -1,7 +1,7 @@
 use Rattle.std.proofs.Common.{◌≡◌, ◌+◌}
 use Rattle.std.specs.List.{sum}
 use Rattle.std.specs.Map.{values_of}
-use Rattle.callers.proofs.sums.total.Given as goal
+use Rattle.caller_tasks.proofs.sums.total.Given as goal
 
 abbrev pub invariant-loop-value : goal.invariant-loop-value
 invariant-loop-value g l = record {

@@ -1,6 +1,6 @@
 use Rattle.std.proofs.Common.{rules, ◌≡◌, ◌∙◌, Some}
 use Rattle.intmap.specs.Bindings.{value_of}
-use Rattle.callers.proofs.graph.+root.Goals as goal
+use Rattle.caller_tasks.proofs.graph.+root.Goals as goal
 
 -- the node shares it with its parent, and the parent with the root
 pub returns-in-Some-clause-shared : goal.returns-in-Some-clause-shared

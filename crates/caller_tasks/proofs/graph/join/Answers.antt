@@ -2,7 +2,7 @@ use Rattle.std.proofs.Common.{arith, ap, sym, ◌≡◌, ◌∙◌, ℕ, Some}
 use Rattle.std.proofs.lemmas.Bool.Decides.{nat_tests}
 use Rattle.std.proofs.lemmas.Grind.{common_steps}
 use Rattle.intmap.specs.Bindings.{value_of}
-use Rattle.callers.proofs.graph.join.Goals as goal
+use Rattle.caller_tasks.proofs.graph.join.Goals as goal
 
 pub returns-in_ok-insert-2-clause-smaller : goal.returns-in_ok-insert-2-clause-smaller
 returns-in_ok-insert-2-clause-smaller g c q p is =

@@ -1,6 +1,6 @@
 -- The search takes no law whose premise says something of every member.
 use Rattle.std.proofs.Common.{arith}
-use Rattle.callers.proofs.sets.note.Goals as goal
+use Rattle.callers_above.proofs.sets.note.Goals as goal
 
 pub unreachable-requires : goal.unreachable-requires
 unreachable-requires g c =

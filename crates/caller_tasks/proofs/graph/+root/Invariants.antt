@@ -1,4 +1,4 @@
-use Rattle.callers.proofs.graph.+root.Given as goal
+use Rattle.caller_tasks.proofs.graph.+root.Given as goal
 
 abbrev pub decreases-root : goal.decreases-root
 decreases-root g l = l.node
