@@ -18,9 +18,6 @@
 use std::alloc::{AllocError, Allocator};
 use std::cell::Cell;
 
-#[cfg(test)]
-mod tests;
-
 /// Passes each allocation on to `inner`, except those that are to fail.
 ///
 /// It is not `Copy`, since a copy would have counts of its own.
