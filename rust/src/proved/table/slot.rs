@@ -142,6 +142,7 @@ pub(in crate::proved::table) fn clone_pair<K: IntKey, X: Clone>(
 
 /// The same keys with clones of their values, in the same order. It allocates room for exactly
 /// these pairs before it clones the first value. If there is no pair, it allocates nothing.
+#[inline(never)]
 fn clone_in<K: IntKey, X: Clone, A: Allocator>(
     alloc: A,
     pairs: &[(Stored<K>, X)],
@@ -156,12 +157,21 @@ fn clone_in<K: IntKey, X: Clone, A: Allocator>(
 impl<K: IntKey, X: Clone, A: Allocator + Copy> Slot<K, X, A> {
     /// The same keys in the same order, with clones of their values. It allocates room for exactly
     /// the pairs behind the first one.
+    #[inline(always)]
     pub(in crate::proved::table) fn clone(&self) -> Result<Slot<K, X, A>, AllocError> {
         let first = match &self.first {
             Some(pair) => Some(clone_pair(pair)?),
             None => None,
         };
-        let rest = clone_in(*self.rest.allocator(), &self.rest)?;
+        let alloc = *self.rest.allocator();
+        // most slots have no block: a vector without items is made without a call
+        if self.rest.is_empty() {
+            return Ok(Slot {
+                first,
+                rest: Vec::new(alloc),
+            });
+        }
+        let rest = clone_in(alloc, &self.rest)?;
         Ok(Slot { first, rest })
     }
 }
