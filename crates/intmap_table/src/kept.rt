@@ -1,4 +1,4 @@
-//! Stored values, at rest.
+//! A value as the table stores it. No method but these reads it.
 use std::alloc::AllocError;
 use std::marker::Model;
 

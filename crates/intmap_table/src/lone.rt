@@ -151,7 +151,7 @@ impl<K: IntKey, X> Lone<K, X> {
         }
     }
 
-    /// Puts the pair into a slot without one. A slot with room for a pair has none.
+    /// Puts a pair into the slot, which is empty.
     #[inline(always)]
     pub(crate) fn put(&mut self, pair: (Stored<K>, X))
         requires { (self.old.pairs ≡ []) ⊎ (length self.old.pairs < self.old.room) }

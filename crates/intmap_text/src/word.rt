@@ -1,4 +1,4 @@
-//! The words that commands begin with, by the number of numbers behind them.
+//! Names of commands, grouped by how many numbers follow.
 ghost use Rattle.std.specs.Prelude.{◌≡◌, ◌≢◌, ◌↔◌, ℕ, [], ◌∷◌, IfSome, IfNone, IsTrue, codes};
 ghost use Rattle.intmap_run.specs.declared.command.Command.{Command};
 ghost use Rattle.intmap_text.specs.Words.{IsSpelled};

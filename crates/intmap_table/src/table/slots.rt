@@ -206,7 +206,7 @@ impl<K: IntKey, X, A: Allocator> Slots<K, X, A> {
         self.shared[index].value_mut_at(place)
     }
 
-    /// Whether a slot has a pair at this place. It may be behind the last slot.
+    /// Whether a slot has a pair at this place. `index` may be past the last slot.
     #[inline(always)]
     pub(crate) fn has_pair(&self, index: usize, place: usize) -> bool
         requires { length (row_of self.now index) < 2 ^ 64 }

@@ -94,7 +94,7 @@ impl<K: IntKey, X> Lone<K, X> {
         }
     }
 
-    /// Puts the pair into a slot without one. A slot with room for a pair has none.
+    /// Puts a pair into the slot, which is empty.
     #[inline(always)]
     pub(in crate::proved::table) fn put(&mut self, pair: (Stored<K>, X)) {
         match self.pair.replace(pair) {

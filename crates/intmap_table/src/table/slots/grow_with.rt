@@ -54,7 +54,7 @@ impl<K: IntKey, X, A: Allocator> Slots<K, X, A> {
 }
 
 impl<K: IntKey, X: Drop, A: Allocator + Copy> Slots<K, X, A> {
-    /// Whether a `push` to a shared slot allocates. It is false of a lone slot.
+    /// Whether a slot is shared and has no room for one more pair.
     fn is_full(&self, index: usize) -> bool
         requires { index < length self.now }
     {

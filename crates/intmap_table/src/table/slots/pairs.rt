@@ -50,7 +50,7 @@ impl<K: IntKey, X, A: Allocator> Slots<K, X, A> {
             (swap_remove (row_of self.old index) place result) self.new }
         ensures room { length (row_of self.new index) < get_or (rooms self.new) index 0 }
     {
-        // read before the slot changes, so that a write there can't delay it
+        // read before the slot changes, so that the read needn't wait for the slot's write
         let word = self.directory.bits.word(index);
         if index < self.lone.len() {
             let pair = self.lone[index].take();

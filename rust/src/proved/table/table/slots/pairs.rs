@@ -33,7 +33,7 @@ impl<K: IntKey, X, A: Allocator> Slots<K, X, A> {
     /// Removes the pair at a place of a slot. The last pair of the slot takes its place.
     #[inline(always)]
     pub(in crate::proved::table) fn take_at(&mut self, index: usize, place: usize) -> (Stored<K>, X) {
-        // read before the slot changes, so that a write there can't delay it
+        // read before the slot changes, so that the read needn't wait for the slot's write
         let word = self.directory.bits.word(index);
         if index < self.lone.len() {
             let pair = self.lone[index].take();
