@@ -11,6 +11,17 @@ ghost use Rattle.callers.specs.Bindings.{Moves, pairs_of};
 use intmap::{Cause, IntKey, IntMap, RefusedPair, laws};
 use std::alloc::{AllocError, Allocator};
 
+/// Sets the price of an article by its id.
+///
+/// It fails if the insertion of a new id fails. Every article then keeps its price.
+pub fn set_price(prices: &mut IntMap<u64, u64>, id: u64, price: u64) -> Result<(), Cause>
+    ensures set { OnOk result (Updates (λ k. k) prices.old.walk prices.new.walk id (Some price)) }
+    ensures err { OnErr result (prices.new.walk ≡ prices.old.walk) }
+{
+    prices.insert(id, price)?;
+    Ok(())
+}
+
 // Settings by number. The last value of a setting counts.
 
 /// Puts further settings over the present ones. Each setting then has its last value among the
