@@ -71,7 +71,7 @@ FORWARDS = [
 # A call of another public call of the crate, which is what that one is.
 PASSES_ON = r"(?:granted\()?(?:self\.|Int(?:Map|Set)::)(\w+)\([\w, ]*\)\)?;?"
 # the types and the calls whose loans of values are written by hand below `proved`
-LENT = {"IterMut", "ValuesMut", "iter_mut", "values_mut", "get_disjoint_mut"}
+LENT = {"IterMut", "ValuesMut", "iter_mut", "values_mut", "retain_mut", "get_disjoint_mut"}
 # The public calls of sets whose part below `proved` is written by hand, over one proved call of the map.
 OVER_MAP = {"`IntSet`": ["get", "load", "load_factor_thousandths", "try_set_load_factor_thousandths"], "`set::ExtractIf`": ["next"]}
 # Calls in a body that are proved, or public calls of the crate. Lengths are beside the point, and what mends.

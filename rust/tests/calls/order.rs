@@ -108,6 +108,7 @@ fn values_are_dropped_in_the_order_of_iteration() {
         ("into_keys", |map| map.into_keys().for_each(drop)),
         ("drain", |mut map| map.drain().for_each(drop)),
         ("extract_if", |mut map| map.extract_if(|_, _| true).for_each(drop)),
+        ("retain_mut", |mut map| map.retain_mut(|_, _| false)),
     ];
     for (name, call) in calls {
         let (map, log) = logged();

@@ -19,6 +19,13 @@ pub const CALLS: &[(&str, Call)] = &[
         });
     }),
     ("retain, drops", |map| map.retain(|_, value| value.0 % 3 == 0)),
+    ("retain_mut, closure and drops", |map| {
+        map.retain_mut(|_, value| {
+            burn();
+            value.0 ^= 8;
+            value.0 % 2 == 0
+        });
+    }),
     ("clear", |map| map.clear()),
     ("extract_if", |map| {
         let picked = map.extract_if(|_, value| {
