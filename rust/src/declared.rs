@@ -78,7 +78,7 @@ macro_rules! int_key {
 }
 
 /// Returns the number that a secret puts in the place of a number. For each secret, different
-/// numbers stay different.
+/// numbers stay different. The cost is *O*(1).
 ///
 /// # What is known of it
 ///

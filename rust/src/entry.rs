@@ -10,7 +10,8 @@ mod occupied;
 mod vacant;
 
 /// A map with a key that was looked up in it, made by [`IntMap::entry`]. No call of an entry looks
-/// the key up again.
+/// the key up again, so each costs *O*(1) apart from a closure, but the insertion of an absent key
+/// costs what [`IntMap::insert`] does.
 ///
 /// ```
 /// let mut counts = intmap_proved::IntMap::new();
@@ -26,7 +27,7 @@ pub enum Entry<'a, K, V> {
     Vacant(VacantEntry<'a, K, V>),
 }
 
-/// A map with a key that is present in it.
+/// A map with a key that is present in it. Each call costs *O*(1), apart from a closure.
 ///
 /// ```
 /// use intmap_proved::{Entry, IntMap};
@@ -39,7 +40,8 @@ pub enum Entry<'a, K, V> {
 /// ```
 pub struct OccupiedEntry<'a, K, V>(proved::OccupiedEntry<'a, K, V>);
 
-/// A map with a key that is absent from it.
+/// A map with a key that is absent from it. An insertion costs what [`IntMap::insert`] does, any
+/// other call *O*(1).
 ///
 /// ```
 /// use intmap_proved::{Entry, IntMap};
@@ -121,9 +123,8 @@ impl<'a, K: IntKey, V> Entry<'a, K, V> {
     }
 
     /// Sets the value of the key, and returns its entry. A present key keeps its place, and its old
-    /// value is dropped. The pair of an absent key is the last one of its slot. The cost is that of
-    /// [`or_insert`](Self::or_insert). Where [`try_insert_entry`](Self::try_insert_entry) fails,
-    /// this call panics or ends the process.
+    /// value is dropped. The pair of an absent key is the last one of its slot. Where
+    /// [`try_insert_entry`](Self::try_insert_entry) fails, this call panics or ends the process.
     ///
     /// ```
     /// let mut map = intmap_proved::IntMap::new();
@@ -134,8 +135,10 @@ impl<'a, K: IntKey, V> Entry<'a, K, V> {
         granted(self.try_insert_entry(value))
     }
 
-    /// The same as [`insert_entry`](Self::insert_entry), but it returns a failure with the value, as
-    /// [`IntMap::try_insert`] does.
+    /// The same as [`insert_entry`](Self::insert_entry), but it returns a failure.
+    ///
+    /// # Errors
+    /// Those of [`IntMap::try_insert`], with the value.
     ///
     /// Proved of `Entry::insert_entry`: `written`, `inserted`, `err`, `value_returned`, `refused`,
     /// `succeeds`.

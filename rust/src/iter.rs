@@ -95,28 +95,12 @@ counted! {
 
     /// The pairs of a map, whose values can be changed, made by
     /// [`IntMap::iter_mut`](crate::IntMap::iter_mut).
-    ///
-    /// ```
-    /// let mut map = intmap_proved::IntMap::from([(0u64, 'a'), (1, 'b')]);
-    /// *map.iter_mut().next().unwrap().1 = 'z';
-    /// assert_eq!(map[0], 'z');
-    /// ```
     IterMut ['a, K: IntKey, V] ['a, K, V] proved::IterMut<'a, K, V> => (&'a K, &'a mut V);
 
     /// The keys of a map, made by [`IntMap::keys`](crate::IntMap::keys).
-    ///
-    /// ```
-    /// let map = intmap_proved::IntMap::from([(0u64, 'a'), (1, 'b')]);
-    /// assert_eq!(format!("{:?}", map.keys()), "[0, 1]");
-    /// ```
     Keys ['a, K: IntKey, V] ['a, K, V] proved::Keys<'a, K, V> => &'a K;
 
     /// The values of a map, made by [`IntMap::values`](crate::IntMap::values).
-    ///
-    /// ```
-    /// let map = intmap_proved::IntMap::from([(0u64, 'a'), (1, 'b')]);
-    /// assert_eq!(format!("{:?}", map.values()), "['a', 'b']");
-    /// ```
     Values ['a, K: IntKey, V] ['a, K, V] proved::Values<'a, K, V> => &'a V;
 
     /// The values of a map, which can be changed, made by
@@ -130,36 +114,15 @@ counted! {
 
     /// Removes one pair of a map at each step and returns it, made by
     /// [`IntMap::drain`](crate::IntMap::drain). The pairs that it didn't return stay in the map.
-    ///
-    /// ```
-    /// let mut map = intmap_proved::IntMap::from([(0u64, 'a'), (1, 'b')]);
-    /// assert_eq!(map.drain().take(1).count(), 1);
-    /// assert_eq!(map.len(), 1);
-    /// ```
     Drain ['a, K: IntKey, V] ['a, K, V] proved::Drain<'a, K, V> => (K, V);
 
     /// The pairs of a map by value, made by [`IntMap::into_iter`](IntoIterator::into_iter).
-    ///
-    /// ```
-    /// let map = intmap_proved::IntMap::from([(0u64, 'a'), (1, 'b')]);
-    /// assert_eq!(map.into_iter().len(), 2);
-    /// ```
     IntoIter [K: IntKey, V] [K, V] proved::IntoIter<K, V> => (K, V);
 
     /// The keys of a map by value, made by [`IntMap::into_keys`](crate::IntMap::into_keys).
-    ///
-    /// ```
-    /// let map = intmap_proved::IntMap::from([(0u64, 'a'), (1, 'b')]);
-    /// assert_eq!(map.into_keys().last(), Some(1));
-    /// ```
     IntoKeys [K: IntKey, V] [K, V] proved::IntoKeys<K, V> => K;
 
     /// The values of a map by value, made by [`IntMap::into_values`](crate::IntMap::into_values).
-    ///
-    /// ```
-    /// let map = intmap_proved::IntMap::from([(0u64, 'a'), (1, 'b')]);
-    /// assert_eq!(map.into_values().last(), Some('b'));
-    /// ```
     IntoValues [K: IntKey, V] [K, V] proved::IntoValues<K, V> => V;
 }
 

@@ -15,12 +15,14 @@ use core::num::{
 /// # Keys of your own
 ///
 /// [`int_key!`](crate::int_key) makes a key of a struct with one field that is a key. Where you
-/// implement this trait by hand, two keys must be equal exactly if their numbers are, and a key's
-/// number must never change. [`check_keys`](crate::check_keys) tells in a test whether some keys
-/// keep to this. If a type breaks it, then in its maps lookups may miss, pairs may be lost, lengths
-/// may be wrong or wrap below 0, and any call may panic or end the process, as for want of memory.
-/// There is still no undefined behavior, and no value is dropped twice. If `number` panics, the map
-/// stays whole: the page of the crate says what that means.
+/// implement this trait by hand, two keys must be equal if and only if their numbers are, equal
+/// keys must be the same, with no field in which they differ, and a key's number must never change.
+/// Maps and sets compare numbers alone: they never call `==` of keys.
+/// [`check_keys`](crate::check_keys) finds, in a test, keys that break a rule. If a type breaks
+/// one, then in its maps lookups may miss, pairs may be lost, lengths may be wrong or wrap below 0,
+/// and any call may panic or end the process, as for want of memory. There is still no undefined
+/// behavior, and no value is dropped twice. If `number` panics, the map stays whole: the page of
+/// the crate says what that means.
 ///
 /// A place on a board of 256 columns:
 ///
@@ -53,11 +55,11 @@ use core::num::{
 pub use crate::proved::map::IntKey;
 
 /// Checks by some keys that their type keeps to the rules of [`IntKey`]: that two of them are equal
-/// exactly if their numbers are, and that the number of none changes from one call to the next. It is
-/// for tests of a type that implements the trait by hand. The cost is *O*(*m*^2) for *m* keys.
+/// if and only if their numbers are, and that no number changes from one call to the next. It
+/// doesn't see fields that `==` ignores. It is for tests of a type that implements the trait by
+/// hand. The cost is *O*(*m*^2) for *m* keys.
 ///
 /// # Errors
-///
 /// The first key that breaks a rule, behind an earlier key with which it does. Both are one key if
 /// its number changes, or if it isn't equal to itself.
 ///

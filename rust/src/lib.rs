@@ -1,7 +1,7 @@
 //! A map and a set for integer keys, whose core is machine-checked against its contract.
 //!
 //! It gives your value back when memory fails, and visits its pairs in the same order on every run.
-//! No `unsafe`, no dependency, `no_std` with `alloc`. Fast on ids that count up.
+//! No `unsafe`, no dependency, `no_std` with `alloc`. Fast on ids that count up with hardly a gap.
 //!
 //! ```
 //! use intmap_proved::IntMap;
@@ -16,29 +16,48 @@
 //!
 //! You want | Take
 //! ---|---
-//! the fastest map for random keys, or little memory | std's or hashbrown's with a hasher that multiplies: insertions and look-ups are 2 to 4 times as fast, whole-map calls such as `clone` 2 to 40 times, in a third of the memory
-//! ids that count up with hardly a gap, and come and go | this: a look-up of a present one takes 0.6 of the time of the maps in the row above, a removal 0.3 to 0.5, but a pair 27 to 54 bytes in place of 20 to 39
+//! the fastest map for keys of any kind, or little memory | std's or hashbrown's with a hasher that multiplies. With random keys an insertion here takes 2.5 to 4 times std's time, a look-up 1.3 to 4 times, a removal 0.7 to 1.8, and a map three times std's bytes
+//! to clone, collect, drain, clear or drop whole maps | the same. Here `clone` takes 3 to 40 times std's time, `clear` 20 to 120, `into_iter` and `drain` 2 to 13, `collect` 2 to 7, and `extend` of a new map by random keys 5 to 13. A `drop` of random keys goes through all slots, where std's frees one block
+//! ids with hardly a gap, inserted in order | this. A look-up of a present id takes 0.5 to 0.95 of std's time, a removal 0.3 to 0.8, an insertion 0.5 to 0.95 but 0.9 to 1.9 where room was made, and a map 1.4 times std's bytes. Of 20,000 ids, look-ups of absent ones in shuffled order take 1.5 to 2 times std's time
+//! ids with gaps, or inserted in another order | std's, or measure. Here an insertion takes 1.6 to 1.9 times std's time with a tenth of the ids missing, 2 to 3 times in shuffled order, and 4 to 6 times with half of the ids missing or with even ids
 //! a program that goes on when memory fails | this: it returns the failure and the value, and the map is as it was. std's has `try_reserve` alone
 //! the same order on every run and machine | this, or `indexmap` (in order of insertion), or `BTreeMap` (sorted)
 //! look-ups, removals and growth that are proved | this
-//! to go on with code for `intmap` 2.0.0 | this, by [one `use` line](original): the insertion of a new key takes 0.2 to 0.75 of its time, that of a present one 0.35 to 1.15, a removal 0.5 to 2
+//! to go on with code for `intmap` 2.0.0 | this, by [one `use` line](original). The insertion of a new key takes 0.15 to 0.75 of its time, that of a present one 0.3 to 1.45, a removal 0.3 to 2.1
 //! 32-bit targets, a hasher of your own, keys that strangers choose | std's; [`int_key!`] says what a secret is worth
 //!
-//! The figures are of 1,000 and 20,000 keys, from `docs/SPEED.md` of the repository. The traits of
-//! serde are in the crate `intmap_proved_serde`.
+//! Each figure is the time or the bytes of this map by those of the other, where none is named
+//! std's with a multiplying hasher. It is the range of what several programs found with 1,000 and
+//! 20,000 keys and values of type `u64`. A time is the least of many rounds in which the maps took
+//! turns, on machines that were mostly busy. Bytes were counted at the allocator.
+//!
+//! The traits of serde are in the crate `intmap_proved_serde`.
 //!
 //! # Beside std's maps
 //!
-//! The calls are those of std's `HashMap` and `HashSet`, with keys by value. Before you take one for
-//! the other:
+//! The calls are those of std's `HashMap` and `HashSet`. Before you take one for the other:
 //!
-//! - `map.drain();` empties nothing: a step removes a pair, and what it didn't return stays.
-//! - `with_capacity(128)` and `reserve(128)` count slots: 128 pairs may double them.
-//!   [`with_room_for`](IntMap::with_room_for) and [`reserve_pairs`](IntMap::reserve_pairs) count pairs.
-//! - `new`, `default` and `mem::take` allocate. A map that begins with room writes all of it at once,
-//!   48 bytes a slot for keys and values of 64 bits.
+//! - Keys are passed by value. Closures get them by value too, except `or_insert_with_key`'s.
+//! - `map.drain();` empties nothing: a step removes a pair, and what it didn't return stays. Where
+//!   thousands of keys share a slot, steps of `drain` and `extract_if` are slow, those of
+//!   `mem::take(&mut map).into_iter()` aren't.
+//! - `capacity`, `with_capacity(128)` and `reserve(128)` count slots: 128 pairs may double them.
+//!   [`with_room_for`](IntMap::with_room_for) and [`reserve_pairs`](IntMap::reserve_pairs) count
+//!   pairs, [`reserve_members`](IntSet::reserve_members) members. Keys that share a slot still
+//!   allocate.
+//! - `new`, `default` and `mem::take` allocate, so no map is a constant. A map that begins with
+//!   room writes all of it at once, 48 bytes a slot for keys and values of 64 bits.
+//! - `insert` of a present key moves its pair to the end of its slot, so later in the order.
+//!   [`first_key_value`](IntMap::first_key_value) returns the first pair in that order.
+//! - A map's `insert`, `extend` and `collect` store the new key of a present one, where std keeps
+//!   the old one. A map's `remove_entry` and a set's `take` return the key that was passed, std's
+//!   the stored one. Keys that keep to the rules of [`IntKey`] don't show it.
 //! - `retain` can't change values: [`retain_mut`](IntMap::retain_mut) can.
 //! - `try_insert` fails for want of memory, not for a present key.
+//! - The `Debug` text of iterators that can't be cloned has no items: mostly a count of those left.
+//! - There is no hasher, and no `get_disjoint_unchecked_mut`. A set has no `load_rate`,
+//!   `collisions` or `assert_count`. A struct with a field `IntMap<K, V>` needs no bound, but needs
+//!   `K: IntKey` to derive `Clone`, `Debug` or `PartialEq`.
 //!
 //! # What is proved
 //!
@@ -51,26 +70,29 @@
 //!
 //! A call that makes a proved call has a line such as "Proved of `IntMap::get`: `value`". The line
 //! names the proved call and the clauses of its contract, which stand in the crates `intmap` and
-//! `intmap_set` of the repository. The text above the line says in words what these clauses say of
-//! the answer, of what the call leaves, and of failures. "Proved in part" marks code by hand over the
-//! proved calls that the line names. Except for the calls of the next paragraph, a call without such
-//! a line only makes the call that its text links. What holds of every map is proved of each call
-//! too: no key is there twice, the pairs are in the order of their slots, the capacity is a power of
-//! two from 2 to 2^63, and the load factor is met at the last length at which insertions check it.
+//! `intmap_set` of the repository that this copy came from. The text above the line says in words
+//! what these clauses say of the answer, of what the call leaves, and of failures. "Proved in part"
+//! marks code by hand over the proved calls that the line names. Except for the calls of the next
+//! paragraph, a call without such a line only makes the call that its text links. What holds of
+//! every map is proved of each call too: no key is there twice, the pairs are in the order of their
+//! slots, the capacity is a power of two from 2 to 2^63, and the load factor is met at the last
+//! length at which insertions check it.
 //!
 //! Not proved, but tested: mutable references to several values, which [`IntMap::iter_mut`],
 //! [`IntMap::values_mut`], `&mut map`, [`IntMap::retain_mut`] and [`IntMap::get_disjoint_mut`] hand
-//! out; what mends a map after a panic; and that code by hand, a few lines a call.
+//! out; what makes a map whole after a panic; and the other code by hand. By lines of code, more
+//! than a third of the crate is by hand.
 //!
 //! # Failed allocations
 //!
 //! A call that may allocate has two forms. [`try_insert`](IntMap::try_insert) returns the failure
 //! and hands the value back, and the map is as it was, but may keep memory that it was granted
 //! before. [`insert`](IntMap::insert) does what std's collections do: if an allocation fails, it
-//! calls `handle_alloc_error`, which ends the process with a message that names the size of one word,
-//! whatever was requested. If the map would need more than 2^63 slots, it panics. The operators of
-//! sets, such as `|`, and `clone_from` have no `try_` form: take [`IntSet::try_from_iter`] of the
-//! members, and [`try_clone`](IntMap::try_clone). All other calls allocate nothing: lookups, removals, `retain`, `clear`, and all iterators.
+//! calls `handle_alloc_error`, which ends the process with a message that names the size of one
+//! word, whatever was requested. If the map would need more than 2^63 slots, it panics. The
+//! operators of sets, such as `|`, and `clone_from` have no `try_` form: take
+//! [`IntSet::try_from_iter`] of the members, and [`try_clone`](IntMap::try_clone). All other calls
+//! allocate nothing: lookups, removals, `retain`, `clear`, and all iterators.
 //!
 //! ```
 //! use intmap_proved::{Cause, IntMap, Refused};

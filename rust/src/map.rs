@@ -11,13 +11,14 @@ mod walk;
 
 /// A hash map from integer keys to values.
 ///
-/// The pairs lie in slots, whose number, the capacity, is a power of two. A key's slot is its number
-/// times an odd constant, modulo the capacity: two keys share one exactly if their numbers are equal
-/// modulo the capacity. Iteration goes through the slots in turn, and through each from front to
-/// back: with 8 slots the keys 0 to 7 come as 0, 5, 2, 7, 4, 1, 6, 3. So order and capacity depend on
-/// the calls alone: there is no random seed, and the same calls give the same order on every run.
-/// Only [`shrink_to`](IntMap::shrink_to) and [`shrink_to_fit`](IntMap::shrink_to_fit) make the
-/// capacity smaller, and `clone_from`, which takes that of its source.
+/// The pairs lie in slots, whose number, the capacity, is a power of two. A key's slot is its
+/// number times an odd constant, modulo the capacity: two keys share one if and only if their
+/// numbers are equal modulo the capacity. Iteration goes through the slots in turn, and through
+/// each from front to back: with 8 slots the keys 0 to 7 come as 0, 5, 2, 7, 4, 1, 6, 3. So order
+/// and capacity depend on the calls alone: there is no random seed, and the same calls give the
+/// same order on every run. Only [`shrink_to`](IntMap::shrink_to) and
+/// [`shrink_to_fit`](IntMap::shrink_to_fit) make the capacity smaller, and `clone_from`, which
+/// takes that of its source.
 ///
 /// # Cost
 ///
@@ -29,15 +30,23 @@ mod walk;
 ///
 /// # Memory
 ///
-/// A slot takes the space of a pair and up to a word, also if it is empty. It takes 24 bytes more
-/// in a new map, and until insertions make the map grow to 16 slots or more with no two pairs in
-/// one slot. The slots are then small, until a second pair comes to one: that insertion makes all
-/// of them large. A clone has slots of the same size.
+/// A slot takes the space of a pair and up to a word, even if it is empty, so put values above some
+/// 200 bytes into a `Box`. The slots of a new map are *shared*: each takes 24 bytes more, and can
+/// have several pairs. They become *lone* once an insertion makes the map grow to 16 slots or more
+/// with no two pairs in one slot. A second pair in a lone slot makes all slots shared again. A map
+/// that was made with room, or by `collect`, begins with shared slots too. A clone has slots of the
+/// same form.
 ///
-/// The pairs of a slot behind its first lie in a block. Each slot keeps the block for the most pairs
-/// that it ever had, as long as the capacity stays: no removal gives it back. So memory creeps where
-/// keys rise and random ones leave. A [`clone`](Clone::clone) does without that memory, and so does
-/// a map that is collected from the pairs. Keys that come again find their slot's block.
+/// The pairs of a slot behind its first lie in a block. Each slot keeps the block for the most
+/// pairs that it ever had, as long as the capacity stays: no removal gives it back. So memory
+/// creeps where keys rise and random ones leave: 10,000 live pairs of 56 bytes took 1.05 MB at
+/// first, 2.2 MB after 10 times as many removals, and 5.1 MB after 1000 times. A
+/// [`clone`](Clone::clone) of them took 1.5 MB. Keys that come again find their slot's block.
+///
+/// With keys and values of 64 bits, std's map takes a third of the bytes for random keys and 0.7
+/// for ids without gaps, as counted at the allocator from 100 to 1,000,000 pairs; twice that for a
+/// while, when it has grown and this map hasn't. An empty map allocates 200 bytes beside the 104 of
+/// [`IntMap`] itself, std's nothing beside its 48.
 ///
 /// # Examples
 ///

@@ -1,10 +1,11 @@
 //! The proved code: the project's Rattle sources without their contracts.
 //!
-//! `tools/erase` of the repository writes these modules. What is private to a crate there is private
-//! to a module here. The files `written` and `mending` among them are written by hand, and are tested,
-//! not proved. Each `written` is for mutable references to several values, or for calls of a set that
-//! the proved set lacks, and each `mending` for a map that a panic has left in the middle of a call.
-//! Items that no call of the crate reaches aren't here. Imports and style are as the sources have them.
+//! `tools/erase` of the repository writes these modules. What is private to a crate there is
+//! private to a module here. The files `written` and `mending` among them are written by hand, and
+//! are tested, not proved. Each `written` is for mutable references to several values, or for calls
+//! of a set that the proved set lacks, and each `mending` for a map that a panic has left in the
+//! middle of a call. Items that no call of the crate reaches aren't here. Imports and style are as
+//! the sources have them.
 #![allow(unused_imports, unstable_name_collisions)]
 #![allow(clippy::style, clippy::complexity, clippy::perf)]
 

@@ -31,9 +31,12 @@ pub use iter::{
 ///
 /// Its members lie in slots as the keys of an [`IntMap`](crate::IntMap) do, and iteration goes
 /// through them in the same way: order and capacity depend on the calls alone. Its
-/// [memory](crate::IntMap#memory) is that of a map whose pairs take the space of a key. In what the
-/// calls say of their cost, *n* is the number of members, *c* the capacity, and *s* the number of
-/// members in the slot of the key.
+/// [memory](crate::IntMap#memory) is that of a map whose pairs take the space of a key.
+///
+/// In what the calls say of their cost, *n* is the number of members, *c* the capacity, and *s* the
+/// number of members in the slot of the key. A call over two sets walks one or both, at *O*(*n* +
+/// *c*), and looks members up in the other, at *O*(*s*) each. Where a call says nothing of its
+/// cost, it is that of the map's call of the same name.
 ///
 /// ```
 /// use intmap_proved::IntSet;

@@ -5,9 +5,8 @@ use crate::refusal::{Refused, granted};
 
 impl<'a, K: IntKey, V> Entry<'a, K, V> {
     /// Inserts `value` if the key is absent, and drops it if the key is present. Returns a mutable
-    /// reference to the value of the key. The cost is *O*(1) if the key is present, and otherwise
-    /// that of [`IntMap::insert`](crate::IntMap::insert). Where
-    /// [`try_or_insert`](Self::try_or_insert) fails, this call panics or ends the process.
+    /// reference to the value of the key. Where [`try_or_insert`](Self::try_or_insert) fails, this
+    /// call panics or ends the process.
     ///
     /// ```
     /// let mut map = intmap_proved::IntMap::new();
@@ -19,9 +18,12 @@ impl<'a, K: IntKey, V> Entry<'a, K, V> {
         granted(self.try_or_insert(value))
     }
 
-    /// The same as [`or_insert`](Self::or_insert), but it returns a failure with the value, by
-    /// [`try_or_insert_with`](Self::try_or_insert_with). It fails only if the key is absent, as
-    /// `IntMap::try_insert` does, and then leaves the map as it was.
+    /// The same as [`or_insert`](Self::or_insert), but it returns a failure, by
+    /// [`try_or_insert_with`](Self::try_or_insert_with).
+    ///
+    /// # Errors
+    /// Those of [`IntMap::try_insert`](crate::IntMap::try_insert), with the value, and only if the
+    /// key is absent.
     ///
     /// ```
     /// use intmap_proved::{IntMap, Refused};
@@ -48,8 +50,10 @@ impl<'a, K: IntKey, V> Entry<'a, K, V> {
         granted(self.try_or_insert_with(make))
     }
 
-    /// The same as [`or_insert_with`](Self::or_insert_with), but it returns a failure with the value
-    /// that was made, as [`try_or_insert_with_key`](Self::try_or_insert_with_key) does.
+    /// The same as [`or_insert_with`](Self::or_insert_with), but it returns a failure.
+    ///
+    /// # Errors
+    /// Those of [`try_or_insert_with_key`](Self::try_or_insert_with_key).
     #[inline]
     pub fn try_or_insert_with<F: FnOnce() -> V>(self, make: F) -> Result<&'a mut V, Refused<V>> {
         self.try_or_insert_with_key(|_| make())
@@ -67,8 +71,10 @@ impl<'a, K: IntKey, V> Entry<'a, K, V> {
         granted(self.try_or_insert_with_key(make))
     }
 
-    /// The same as [`or_insert_with_key`](Self::or_insert_with_key), but it returns a failure with
-    /// the value that was made, as [`IntMap::try_insert`](crate::IntMap::try_insert) does.
+    /// The same as [`or_insert_with_key`](Self::or_insert_with_key), but it returns a failure.
+    ///
+    /// # Errors
+    /// Those of [`IntMap::try_insert`](crate::IntMap::try_insert), with the value that was made.
     ///
     /// Proved in part: the value of a present key is lent by
     /// [`OccupiedEntry::into_mut`](crate::OccupiedEntry::into_mut), and one that the closure made
@@ -89,8 +95,11 @@ impl<'a, K: IntKey, V> Entry<'a, K, V> {
     }
 
     /// The same as [`try_or_insert_with`](Self::try_or_insert_with), for a value that may fail to be
-    /// made. An error of `make` is returned as it is, and the map stays as it was. Where the
-    /// insertion fails, the error is what `From` makes of a [`Refused`].
+    /// made.
+    ///
+    /// # Errors
+    /// That of `make` as it is, and if the insertion fails, what `From` makes of a [`Refused`]. The
+    /// map then stays as it was.
     ///
     /// Proved in part: the value of a present key is lent by
     /// [`OccupiedEntry::into_mut`](crate::OccupiedEntry::into_mut), and one that the closure made
@@ -133,8 +142,10 @@ impl<'a, K: IntKey, V> Entry<'a, K, V> {
     }
 
     /// The same as [`or_default`](Self::or_default), but it returns a failure, by
-    /// [`try_or_insert_with`](Self::try_or_insert_with). It fails only if the key is absent, as
-    /// `IntMap::try_insert` does, and then leaves the map as it was.
+    /// [`try_or_insert_with`](Self::try_or_insert_with).
+    ///
+    /// # Errors
+    /// Those of [`try_or_insert`](Self::try_or_insert).
     #[inline]
     pub fn try_or_default(self) -> Result<&'a mut V, Refused<V>>
     where

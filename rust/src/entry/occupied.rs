@@ -85,7 +85,6 @@ impl<'a, K: IntKey, V> OccupiedEntry<'a, K, V> {
     }
 
     /// Removes the pair as [`IntMap::remove`](crate::IntMap::remove) does, and returns the value.
-    /// The cost is *O*(1).
     ///
     /// Proved of `OccupiedEntry::remove`: `value`, `state`, `updates`, `len`.
     #[inline]
@@ -93,7 +92,7 @@ impl<'a, K: IntKey, V> OccupiedEntry<'a, K, V> {
         self.0.remove()
     }
 
-    /// The same as [`remove`](Self::remove), but it returns the key beside the value.
+    /// The same as [`remove`](Self::remove), but it returns the stored key beside the value.
     ///
     /// Proved of `OccupiedEntry::remove_entry`: `key`, `value`, `state`, `updates`, `len`.
     ///
@@ -111,7 +110,7 @@ impl<'a, K: IntKey, V> OccupiedEntry<'a, K, V> {
     }
 
     /// Removes the pair as [`remove`](Self::remove) does, and calls `f` with the value. If `f`
-    /// returns `Ok`, returns what is in it. The cost is *O*(1), apart from `f`.
+    /// returns `Ok`, returns what is in it.
     ///
     /// If `f` returns a value as its error, the key has that value, and the call returns `None`.
     /// The pair is then at the end of its slot, where an [`insert`](crate::IntMap::insert) of a

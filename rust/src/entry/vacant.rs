@@ -30,8 +30,7 @@ impl<'a, K: IntKey, V> VacantEntry<'a, K, V> {
         self.0.into_key()
     }
 
-    /// Inserts the pair at the end of its slot, and returns a mutable reference to the value. The
-    /// cost is that of [`IntMap::insert`](crate::IntMap::insert). Where
+    /// Inserts the pair at the end of its slot, and returns a mutable reference to the value. Where
     /// [`try_insert`](Self::try_insert) fails, this call panics or ends the process.
     ///
     /// ```
@@ -48,8 +47,10 @@ impl<'a, K: IntKey, V> VacantEntry<'a, K, V> {
         granted(self.try_insert(value))
     }
 
-    /// The same as [`insert`](Self::insert), but it returns a failure with the value, as
-    /// [`IntMap::try_insert`](crate::IntMap::try_insert) does.
+    /// The same as [`insert`](Self::insert), but it returns a failure.
+    ///
+    /// # Errors
+    /// Those of [`IntMap::try_insert`](crate::IntMap::try_insert), with the value.
     ///
     /// Proved in part: it is [`try_insert_entry`](VacantEntry::try_insert_entry), and then
     /// [`into_mut`](OccupiedEntry::into_mut) of the entry.
@@ -75,8 +76,10 @@ impl<'a, K: IntKey, V> VacantEntry<'a, K, V> {
         granted(self.try_insert_entry(value))
     }
 
-    /// The same as [`insert_entry`](Self::insert_entry), but it returns a failure with the value, as
-    /// [`IntMap::try_insert`](crate::IntMap::try_insert) does.
+    /// The same as [`insert_entry`](Self::insert_entry), but it returns a failure.
+    ///
+    /// # Errors
+    /// Those of [`IntMap::try_insert`](crate::IntMap::try_insert), with the value.
     ///
     /// Proved of `VacantEntry::insert_entry`: `written`, `absent`, `inserted`, `err`,
     /// `value_returned`, `refused`, `succeeds`.

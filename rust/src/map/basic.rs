@@ -21,7 +21,10 @@ impl<K: IntKey, V> IntMap<K, V> {
         granted(Self::try_new())
     }
 
-    /// The same as [`new`](Self::new), or [`Cause::Memory`] if an allocation fails.
+    /// The same as [`new`](Self::new), but it returns a failure.
+    ///
+    /// # Errors
+    /// [`Cause::Memory`] if an allocation fails.
     ///
     /// Proved of `IntMap::new`: `state`, `memory`.
     pub fn try_new() -> Result<IntMap<K, V>, Cause> {
@@ -47,8 +50,11 @@ impl<K: IntKey, V> IntMap<K, V> {
         granted(Self::try_with_capacity(capacity))
     }
 
-    /// The same as [`with_capacity`](Self::with_capacity), or [`Cause::TooLarge`] if `capacity` is
-    /// above 2^63, and otherwise [`Cause::Memory`] if an allocation fails.
+    /// The same as [`with_capacity`](Self::with_capacity), but it returns a failure.
+    ///
+    /// # Errors
+    /// [`Cause::TooLarge`] if `capacity` is above 2^63, and otherwise [`Cause::Memory`] if an
+    /// allocation fails.
     ///
     /// Proved of `IntMap::with_capacity`: `state`, `capacity`, `too_large`.
     ///
@@ -174,7 +180,8 @@ impl<K: IntKey, V> IntMap<K, V> {
         self.map.remove(key)
     }
 
-    /// The same as [`remove`](Self::remove), but it returns the key beside its value.
+    /// The same as [`remove`](Self::remove), but it returns `key` beside the value, not the stored
+    /// key.
     ///
     /// Proved of `IntMap::remove_entry`: `key`, `value`, `state`, `absent`, `updates`, `len`.
     ///

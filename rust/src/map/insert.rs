@@ -13,7 +13,7 @@ impl<K: IntKey, V> IntMap<K, V> {
     /// factor, the capacity doubles until they don't.
     ///
     /// The cost is *O*(*s*), and *O*(*n* + *c*) for an insertion that doubles the slots, or that
-    /// makes small ones [large](IntMap#memory). That is *O*(*s*) amortized. Where
+    /// makes lone ones [shared](IntMap#memory). That is *O*(*s*) amortized. Where
     /// [`try_insert`](Self::try_insert) fails, this call panics or ends the process.
     ///
     /// ```
@@ -26,13 +26,15 @@ impl<K: IntKey, V> IntMap<K, V> {
         granted(self.try_insert(key, value))
     }
 
-    /// The same as [`insert`](Self::insert), but it returns a failure, with the value:
-    /// [`TooLarge`](crate::Cause::TooLarge) if the map would need more than 2^63 slots or have 2^64 pairs,
-    /// [`Memory`](crate::Cause::Memory) if an allocation fails. The map then stays as it was. It
-    /// never fails if the key is present, nor if no other key shares its slot and the capacity stays.
+    /// The same as [`insert`](Self::insert), but it returns a failure. It replaces the value of a
+    /// present key, where std's unstable `try_insert` fails;
+    /// [`try_insert_checked`](Self::try_insert_checked) keeps that value.
     ///
-    /// Unlike std's unstable `try_insert`, it doesn't fail for a present key, but replaces its
-    /// value. [`try_insert_checked`](Self::try_insert_checked) keeps it.
+    /// # Errors
+    /// [`TooLarge`](crate::Cause::TooLarge) if the map would need more than 2^63 slots or have 2^64
+    /// pairs, [`Memory`](crate::Cause::Memory) if an allocation fails, both with the value. The map
+    /// then stays as it was. It never fails if the key is present, nor if no other key shares its
+    /// slot and the capacity stays.
     ///
     /// Proved of `IntMap::insert`: `old`, `inserted`, `state`, `err`, `value_returned`, `refused`,
     /// `succeeds`.
@@ -66,8 +68,10 @@ impl<K: IntKey, V> IntMap<K, V> {
         granted(self.try_insert_checked(key, value))
     }
 
-    /// The same as [`insert_checked`](Self::insert_checked), but it returns a failure with the
-    /// value, as [`try_insert`](Self::try_insert) does.
+    /// The same as [`insert_checked`](Self::insert_checked), but it returns a failure.
+    ///
+    /// # Errors
+    /// Those of [`try_insert`](Self::try_insert), with the value.
     ///
     /// Proved of `IntMap::insert_checked`: `new`, `inserted`, `state`, `err`, `value_returned`,
     /// `refused`, `succeeds`.

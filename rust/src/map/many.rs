@@ -28,8 +28,8 @@ impl<K: IntKey, V> IntMap<K, V> {
         guarded!(&mut self.map, |map| map.retain(keep))
     }
 
-    /// The same as [`retain`](Self::retain), but `keep` may change each value that it sees. The cost
-    /// is the same. Its code is by hand, and tested.
+    /// The same as [`retain`](Self::retain), at the same cost, but `keep` may change each value
+    /// that it sees. Values are dropped in iteration order. Its code is by hand, and tested.
     ///
     /// ```
     /// let mut lives = intmap_proved::IntMap::from([(0u64, 1), (1, 2)]);
@@ -113,9 +113,12 @@ impl<K: IntKey, V> IntMap<K, V> {
         self.map.for_each_mut(change);
     }
 
-    /// Inserts each pair in turn, as [`insert`](Self::insert) does, up to the first one that fails
-    /// as by [`try_insert`](Self::try_insert). The failure has that pair, and the number of pairs
-    /// before it. Those stay in the map, and the rest of the iterator is dropped.
+    /// Inserts each pair in turn, as [`insert`](Self::insert) does and at its cost, up to the first
+    /// one that fails. The pairs before that one stay in the map, and the rest of the iterator is
+    /// dropped.
+    ///
+    /// # Errors
+    /// That of [`try_insert`](Self::try_insert), with the pair and the number of pairs before it.
     ///
     /// Proved of `IntMap::extend`: `extends`, `runs`, `len`, `stops`.
     ///
@@ -136,9 +139,11 @@ impl<K: IntKey, V> IntMap<K, V> {
         guarded!(&mut self.map, |map| map.extend(pairs.into_iter()))
     }
 
-    /// The same as [`from_iter`](FromIterator::from_iter), but it returns a failure: that of
-    /// [`try_with_capacity`](Self::try_with_capacity) or [`try_insert`](Self::try_insert), without
-    /// the pairs, which are dropped.
+    /// The same as [`from_iter`](FromIterator::from_iter), but it returns a failure.
+    ///
+    /// # Errors
+    /// That of [`try_with_capacity`](Self::try_with_capacity) or [`try_insert`](Self::try_insert),
+    /// without the pairs, which are dropped.
     ///
     /// Proved of `IntMap::from_iter`: `collects`, `runs`, `len`.
     pub fn try_from_iter<I>(pairs: I) -> Result<IntMap<K, V>, Cause>
@@ -150,8 +155,11 @@ impl<K: IntKey, V> IntMap<K, V> {
 }
 
 impl<K: IntKey, V: Clone> IntMap<K, V> {
-    /// The same as [`clone`](Clone::clone), or [`Cause::Memory`] if an allocation of the map fails.
-    /// What the clone of a value allocates is handled by the value's type.
+    /// The same as [`clone`](Clone::clone), but it returns a failure.
+    ///
+    /// # Errors
+    /// [`Cause::Memory`] if an allocation of the map fails. What the clone of a value allocates is
+    /// handled by the value's type.
     ///
     /// Proved of `IntMap::clone`: `clone`, `keys`, `values`, `len`, `memory`.
     pub fn try_clone(&self) -> Result<IntMap<K, V>, Cause> {

@@ -9,7 +9,7 @@ impl<K: IntKey, V> IntMap<K, V> {
     /// which they meet the load factor of a new map, 0.909. The cost is *O*(*c*).
     ///
     /// Insertions of so many keys then add no slots. Keys that share a slot still allocate. The
-    /// slots are [large](IntMap#memory), and all are written at once. Where
+    /// slots are [shared](IntMap#memory), and all are written at once. Where
     /// [`try_with_room_for`](Self::try_with_room_for) fails, this call panics or ends the process.
     ///
     /// ```
@@ -23,8 +23,11 @@ impl<K: IntKey, V> IntMap<K, V> {
         granted(Self::try_with_room_for(pairs))
     }
 
-    /// The same as [`with_room_for`](Self::with_room_for), or [`Cause::TooLarge`] if more than 2^63
-    /// slots are needed, and otherwise [`Cause::Memory`] if an allocation fails.
+    /// The same as [`with_room_for`](Self::with_room_for), but it returns a failure.
+    ///
+    /// # Errors
+    /// [`Cause::TooLarge`] if more than 2^63 slots are needed, and otherwise [`Cause::Memory`] if
+    /// an allocation fails.
     ///
     /// Proved in part: it is [`try_with_capacity`](IntMap::try_with_capacity), of a number of slots
     /// that is computed by hand.
@@ -40,7 +43,7 @@ impl<K: IntKey, V> IntMap<K, V> {
     /// that follow one another share no slot if they and the present keys lie within as many numbers
     /// in a row as there are slots: it is proved that their insertions can't fail then. With a load
     /// factor above 1, a map that has too few slots gets at least one for each present pair. The
-    /// slots keep their [size](IntMap#memory). Where
+    /// slots keep their [form](IntMap#memory). Where
     /// [`try_reserve_pairs`](Self::try_reserve_pairs) fails, this call panics or ends the process.
     ///
     /// ```
@@ -52,9 +55,10 @@ impl<K: IntKey, V> IntMap<K, V> {
         granted(self.try_reserve_pairs(additional))
     }
 
-    /// The same as [`reserve_pairs`](Self::reserve_pairs), or [`Cause::TooLarge`] if more than 2^63
-    /// slots are needed, and otherwise [`Cause::Memory`] if an allocation fails. The map then stays
-    /// as it was.
+    /// The same as [`reserve_pairs`](Self::reserve_pairs), but it returns a failure.
+    ///
+    /// # Errors
+    /// Those of [`try_with_room_for`](Self::try_with_room_for). The map then stays as it was.
     ///
     /// Proved in part: it is [`try_reserve`](IntMap::try_reserve), if there are too few slots. How
     /// many are enough is computed by hand.
@@ -82,8 +86,10 @@ impl<K: IntKey, V> IntMap<K, V> {
         granted(self.try_shrink_to_fit())
     }
 
-    /// The same as [`shrink_to_fit`](Self::shrink_to_fit), with the failure of
-    /// [`try_shrink_to`](Self::try_shrink_to).
+    /// The same as [`shrink_to_fit`](Self::shrink_to_fit), but it returns a failure.
+    ///
+    /// # Errors
+    /// That of [`try_shrink_to`](Self::try_shrink_to).
     pub fn try_shrink_to_fit(&mut self) -> Result<(), Cause> {
         self.try_shrink_to(0)
     }
@@ -93,9 +99,9 @@ impl<K: IntKey, V> IntMap<K, V> {
     /// *c*), or *O*(1) if the capacity stays.
     ///
     /// The map then has the order of a new one of that capacity into which the pairs were inserted
-    /// in iteration order. The load factor stays. For a while there are both maps. The new slots are
-    /// [large](IntMap#memory), so half as many of them may take more memory than small ones took. If
-    /// the capacity stays, no memory is given back.
+    /// in iteration order. The load factor stays. For a while there are both maps. The new slots
+    /// are [shared](IntMap#memory), so half as many of them may take more memory than lone ones
+    /// took. If the capacity stays, no memory is given back.
     ///
     /// Where [`try_shrink_to`](Self::try_shrink_to) fails, this call ends the process. If a key's
     /// `number` panics, the map keeps the pairs that weren't moved yet, and the others are dropped.
@@ -111,8 +117,10 @@ impl<K: IntKey, V> IntMap<K, V> {
         granted(self.try_shrink_to(min_capacity))
     }
 
-    /// The same as [`shrink_to`](Self::shrink_to), or [`Cause::Memory`] if an allocation fails. The
-    /// map then stays as it was, order and all.
+    /// The same as [`shrink_to`](Self::shrink_to), but it returns a failure.
+    ///
+    /// # Errors
+    /// [`Cause::Memory`] if an allocation fails. The map then stays as it was, order and all.
     ///
     /// Proved in part: the pairs are moved by [`drain`](IntMap::drain) and
     /// [`try_insert`](IntMap::try_insert) to a map that

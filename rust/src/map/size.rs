@@ -64,9 +64,12 @@ impl<K: IntKey, V> IntMap<K, V> {
         granted(self.try_reserve(additional))
     }
 
-    /// The same as [`reserve`](Self::reserve), or [`Cause::TooLarge`] if the number of pairs plus
-    /// `additional` is above 2^63, and otherwise [`Cause::Memory`] if an allocation fails. The map
-    /// then stays as it was. It never fails if the capacity stays.
+    /// The same as [`reserve`](Self::reserve), but it returns a failure.
+    ///
+    /// # Errors
+    /// [`Cause::TooLarge`] if the number of pairs plus `additional` is above 2^63, and otherwise
+    /// [`Cause::Memory`] if an allocation fails. The map then stays as it was. It never fails if
+    /// the capacity stays.
     ///
     /// Proved of `IntMap::reserve`: `reserved`, `err`, `refused`, `updates`, `len`.
     ///
@@ -128,17 +131,22 @@ impl<K: IntKey, V> IntMap<K, V> {
         granted(self.try_set_load_factor(load_factor))
     }
 
-    /// The same as [`set_load_factor`](Self::set_load_factor), with the failures of
-    /// [`try_set_load_factor_thousandths`](Self::try_set_load_factor_thousandths).
+    /// The same as [`set_load_factor`](Self::set_load_factor), but it returns a failure.
+    ///
+    /// # Errors
+    /// Those of [`try_set_load_factor_thousandths`](Self::try_set_load_factor_thousandths).
     #[track_caller]
     pub fn try_set_load_factor(&mut self, load_factor: f32) -> Result<(), Cause> {
         self.try_set_load_factor_thousandths(thousandths_of(load_factor))
     }
 
     /// Sets the load factor in whole thousandths, however large, as
-    /// [`set_load_factor`](Self::set_load_factor) does; or [`Cause::TooLarge`] if the pairs don't
-    /// meet it in 2^63 slots, and otherwise [`Cause::Memory`] if an allocation fails. The map then
-    /// stays as it was, with its load factor. It never fails if the capacity stays.
+    /// [`set_load_factor`](Self::set_load_factor) does and at its cost.
+    ///
+    /// # Errors
+    /// [`Cause::TooLarge`] if the pairs don't meet it in 2^63 slots, and otherwise
+    /// [`Cause::Memory`] if an allocation fails. The map then stays as it was, with its load
+    /// factor. It never fails if the capacity stays.
     ///
     /// Proved of `IntMap::set_load_factor`: `set`, `err`, `refused`, `updates`, `len`.
     ///
@@ -201,7 +209,10 @@ impl<K: IntKey, V> IntMap<K, V> {
         granted(self.try_collisions())
     }
 
-    /// The same as [`collisions`](Self::collisions), or [`Cause::Memory`] if an allocation fails.
+    /// The same as [`collisions`](Self::collisions), but it returns a failure.
+    ///
+    /// # Errors
+    /// [`Cause::Memory`] if an allocation fails.
     ///
     /// Proved of `IntMap::collisions`: `sizes`, `bindings`, `len`, `memory`.
     pub fn try_collisions(&self) -> Result<IntMap<u64, u64>, Cause> {

@@ -14,7 +14,10 @@ impl<K: IntKey> IntSet<K> {
         granted(Self::try_new())
     }
 
-    /// The same as [`new`](Self::new), or [`Cause::Memory`] if an allocation fails.
+    /// The same as [`new`](Self::new), but it returns a failure.
+    ///
+    /// # Errors
+    /// [`Cause::Memory`] if an allocation fails.
     ///
     /// Proved of `IntSet::new`: `state`, `memory`.
     pub fn try_new() -> Result<IntSet<K>, Cause> {
@@ -37,8 +40,11 @@ impl<K: IntKey> IntSet<K> {
         granted(Self::try_with_capacity(capacity))
     }
 
-    /// The same as [`with_capacity`](Self::with_capacity), or [`Cause::TooLarge`] if `capacity` is
-    /// above 2^63, and otherwise [`Cause::Memory`] if an allocation fails.
+    /// The same as [`with_capacity`](Self::with_capacity), but it returns a failure.
+    ///
+    /// # Errors
+    /// [`Cause::TooLarge`] if `capacity` is above 2^63, and otherwise [`Cause::Memory`] if an
+    /// allocation fails.
     ///
     /// Proved of `IntSet::with_capacity`: `state`, `capacity`, `too_large`.
     pub fn try_with_capacity(capacity: usize) -> Result<IntSet<K>, Cause> {
@@ -60,10 +66,12 @@ impl<K: IntKey> IntSet<K> {
         granted(self.try_insert(key))
     }
 
-    /// The same as [`insert`](Self::insert), or [`Cause::TooLarge`] if the set would need more than
-    /// 2^63 slots or have 2^64 members, [`Cause::Memory`] if an allocation fails. The set then stays as
-    /// it was. It never fails if the key is a member, nor if no member shares its slot and the capacity
-    /// stays.
+    /// The same as [`insert`](Self::insert), but it returns a failure.
+    ///
+    /// # Errors
+    /// [`Cause::TooLarge`] if the set would need more than 2^63 slots or have 2^64 members,
+    /// [`Cause::Memory`] if an allocation fails. The set then stays as it was. It never fails if
+    /// the key is a member, nor if no member shares its slot and the capacity stays.
     ///
     /// Proved of `IntSet::insert`: `new`, `inserted`, `state`, `err`, `refused`, `succeeds`.
     #[inline]
@@ -112,7 +120,10 @@ impl<K: IntKey> IntSet<K> {
         granted(self.try_replace(key))
     }
 
-    /// The same as [`replace`](Self::replace), with the failures of [`try_insert`](Self::try_insert).
+    /// The same as [`replace`](Self::replace), but it returns a failure.
+    ///
+    /// # Errors
+    /// Those of [`try_insert`](Self::try_insert).
     ///
     /// Proved in part: a member is found by [`get`](IntSet::get), removed by
     /// [`remove`](IntSet::remove), and the key inserted by [`try_insert`](IntSet::try_insert).
@@ -141,7 +152,7 @@ impl<K: IntKey> IntSet<K> {
         self.set.remove(key)
     }
 
-    /// The same as [`remove`](Self::remove), but it returns the key if it was a member.
+    /// The same as [`remove`](Self::remove), but it returns `key` if it was a member.
     ///
     /// ```
     /// let mut set = intmap_proved::IntSet::from([21u64]);

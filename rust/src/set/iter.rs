@@ -20,20 +20,9 @@ counted! {
 
     /// Removes one member of a set at each step and returns it, made by [`IntSet::drain`]. The
     /// members that it didn't return stay in the set.
-    ///
-    /// ```
-    /// let mut set = intmap_proved::IntSet::from([0u64, 1]);
-    /// assert_eq!(set.drain().take(1).count(), 1);
-    /// assert_eq!(set.len(), 1);
-    /// ```
     Drain ['a, K: IntKey] ['a, K] Drained<'a, K> => K;
 
     /// The members of a set by value, made by [`IntSet::into_iter`](IntoIterator::into_iter).
-    ///
-    /// ```
-    /// let set = intmap_proved::IntSet::from([0u64, 1]);
-    /// assert_eq!(set.into_iter().collect::<Vec<_>>(), [0, 1]);
-    /// ```
     IntoIter [K: IntKey] [K] IntoKeys<K, ()> => K;
 }
 

@@ -84,9 +84,13 @@ impl<K: IntKey> IntSet<K> {
         ExtractIf { set: &mut self.set, at: Progress::start(), pick }
     }
 
-    /// Inserts each key in turn, as [`insert`](Self::insert) does, up to the first one that fails as
-    /// by [`try_insert`](Self::try_insert). The failure has that key, `()` as its value, and the
-    /// number of keys before it. Those stay members, and the rest of the iterator is dropped.
+    /// Inserts each key in turn, as [`insert`](Self::insert) does and at its cost, up to the first
+    /// one that fails. The keys before that one stay members, and the rest of the iterator is
+    /// dropped.
+    ///
+    /// # Errors
+    /// That of [`try_insert`](Self::try_insert), with the key, `()` as its value, and the number of
+    /// keys before it.
     ///
     /// Proved of `IntSet::extend`: `extends`, `runs`, `len`, `stops`.
     ///
@@ -105,15 +109,20 @@ impl<K: IntKey> IntSet<K> {
         guarded!(&mut self.set, |set| set.extend(keys.into_iter()))
     }
 
-    /// The same as [`from_iter`](FromIterator::from_iter), but it returns a failure: that of
-    /// [`try_with_capacity`](Self::try_with_capacity) or [`try_insert`](Self::try_insert).
+    /// The same as [`from_iter`](FromIterator::from_iter), but it returns a failure.
+    ///
+    /// # Errors
+    /// That of [`try_with_capacity`](Self::try_with_capacity) or [`try_insert`](Self::try_insert).
     ///
     /// Proved of `IntSet::from_iter`: `collects`, `runs`, `len`.
     pub fn try_from_iter<I: IntoIterator<Item = K>>(keys: I) -> Result<IntSet<K>, Cause> {
         Ok(IntSet { set: Proved::from_iter(Global, keys.into_iter())? })
     }
 
-    /// The same as [`clone`](Clone::clone), or [`Cause::Memory`] if an allocation fails.
+    /// The same as [`clone`](Clone::clone), but it returns a failure.
+    ///
+    /// # Errors
+    /// [`Cause::Memory`] if an allocation fails.
     ///
     /// Proved of `IntSet::clone`: `clone`, `len`, `memory`.
     pub fn try_clone(&self) -> Result<IntSet<K>, Cause> {

@@ -30,8 +30,10 @@ impl<K: IntKey> IntSet<K> {
         granted(Self::try_with_room_for(members))
     }
 
-    /// The same as [`with_room_for`](Self::with_room_for), with the failures of
-    /// [`IntMap::try_with_room_for`](crate::IntMap::try_with_room_for).
+    /// The same as [`with_room_for`](Self::with_room_for), but it returns a failure.
+    ///
+    /// # Errors
+    /// Those of [`IntMap::try_with_room_for`](crate::IntMap::try_with_room_for).
     ///
     /// Proved in part: it is [`try_with_capacity`](IntSet::try_with_capacity), of a number of slots
     /// that is computed by hand.
@@ -53,9 +55,10 @@ impl<K: IntKey> IntSet<K> {
         granted(self.try_reserve(additional))
     }
 
-    /// The same as [`reserve`](Self::reserve), or [`Cause::TooLarge`] if the number of members plus
-    /// `additional` is above 2^63, and otherwise [`Cause::Memory`] if an allocation fails. The set
-    /// then stays as it was.
+    /// The same as [`reserve`](Self::reserve), but it returns a failure.
+    ///
+    /// # Errors
+    /// Those of [`IntMap::try_reserve`](crate::IntMap::try_reserve). The set then stays as it was.
     ///
     /// Proved of `IntSet::reserve`: `reserved`, `err`, `refused`, `updates`, `len`.
     pub fn try_reserve(&mut self, additional: usize) -> Result<(), Cause> {
@@ -77,8 +80,10 @@ impl<K: IntKey> IntSet<K> {
         granted(self.try_reserve_members(additional))
     }
 
-    /// The same as [`reserve_members`](Self::reserve_members), with the failures of
-    /// [`IntMap::try_reserve_pairs`](crate::IntMap::try_reserve_pairs).
+    /// The same as [`reserve_members`](Self::reserve_members), but it returns a failure.
+    ///
+    /// # Errors
+    /// Those of [`IntMap::try_reserve_pairs`](crate::IntMap::try_reserve_pairs).
     ///
     /// Proved in part: it is [`try_reserve`](IntSet::try_reserve), if there are too few slots. How
     /// many are enough is computed by hand.
@@ -132,15 +137,19 @@ impl<K: IntKey> IntSet<K> {
         granted(self.try_set_load_factor(load_factor))
     }
 
-    /// The same as [`set_load_factor`](Self::set_load_factor), with the failures of
-    /// [`try_set_load_factor_thousandths`](Self::try_set_load_factor_thousandths).
+    /// The same as [`set_load_factor`](Self::set_load_factor), but it returns a failure.
+    ///
+    /// # Errors
+    /// Those of [`try_set_load_factor_thousandths`](Self::try_set_load_factor_thousandths).
     #[track_caller]
     pub fn try_set_load_factor(&mut self, load_factor: f32) -> Result<(), Cause> {
         self.try_set_load_factor_thousandths(thousandths_of(load_factor))
     }
 
-    /// Sets the load factor in whole thousandths, with the failures of
-    /// [`IntMap`'s](crate::IntMap::try_set_load_factor_thousandths).
+    /// Sets the load factor in whole thousandths.
+    ///
+    /// # Errors
+    /// Those of [the map's](crate::IntMap::try_set_load_factor_thousandths).
     ///
     /// Proved in part: it is the map's, on the map from each member to `()`.
     pub fn try_set_load_factor_thousandths(&mut self, thousandths: usize) -> Result<(), Cause> {
@@ -174,8 +183,10 @@ impl<K: IntKey> IntSet<K> {
         granted(self.try_shrink_to_fit())
     }
 
-    /// The same as [`shrink_to_fit`](Self::shrink_to_fit), with the failure of
-    /// [`try_shrink_to`](Self::try_shrink_to).
+    /// The same as [`shrink_to_fit`](Self::shrink_to_fit), but it returns a failure.
+    ///
+    /// # Errors
+    /// That of [`try_shrink_to`](Self::try_shrink_to).
     pub fn try_shrink_to_fit(&mut self) -> Result<(), Cause> {
         self.try_shrink_to(0)
     }
@@ -184,10 +195,10 @@ impl<K: IntKey> IntSet<K> {
     /// which the members meet the load factor. A smaller capacity stays. The cost is *O*(*n s* +
     /// *c*), or *O*(1) if the capacity stays.
     ///
-    /// The set then has the order of a new one of that capacity into which the members were inserted
-    /// in iteration order. The load factor stays. For a while there are both sets. As in a map, the
-    /// new slots are [large](crate::IntMap#memory): half as many take twice the memory of small ones
-    /// with keys of 4 bytes. If the capacity stays, no memory is given back.
+    /// The set then has the order of a new one of that capacity into which the members were
+    /// inserted in iteration order. The load factor stays. For a while there are both sets. As in a
+    /// map, the new slots are [shared](crate::IntMap#memory): half as many take twice the memory of
+    /// lone ones with keys of 4 bytes. If the capacity stays, no memory is given back.
     ///
     /// Where [`try_shrink_to`](Self::try_shrink_to) fails, this call ends the process. If a key's
     /// `number` panics, the set stays as it was.
@@ -201,8 +212,10 @@ impl<K: IntKey> IntSet<K> {
         granted(self.try_shrink_to(min_capacity))
     }
 
-    /// The same as [`shrink_to`](Self::shrink_to), or [`Cause::Memory`] if an allocation fails. The
-    /// set then stays as it was.
+    /// The same as [`shrink_to`](Self::shrink_to), but it returns a failure.
+    ///
+    /// # Errors
+    /// [`Cause::Memory`] if an allocation fails. The set then stays as it was.
     ///
     /// Proved in part: the members are copied by [`iter`](IntSet::iter) and
     /// [`try_extend`](IntSet::try_extend) to a set that
