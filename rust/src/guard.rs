@@ -4,7 +4,7 @@ use crate::IntKey;
 use crate::proved::map::IntMap;
 use crate::proved::set::IntSet;
 
-/// What can be mended after a panic.
+/// What can be made whole after a panic.
 pub(crate) trait Mend {
     fn mend(&mut self);
 }
@@ -21,7 +21,7 @@ impl<K: IntKey> Mend for IntSet<K> {
     }
 }
 
-/// Mends a map or a set as it is dropped, which only a panic does.
+/// Makes a map or a set whole as the guard is dropped, which only a panic does.
 pub(crate) struct Mending<'a, T: Mend>(pub(crate) &'a mut T);
 
 impl<T: Mend> Drop for Mending<'_, T> {
@@ -32,8 +32,8 @@ impl<T: Mend> Drop for Mending<'_, T> {
     }
 }
 
-/// Makes a call on a map or a set, and mends it if the call panics. As a function with a closure it
-/// would take more instructions: twice as many for the insertion of a present key.
+/// Makes a call on a map or a set, and makes that whole if the call panics. As a function with a
+/// closure it would take more instructions: twice as many for the insertion of a present key.
 macro_rules! guarded {
     ($whole:expr, |$name:ident| $call:expr) => {{
         let guard = $crate::guard::Mending($whole);

@@ -34,8 +34,8 @@ mod walk;
 /// 200 bytes into a `Box`. The slots of a new map are *shared*: each takes 24 bytes more, and can
 /// have several pairs. They become *lone* once an insertion makes the map grow to 16 slots or more
 /// with no two pairs in one slot. A second pair in a lone slot makes all slots shared again. A map
-/// that was made with room, or by `collect`, begins with shared slots too. A clone has slots of the
-/// same form.
+/// that was made with room, or by `collect`, begins with shared slots too: with ids it takes up to
+/// twice the memory of one that grew. A clone has slots of the same form.
 ///
 /// The pairs of a slot behind its first lie in a block. Each slot keeps the block for the most
 /// pairs that it ever had, as long as the capacity stays: no removal gives it back. So memory

@@ -127,39 +127,15 @@ macro_rules! combined {
 
 combined! {
     /// The members of one set that are absent from another, made by [`IntSet::difference`].
-    ///
-    /// ```
-    /// # use intmap_proved::IntSet;
-    /// let (first, second) = (IntSet::from([1u64, 2, 3]), IntSet::from([2, 3, 4]));
-    /// assert_eq!(format!("{:?}", first.difference(&second)), "[1]");
-    /// ```
     Difference;
 
     /// The members that two sets have, made by [`IntSet::intersection`].
-    ///
-    /// ```
-    /// # use intmap_proved::IntSet;
-    /// let (first, second) = (IntSet::from([1u64, 2, 3]), IntSet::from([2, 3, 4]));
-    /// assert_eq!(format!("{:?}", first.intersection(&second)), "[2, 3]");
-    /// ```
     Intersection;
 
     /// The members of either set, made by [`IntSet::union`].
-    ///
-    /// ```
-    /// # use intmap_proved::IntSet;
-    /// let (first, second) = (IntSet::from([1u64, 2, 3]), IntSet::from([2, 3, 4]));
-    /// assert_eq!(format!("{:?}", first.union(&second)), "[1, 2, 3, 4]");
-    /// ```
     Union;
 
     /// The members that exactly one of two sets has, made by [`IntSet::symmetric_difference`].
-    ///
-    /// ```
-    /// # use intmap_proved::IntSet;
-    /// let (first, second) = (IntSet::from([1u64, 2, 3]), IntSet::from([2, 3, 4]));
-    /// assert_eq!(format!("{:?}", first.symmetric_difference(&second)), "[1, 4]");
-    /// ```
     SymmetricDifference;
 }
 

@@ -1,4 +1,4 @@
-//! Entries of a map that a guard holds, so that it is mended if a key's `number` panics.
+//! Entries of a map that a guard holds, so that it is made whole if a key's `number` panics.
 //!
 //! A proved insertion by an entry takes the entry, and the map with it. So an entry of the map is
 //! made again, once for the time of that call, and once behind it.
