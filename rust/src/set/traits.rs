@@ -64,7 +64,7 @@ impl<K: IntKey + Debug> Debug for IntSet<K> {
     }
 }
 
-/// Inserts each key in turn. [`IntSet::try_extend`] returns a failure.
+/// Inserts each key in turn, and reserves nothing ahead. [`IntSet::try_extend`] returns a failure.
 ///
 /// ```
 /// let mut set = intmap_proved::IntSet::from([21u64]);

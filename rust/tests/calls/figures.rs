@@ -1,4 +1,4 @@
-//! Slots, load factors, and the numbers that a map tells of itself.
+//! Slots, load factors, and the numbers that a map has of itself.
 use intmap_proved::{Cause, IntMap, IntSet};
 use std::panic::catch_unwind;
 

@@ -1,7 +1,7 @@
 //! Each public call of a map, its entries and a set, on one line: its name, the call on a map, and
 //! the same on a plain list, whose methods count the numbers of keys that are due to be read. A line
 //! that does more than one call says so behind the name. `forms` and `counts` go over the lines, and
-//! `tools/erase --check` tells a call that has none.
+//! `tools/erase --check` finds a call that has none.
 use crate::list::{List, slots_for};
 use crate::told::{Key, Map, Set, Tells};
 use intmap_proved::{Cause, Entry, IntMap, OccupiedEntry, Refused, VacantEntry};

@@ -64,7 +64,7 @@ impl Drop for Value {
     }
 }
 
-/// Fails unless all that a map tells of itself agrees, and its values alone live.
+/// Fails unless all that a map shows of itself agrees, and its values alone live.
 #[track_caller]
 pub fn is_whole(map: &IntMap<u64, Value>, after: &str) {
     assert!(map.assert_count(), "the count {after}");

@@ -89,7 +89,7 @@ fn failures<M, S: PartialEq + std::fmt::Debug>(
     unreachable!()
 }
 
-/// All that a map tells of itself.
+/// All that a map shows of itself.
 fn state_of(map: &IntMap<u64, u64>) -> (String, usize, usize, usize) {
     (format!("{map:?}"), map.capacity(), map.load_factor_thousandths(), map.len())
 }

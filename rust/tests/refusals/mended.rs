@@ -1,4 +1,4 @@
-//! Growth that a panic ends when there is no memory left to mend the map.
+//! Growth that a panic ends when there is no memory left to make the map whole.
 use crate::allocator::{fail_above, failing_above};
 use intmap_proved::{IntKey, IntMap};
 use std::cell::Cell;
