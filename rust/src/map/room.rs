@@ -41,10 +41,11 @@ impl<K: IntKey, V> IntMap<K, V> {
     ///
     /// Insertions of so many new keys then add no slots. Keys that share a slot still allocate. Ids
     /// that follow one another share no slot if they and the present keys lie within as many numbers
-    /// in a row as there are slots: it is proved that their insertions can't fail then. With a load
-    /// factor above 1, a map that has too few slots gets at least one for each present pair. The
-    /// slots keep their [form](IntMap#memory). Where
-    /// [`try_reserve_pairs`](Self::try_reserve_pairs) fails, this call panics or ends the process.
+    /// in a row as there are slots. It is proved that their insertions can't fail in a map with slots
+    /// enough, and tested that this call makes enough. With a load factor above 1, a map that has too
+    /// few slots gets at least one for each present pair. The slots keep their
+    /// [form](IntMap#memory). Where [`try_reserve_pairs`](Self::try_reserve_pairs) fails, this call
+    /// panics or ends the process.
     ///
     /// ```
     /// let mut map = intmap_proved::IntMap::from([(21u64, 'a')]);
