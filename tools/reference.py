@@ -5,17 +5,16 @@ import functools
 import re
 import textwrap
 
-from packed import headings
+from packed import BLOCK, headings
 from sources import Sources
-from tables import Definitions, calls_of_laws, wrapped
+from tables import Definitions, calls_of_laws, sentence, wrapped
 
 API, LAWS, HEADER = "docs/API.md", "docs/reference/Laws.md", "bindings/c/intmap.h"
 # the first mark says who writes it
 BEGIN, END = "<!-- tools/calls --write writes this -->", "<!-- to here -->"
 WRITTEN = re.compile(rf"(?<={re.escape(BEGIN)}\n)(.*?)(?={re.escape(END)})", re.S)
 DECLARED = re.compile(r"^\w.*?\b(intmap_\w+)\(", re.M)
-# what the index leaves out of a heading
-OF_CRATE = re.compile(r" of intmap\w*$")
+HEADING = re.compile(r"^#+ .+$\n", re.M)
 # by page: its crate, its types in order, and its functions that are of none; all of them, as the header for C has them
 ALL = ["all"]
 PAGES = {
@@ -42,7 +41,7 @@ NOT_OF_MAPS = {"Sets", "Sparse vectors", "Command lists", "Entries"}
 AS_MAPS = {"IntMap", "IntSet", ""}
 WITH_PRIVATE_TYPES = {"intmap_text"}
 # traits that every type of an iterator has, or that proofs alone see
-UNSAID = {"Model", "Drop", "Eq", "Send", "Sync", "Owns", "Move"}
+UNSAID = {"Model", "Drop", "Owns", "Move"}
 # how API.md writes the methods of traits
 WRITTEN_AS = {"index": "map\\[", "eq": "==`", "into_iter": "into_iter\\("}
 
@@ -104,14 +103,14 @@ def paragraph(comment):
 
 
 def with_index(page, text, files):
-    """A text behind links to its headings: a line for each of the second level, with those of the third."""
+    """A text behind links to its headings, each with the first sentence below it."""
+    whole = files.get(page, "").partition(BEGIN)[0] + text
+    below = HEADING.split(BLOCK.sub("", whole))[1:]
     lines = []
-    for depth, head, anchor in headings(files.get(page, "").partition(BEGIN)[0] + text):
-        if depth == 2:
-            lines.append(f"- [{head}](#{anchor})")
-        elif depth == 3:
-            lines[-1] += f"{', ' if ': ' in lines[-1] else ': '}[{OF_CRATE.sub('', head)}](#{anchor})"
-    return "\n" + "".join(wrapped(it, "  ").removesuffix("\n") for it in lines) + "\n" + text
+    for (depth, head, anchor), told in zip(headings(whole), below):
+        if depth > 1:
+            lines.append(f"{'  ' * (depth - 2)}- [{head}](#{anchor})" + (f": {sentence(told)}." if told.strip() else ""))
+    return "\n" + "\n".join(lines) + "\n\n" + text
 
 
 class Reference:
@@ -121,22 +120,19 @@ class Reference:
         self.crate, self.files, self.definitions = crate, files, definitions
         self.sources, self.costs = sources_of(crate, files), costs_in(files[API])
 
-    def contract(self, text, path):
-        """A contract, with links to the definitions that it cites."""
-        return f"{block('rust', text)}\n{self.links(text, path)}" if text else ""
-
-    def links(self, text, path):
-        return wrapped(self.definitions.links(text, self.files[path]))
+    def links(self, item, told=""):
+        """A sentence, and links to the definitions that a contract cites."""
+        return wrapped(f"{told} {self.definitions.links(item.contract, self.files[item.path])}".strip())
 
     def call(self, item, name="", note=""):
-        """A call: signature with contract, links to the definitions that this cites, comment, cost, lines of code."""
+        """A call: comment, signature with contract, cost, links to the definitions that the contract cites, lines of code."""
         # a `for` over a reference is no call of its own
         cost = None if " of `&" in name else self.costs.of(item.owner, item.name)[0]
         is_of_trait = item.contract.startswith("impl")
-        told = item.signature if is_of_trait or not item.contract else f"{item.signature}\n{textwrap.indent(item.contract, '    ')}"
-        text = f"### {name or f'`{item.name}`'}\n\n{paragraph(item.comment)}{block('rust', told)}\n"
-        text += self.contract(item.contract, item.path) if is_of_trait else self.links(item.contract, item.path)
-        return text + wrapped(f"Cost: {cost}." if cost else note) + "".join(f"{block('text', it)}\n" for it in item.example)
+        told = [item.signature, item.contract] if is_of_trait else [f"{item.signature}\n{textwrap.indent(item.contract, '    ')}"]
+        text = f"### {name or f'`{item.name}`'}\n\n{paragraph(item.comment)}" + "".join(f"{block('rust', it)}\n" for it in told)
+        text += self.links(item, f"Cost: {cost}." if cost else note)
+        return text + "".join(f"{block('text', it)}\n" for it in item.example)
 
     def traits(self, kind):
         """The traits of a type, and what those promise of which no method has a comment."""
@@ -145,7 +141,7 @@ class Reference:
             if it.path.startswith(f"crates/{self.crate}/"):
                 told += [f"`{trait}`" + (f" of `{whole}`" if whole.startswith("&") else "")] * (trait not in UNSAID)
                 is_shown = it.contract and not methods and (trait not in UNSAID or trait == "Drop")
-                promised += paragraph(it.comment) + self.contract(it.contract, it.path) if is_shown else ""
+                promised += paragraph(it.comment) + f"{block('rust', it.contract)}\n{self.links(it)}" if is_shown else ""
         return wrapped(f"Traits: {', '.join(dict.fromkeys(told))}." if told else "") + promised
 
     def type(self, kind):

@@ -95,11 +95,16 @@ def calls_of_laws(files):
     return found
 
 
+def sentence(text):
+    """The first sentence of a text, without its stop."""
+    return re.match(r".*?(?=\.(?:\s|$))", " ".join(text.split()))[0]
+
+
 def first_sentence(path):
-    """The first sentence of a script's own text, without its stop."""
+    """The first sentence of a script's own text."""
     text = text_of(path).partition("\n")[2]
     told = text.split('"""')[1] if text.startswith('"""') else re.match(r"(?:#.*\n)+", text)[0].replace("# ", "")
-    return re.match(r".*?(?=\.(?:\s|$))", " ".join(told.split()))[0]
+    return sentence(told)
 
 
 def in_gate(script, gate):
