@@ -33,7 +33,7 @@ CRATES = [*dict.fromkeys(it[0] for it in PAGES.values())]
 # types and calls of the crate below that `intmap` passes on
 PASSED_ON = ["key.rt", "steps.rt", "table/walk.rt"]
 # what a row of API.md writes behind the calls of each kind of entry
-OF_ENTRIES = {"Entry": "`Entry`", "OccupiedEntry": "occupied", "VacantEntry": "vacant", "IntMap": ", map"}
+OF_ENTRIES = {"Entry": "`Entry`", "OccupiedEntry": "occupied", "VacantEntry": "vacant", "IntMap": "| map"}
 # the sections of API.md that are about a type; of a map's if there is no row
 SECTIONS = {"IntSet": ["Sets"], "SparseVec": ["Sparse vectors"], **dict.fromkeys(["Entry", "OccupiedEntry", "VacantEntry"], ["Entries"])}
 NOT_OF_MAPS = {"Sets", "Sparse vectors", "Command lists", "Entries"}
@@ -78,7 +78,8 @@ class Costs:
             for table in re.findall(r"^Call \|.*\n(?:.*\|.*\n)*", part, re.M):
                 head, _, *lines = table.splitlines()
                 cells = [re.split(r" \| ?", it) for it in lines]
-                self.rows += [(title, it[0], it[-1]) for it in cells if head.endswith("| Cost")]
+                # of entries a cell has the types
+                self.rows += [(title, " | ".join(it[: 1 + ("| Of |" in head)]), it[-1]) for it in cells if head.endswith("| Cost")]
 
     @functools.lru_cache(None)
     def of(self, kind, name):
