@@ -30,8 +30,8 @@ PASSED_ON = re.compile(r"^pub use Rattle\.intmap_table\.specs\.(\w+)", re.M)
 UNCITED = re.compile(r"-- .*No public clause cites this")
 
 
-def wrapped(text, indent=""):
-    lines = textwrap.wrap(text, 140, subsequent_indent=indent, break_long_words=False, break_on_hyphens=False)
+def wrapped(text):
+    lines = textwrap.wrap(text, 150, break_long_words=False, break_on_hyphens=False)
     return "\n".join(lines) + "\n\n" if lines else ""
 
 
