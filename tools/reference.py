@@ -99,8 +99,8 @@ def block(kind, text):
     return f"```{kind}\n{text.rstrip()}\n```\n"
 
 
-def paragraph(comment):
-    return f"{comment}\n\n" if comment else ""
+def paragraphs(comment):
+    return "".join(f"{it}\n\n" if it.startswith("- ") else wrapped(it) for it in comment.split("\n\n"))
 
 
 def with_index(page, text, files):
@@ -131,7 +131,7 @@ class Reference:
         cost = None if " of `&" in name else self.costs.of(item.owner, item.name)[0]
         is_of_trait = item.contract.startswith("impl")
         told = [item.signature, item.contract] if is_of_trait else [f"{item.signature}\n{textwrap.indent(item.contract, '    ')}"]
-        text = f"### {name or f'`{item.name}`'}\n\n{paragraph(item.comment)}" + "".join(f"{block('rust', it)}\n" for it in told)
+        text = f"### {name or f'`{item.name}`'}\n\n{paragraphs(item.comment)}" + "".join(f"{block('rust', it)}\n" for it in told)
         text += self.links(item, f"Cost: {cost}." if cost else note)
         return text + "".join(f"{block('text', it)}\n" for it in item.example)
 
@@ -142,13 +142,13 @@ class Reference:
             if it.path.startswith(f"crates/{self.crate}/"):
                 told += [f"`{trait}`" + (f" of `{whole}`" if whole.startswith("&") else "")] * (trait not in UNSAID)
                 is_shown = it.contract and not methods and (trait not in UNSAID or trait == "Drop")
-                promised += paragraph(it.comment) + f"{block('rust', it.contract)}\n{self.links(it)}" if is_shown else ""
+                promised += paragraphs(it.comment) + f"{block('rust', it.contract)}\n{self.links(it)}" if is_shown else ""
         return wrapped(f"Traits: {', '.join(dict.fromkeys(told))}." if told else "") + promised
 
     def type(self, kind):
         """A type: what of it is public, comment, traits, calls, and what its traits say of their methods."""
         it = self.sources.types[kind]
-        text = f"## `{kind}`\n\n{block('rust', it.signature)}\n{paragraph(it.comment)}"
+        text = f"## `{kind}`\n\n{block('rust', it.signature)}\n{paragraphs(it.comment)}"
         text += "".join(f"{block('text', one)}\n" for one in it.example) + self.traits(kind)
         calls = [one for one in self.sources.calls if one.owner == kind]
         text += "".join(map(self.call, sorted(calls, key=lambda one: self.costs.of(kind, one.name)[1])))
