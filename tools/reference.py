@@ -1,6 +1,7 @@
 """What is written from the sources into the pages of docs/reference that have calls: the types, functions and laws of a crate,
 each with its signature, its comment, its cost, lines of code and its contract. It stands between two marks, and the rest of a
 page is by hand. Behind a contract are links to the definitions that it cites, in the files of specs."""
+import collections
 import functools
 import re
 import textwrap
@@ -32,18 +33,11 @@ PAGES = {
 CRATES = [*dict.fromkeys(it[0] for it in PAGES.values())]
 # types and calls of the crate below that `intmap` passes on
 PASSED_ON = ["key.rt", "steps.rt", "table/walk.rt"]
-# what a row of API.md writes behind the calls of each kind of entry
-OF_ENTRIES = {"Entry": "`Entry`", "OccupiedEntry": "occupied", "VacantEntry": "vacant", "IntMap": "| map"}
-# the sections of API.md that are about a type; of a map's if there is no row
-SECTIONS = {"IntSet": ["Sets"], "SparseVec": ["Sparse vectors"], **dict.fromkeys(["Entry", "OccupiedEntry", "VacantEntry"], ["Entries"])}
-NOT_OF_MAPS = {"Sets", "Sparse vectors", "Command lists", "Entries"}
-# what has the costs of a map where no row is its own
-AS_MAPS = {"IntMap", "IntSet", ""}
+# what a row of API.md links to
+LINKED = re.compile(r"\]\(reference/(\w+)\.md#([\w-]+)\)")
 WITH_PRIVATE_TYPES = {"intmap_text"}
-# traits that every type of an iterator has, or that proofs alone see
+# traits that nearly every type has, or that proofs alone see
 UNSAID = {"Model", "Drop", "Owns", "Move"}
-# how API.md writes the methods of traits
-WRITTEN_AS = {"index": "map\\[", "eq": "==`", "into_iter": "into_iter\\("}
 
 
 @functools.lru_cache(None)
@@ -65,34 +59,29 @@ def sources_of(crate, files):
 
 @functools.lru_cache(None)
 def costs_in(text):
-    return Costs(text)
+    """By page and anchor that a row of API.md links to: the place of the row, and its cost."""
+    found = {}
+    for table in re.findall(r"^Call \|.*Cost\n(?:.*\|.*\n)*", text, re.M):
+        for row in table.splitlines():
+            found |= {it: (len(found), row.rpartition("| ")[2]) for it in LINKED.findall(row) if it not in found}
+    return found
 
 
-class Costs:
-    """The costs that the rows of API.md have, by section and call."""
+def cost_of(page, item, anchor, files):
+    """The place of a call's row in API.md, and its cost, or None if no row links to the call."""
+    rows = costs_in(files[API])
+    # a heading that occurs again may have the row of the first; what no row has of a set is as of a map
+    links = [(page, anchor), (page, re.sub(r"-\d+$", "", anchor)), (item.owner.replace("IntSet", "IntMap"), anchor)]
+    return next((rows[it] for it in links if it in rows), (len(rows), None))
 
-    def __init__(self, text):
-        self.rows = []
-        parts = re.split(r"^## (.+)$", text, flags=re.M)
-        for title, part in zip(parts[1::2], parts[2::2]):
-            for table in re.findall(r"^Call \|.*\n(?:.*\|.*\n)*", part, re.M):
-                head, _, *lines = table.splitlines()
-                cells = [re.split(r" \| ?", it) for it in lines]
-                # of entries a cell has the types
-                self.rows += [(title, " | ".join(it[: 1 + ("| Of |" in head)]), it[-1]) for it in cells if head.endswith("| Cost")]
 
-    @functools.lru_cache(None)
-    def of(self, kind, name):
-        """The cost of a call, and the place of its row; None if no row has it."""
-        call = re.compile(rf"`(?:\w+::)?{WRITTEN_AS.get(name, name + chr(92) + 'b')}")
-        named = [(at, title, first, cost) for at, (title, first, cost) in enumerate(self.rows) if call.search(first)]
-        own = [it for it in named if it[1] in SECTIONS.get(kind, [])]
-        if kind in OF_ENTRIES and kind != "IntMap":
-            own = [it for it in own if OF_ENTRIES[kind] in it[2]] or own
-        entries = [it for it in named if it[1] == "Entries" and OF_ENTRIES["IntMap"] in it[2]] if kind == "IntMap" else []
-        of_maps = [it for it in named if it[1] not in NOT_OF_MAPS] if kind in AS_MAPS else []
-        found = own or entries or of_maps
-        return (found[0][3], found[0][0]) if found else (None, len(self.rows))
+def anchored(sources, types):
+    """By type of a page: its calls, each with the anchor of its heading."""
+    times = collections.Counter()
+    for kind in types:
+        calls = [it for it in sources.calls if it.owner == kind]
+        yield kind, [(it, f"{it.name}-{times[it.name]}" if times[it.name] else it.name) for it in calls]
+        times.update(it.name for it in calls)
 
 
 def block(kind, text):
@@ -115,23 +104,23 @@ def with_index(page, text, files):
 
 
 class Reference:
-    """Renders items of a crate."""
+    """Renders items of a crate on a page."""
 
-    def __init__(self, crate, files, definitions):
-        self.crate, self.files, self.definitions = crate, files, definitions
-        self.sources, self.costs = sources_of(crate, files), costs_in(files[API])
+    def __init__(self, page, crate, files, definitions):
+        self.name, self.crate, self.files, self.definitions = page, crate, files, definitions
+        self.sources = sources_of(crate, files)
 
     def links(self, item, told=""):
         """A sentence, and links to the definitions that a contract cites."""
         return wrapped(f"{told} {self.definitions.links(item.contract, self.files[item.path])}".strip())
 
-    def call(self, item, name="", note=""):
+    def call(self, item, anchor="", name="", note=""):
         """A call: comment, signature with contract, cost, links to the definitions that the contract cites, lines of code."""
-        # a `for` over a reference is no call of its own
-        cost = None if " of `&" in name else self.costs.of(item.owner, item.name)[0]
+        head = name or f"`{item.name}`"
+        _, cost = cost_of(self.name, item, anchor or headings(f"# {head}\n")[0][2], self.files)
         is_of_trait = item.contract.startswith("impl")
         told = [item.signature, item.contract] if is_of_trait else [f"{item.signature}\n{textwrap.indent(item.contract, '    ')}"]
-        text = f"### {name or f'`{item.name}`'}\n\n{paragraphs(item.comment)}" + "".join(f"{block('rust', it)}\n" for it in told)
+        text = f"### {head}\n\n{paragraphs(item.comment)}" + "".join(f"{block('rust', it)}\n" for it in told)
         text += self.links(item, f"Cost: {cost}." if cost else note)
         return text + "".join(f"{block('text', it)}\n" for it in item.example)
 
@@ -145,16 +134,15 @@ class Reference:
                 promised += paragraphs(it.comment) + f"{block('rust', it.contract)}\n{self.links(it)}" if is_shown else ""
         return wrapped(f"Traits: {', '.join(dict.fromkeys(told))}." if told else "") + promised
 
-    def type(self, kind):
-        """A type: what of it is public, comment, traits, calls, and what its traits say of their methods."""
+    def type(self, kind, calls):
+        """A type: what of it is public, comment, traits, calls with their anchors, and what its traits say of their methods."""
         it = self.sources.types[kind]
         text = f"## `{kind}`\n\n{block('rust', it.signature)}\n{paragraphs(it.comment)}"
         text += "".join(f"{block('text', one)}\n" for one in it.example) + self.traits(kind)
-        calls = [one for one in self.sources.calls if one.owner == kind]
-        text += "".join(map(self.call, sorted(calls, key=lambda one: self.costs.of(kind, one.name)[1])))
+        text += "".join(self.call(*one) for one in sorted(calls, key=lambda one: cost_of(self.name, *one, self.files)[0]))
         for trait, whole, _, methods in self.sources.traits.get(kind, []):
             of = f" of `{whole}`" if whole.startswith("&") else ""
-            text += "".join(self.call(one, f"`{trait}::{one.name}`{of}") for one in methods if trait not in UNSAID)
+            text += "".join(self.call(one, name=f"`{trait}::{one.name}`{of}") for one in methods if trait not in UNSAID)
         return text
 
     def page(self, types, functions):
@@ -163,7 +151,7 @@ class Reference:
             # what the header lacks comes last: tools/header names it
             declared = DECLARED.findall(self.files[HEADER])
             functions = sorted(names, key=lambda it: declared.index(it) if it in declared else len(declared))
-        text = "".join(map(self.type, types)) + ("## Functions\n\n" if functions else "")
+        text = "".join(self.type(*it) for it in anchored(self.sources, types)) + ("## Functions\n\n" if functions else "")
         return text + "".join(self.call(names[it]) for it in functions)
 
     def laws(self, shown):
@@ -191,6 +179,6 @@ def not_told(files):
 def rendered(files):
     """What stands between the marks of each page."""
     definitions, shown = Definitions(files), calls_of_laws(files)
-    pages = {f"docs/reference/{name}.md": Reference(it[0], files, definitions).page(*it[1:]) for name, it in PAGES.items()}
-    pages[LAWS] = "".join(Reference(crate, files, definitions).laws(shown) for crate in CRATES)
+    pages = {f"docs/reference/{name}.md": Reference(name, it[0], files, definitions).page(*it[1:]) for name, it in PAGES.items()}
+    pages[LAWS] = "".join(Reference("Laws", crate, files, definitions).laws(shown) for crate in CRATES)
     return {page: with_index(page, text, files) for page, text in pages.items()}
