@@ -37,7 +37,7 @@ PASSED_ON = ["key.rt", "steps.rt", "table/walk.rt"]
 LINKED = re.compile(r"\]\(reference/(\w+)\.md#([\w-]+)\)")
 WITH_PRIVATE_TYPES = {"intmap_text"}
 # traits that nearly every type has, or that proofs alone see
-UNSAID = {"Model", "Drop", "Owns", "Move"}
+UNSAID = {"Model", "Drop"}
 
 
 @functools.lru_cache(None)
