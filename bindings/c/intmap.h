@@ -489,10 +489,12 @@ INTMAP_NONNULL_TWO static inline size_t intmap_retain(intmap *map,
     return removed;
 }
 
-// Gives memory back. It makes another map, of 4 slots with the same load factor, inserts the pairs
-// in the order of the walk, and then frees the old map. So the pairs may have another order. The
-// call returns INTMAP_OK; or INTMAP_NO_MEMORY, and then leaves the map. If the map has no memory,
-// the call does nothing.
+// Gives memory back. It makes another map with the same load factor, inserts the pairs in the order
+// of the walk, and then frees the old map. The slots and the walk become those of a map that began
+// with 4 slots. The call returns INTMAP_OK; or INTMAP_NO_MEMORY, and then leaves the map. If the map
+// has no memory, the call does nothing. It takes the time of these insertions, each of which takes
+// time in the pairs of its slot: with a high load factor these are many. Besides, it takes time in
+// the slots of the old map.
 INTMAP_NONNULL INTMAP_MUST_USE static inline intmap_status intmap_shrink_to_fit(intmap *map)
     INTMAP_CALL {
     intmap made = INTMAP_INIT;
@@ -502,6 +504,10 @@ INTMAP_NONNULL INTMAP_MUST_USE static inline intmap_status intmap_shrink_to_fit(
         return INTMAP_OK;
     }
     intmap_status status = intmap_set_load_factor(&made, intmap_load_factor(map));
+    if (!intmap_failed(status)) {
+        // Half of the slots at most. Insertions add the others, so that ids take 24 bytes a slot.
+        status = intmap_reserve(&made, intmap_len(map) / 8 * 4);
+    }
     while (!intmap_failed(status) && (next = intmap_step(map, &at)).status == INTMAP_PRESENT) {
         status = intmap_find_or_insert(&made, next.pair.key, next.pair.value);
     }

@@ -50,11 +50,21 @@ void *__wrap_malloc(size_t size) {
     return block;
 }
 
+// The block always moves, also to fewer bytes, where the C library's own may leave it. So a call
+// that goes on with the old address goes wrong.
 void *__wrap_realloc(void *block, size_t size) {
     note(1);
-    void *moved = is_refused(size) ? NULL : __real_realloc(block, size);
-    live_blocks += block == NULL && moved != NULL;
-    return moved;
+    void *moved = is_refused(size) ? NULL : __real_malloc(size);
+    void *left = moved != NULL ? __real_realloc(block, size) : NULL;
+    if (left != NULL) {
+        memcpy(moved, left, size);
+        memset(left, 0x5A, size);
+        live_blocks += block == NULL;
+        __real_free(left);
+        return moved;
+    }
+    __real_free(moved);
+    return NULL;
 }
 
 void __wrap_free(void *block) {
@@ -1148,6 +1158,37 @@ static void test_shrinking(void) {
     end_test();
 }
 
+// The slots are those that insertions into 4 slots come to, at any load factor.
+static void test_shrunk_slots(void) {
+    const size_t factors[] = {0, 1, 100, 500, 909, 999, 1000, 2500, 40000, 4000000000, SIZE_MAX};
+    for (size_t at = 0; at < sizeof factors / sizeof factors[0]; at++) {
+        for (size_t len = 0; len < 30; len++) {
+            call_make(2);
+            call_set_load_factor(factors[at]);
+            insert_some(len, len % 2 ? 1 : 1 << 5);
+            call_reserve_slots(500);
+            call_shrink_to_fit();
+            check(it);
+        }
+        insert_some(300, 1);
+        call_shrink_to_fit();
+        check(it);
+        end_test();
+    }
+}
+
+// Ids have slots without room for further pairs behind it, as in a map that grew.
+static void test_shrunk_ids(void) {
+    call_reserve(1000);
+    insert_some(1000, 1);
+    largest_request = LONE * 2048;
+    call_shrink_to_fit();
+    EXPECT(!was_refused() && it->plain.capacity == 2048);
+    largest_request = LARGEST_REQUEST;
+    check(it);
+    end_test();
+}
+
 // Values change along a walk, and no pair's place does.
 static void test_writes_in_walk(void) {
     call_make(4);
@@ -1279,6 +1320,8 @@ static void test_each(void) {
     RUN(test_cuts());
     RUN(test_kept_memory());
     RUN(test_shrinking());
+    RUN(test_shrunk_slots());
+    RUN(test_shrunk_ids());
     RUN(test_writes_in_walk());
     RUN(test_addresses());
     RUN(test_scrambled_keys());
