@@ -2,12 +2,17 @@
 // A map in memory of the program's own, with no call of the C library's allocator.
 //
 //     cc -O2 -c -Dmalloc=pool_malloc -Drealloc=pool_realloc -Dfree=pool_free intmap.c
-//     cc -O2 allocator.c intmap.o -o allocator
+//     cc -O2 -pthread allocator.c intmap.o -o allocator
+//     ./allocator BYTES
 //
-// It ends with one line, and with status 0 if the map gave back each block.
+// It ends with one line, and with status 0 if the map gave back each block, and calls took less
+// than so many bytes of stack.
+#define _XOPEN_SOURCE 700
 #include "intmap.h"
 #include <inttypes.h>
+#include <pthread.h>
 #include <stdio.h>
+#include <stdlib.h>
 #include <string.h>
 
 void *pool_malloc(size_t size);
@@ -46,8 +51,62 @@ void *pool_realloc(void *block, size_t size) {
     return moved;
 }
 
+// The stack of a thread that makes calls. Its words are painted before.
+enum { STACK_WORDS = 1 << 15, PAINT = 0x5A };
+static uint64_t stack[STACK_WORDS] __attribute__((aligned(1 << 16)));
+
+// Makes calls that take much, with lone and with shared slots. Then it writes how many bytes were
+// used below its own frame.
+static void *make_calls(void *taken) {
+    intmap map = INTMAP_INIT, copy = INTMAP_INIT;
+    uint64_t failed = 0, key;
+    for (int kind = 0; kind < 3; kind++) {
+        failed += intmap_failed(intmap_with_capacity(&map, 4));
+        for (uint64_t id = 0; id < 400; id++) {
+            key = kind == 0 ? id : kind == 1 ? intmap_scramble(id, 1) : id << 4;
+            failed += intmap_failed(intmap_insert(&map, key, id).status);
+        }
+        failed += intmap_failed(intmap_clone(&map, &copy));
+        failed += intmap_failed(intmap_reserve(&copy, 700));
+        failed += intmap_failed(intmap_set_load_factor(&copy, 200));
+        failed += intmap_failed(intmap_shrink_to_fit(&copy));
+        failed += !intmap_equal(&map, &copy);
+        intmap_cursor at = intmap_start();
+        while (intmap_cut(&map, &at).status == INTMAP_PRESENT) {
+        }
+    }
+    intmap_free(&map);
+    intmap_free(&copy);
+    size_t left = 0;
+    while (left < STACK_WORDS && stack[left] == PAINT) {
+        left++;
+    }
+    *(uintptr_t *)taken = failed > 0 ? UINTPTR_MAX : (uintptr_t)&key - (uintptr_t)&stack[left];
+    return NULL;
+}
+
+// The bytes of stack that calls take; 0 if no thread can be given a stack. The calls before let the
+// linker look up functions of the C library, which takes stack as well.
+static uintptr_t stack_of_calls(void) {
+    uintptr_t taken;
+    pthread_attr_t own;
+    pthread_t thread;
+    make_calls(&taken);
+    for (size_t at = 0; at < STACK_WORDS; at++) {
+        stack[at] = PAINT;
+    }
+    taken = 0;
+    if (pthread_attr_init(&own) == 0 && pthread_attr_setstack(&own, stack, sizeof stack) == 0
+        && pthread_create(&thread, &own, make_calls, &taken) == 0) {
+        pthread_join(thread, NULL);
+    }
+    return taken;
+}
+
 // Inserts until the memory is used up, and finds each pair.
-int main(void) {
+int main(int count_of_words, char **words) {
+    uintptr_t taken = stack_of_calls();
+    bool is_within = count_of_words < 2 || taken < strtoull(words[1], NULL, 10);
     intmap map = INTMAP_INIT;
     intmap_status status = INTMAP_OK;
     uint64_t count = 0, found = 0;
@@ -60,6 +119,11 @@ int main(void) {
     }
     bool is_good = status == INTMAP_NO_MEMORY && found == count && intmap_len(&map) == count;
     intmap_free(&map);
-    printf("%" PRIu64 " pairs, %zu blocks left\n", count, live_blocks);
-    return is_good && live_blocks == 0 ? 0 : 1;
+    printf("%" PRIu64 " pairs, %zu blocks left, ", count, live_blocks);
+    if (taken > 0) {
+        printf("%" PRIuPTR " bytes of stack\n", taken);
+    } else {
+        printf("skipped: the stack, since no thread can be given one\n");
+    }
+    return is_good && is_within && live_blocks == 0 ? 0 : 1;
 }

@@ -6,8 +6,8 @@
 //
 // It compares each answer, the figures and the walk with the model's. A failed call must change
 // nothing. It counts requests and blocks, so it sees memory that isn't given back. It ends with one
-// line of counts, and with status 0 if nothing was wrong. The line also has a digest of all requests,
-// by which two forms of the library are compared that are to request the same.
+// line of counts, and with status 0 if nothing was wrong. The line also has a digest of all
+// requests, by which two forms of the library are compared that are to request the same.
 #include "intmap.h"
 #include <inttypes.h>
 #include <stdio.h>
@@ -1435,6 +1435,7 @@ int main(int count, char **words) {
     test_each();
     RUN(call_at_random(calls));
     printf("%" PRIu64 " calls, %" PRIu64 " requests refused, ", calls, refused);
-    printf("%" PRIu64 " blocks left, %" PRIu64 " wrong, digest %" PRIx64 "\n", live_blocks, wrong, digest);
+    printf("%" PRIu64 " blocks left, %" PRIu64 " wrong, ", live_blocks, wrong);
+    printf("digest %" PRIx64 "\n", digest);
     return wrong == 0 ? 0 : 1;
 }
