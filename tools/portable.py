@@ -64,7 +64,11 @@ TAKEN = set("switch default case if else for do while return break continue goto
 FIELD_TYPES = {"i64": "word", "i32": "half", "i8": "byte", "i1": "truth", "ptr": "address"}
 FIELDS = ("first", "second", "third", "fourth")
 STEP = "    "
-HELPER = re.compile(r"^static inline [^\n]*?\b(\w+)\([^\n]*\) \{(?:[^\n]*\}\n|\n.*?^\}\n)", re.M | re.S)
+# what the head may define for nobody, with the comment above it and the blank line below
+HELPER = re.compile(
+    r"(?:^//[^\n]*\n)*^(?:static inline [^\n]*?\b|#define )(\w+)\([^\n]*?\)(?: \{(?:[^\n]*\}\n|\n.*?^\}\n)\n?| [^\n]*\n)",
+    re.M | re.S,
+)
 
 # an expression that waits for its one use, whether it reads memory, and its contrary if it is a test
 Waiting = namedtuple("Waiting", "text reads contrary")

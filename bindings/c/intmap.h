@@ -491,10 +491,10 @@ INTMAP_NONNULL_TWO static inline size_t intmap_retain(intmap *map,
 
 // Gives memory back. It makes another map with the same load factor, inserts the pairs in the order
 // of the walk, and then frees the old map. The slots and the walk become those of a map that began
-// with 4 slots. The call returns INTMAP_OK; or INTMAP_NO_MEMORY, and then leaves the map. If the map
-// has no memory, the call does nothing. It takes the time of these insertions, each of which takes
-// time in the pairs of its slot: with a high load factor these are many. Besides, it takes time in
-// the slots of the old map.
+// with 4 slots. The call returns INTMAP_OK; or INTMAP_NO_MEMORY, and then leaves the map. If the
+// map has no memory, the call does nothing. It takes the time of these insertions, and time in the
+// slots that the map had. With a high load factor a slot holds many pairs, and each insertion takes
+// time in the pairs of its slot.
 INTMAP_NONNULL INTMAP_MUST_USE static inline intmap_status intmap_shrink_to_fit(intmap *map)
     INTMAP_CALL {
     intmap made = INTMAP_INIT;

@@ -119,13 +119,14 @@ static inline void store_address(char *at, char *x) {
 }
 #endif
 
-// The low bytes of a number, at most 8.
+// Loads the low bytes of a number, at most 8.
 static inline uint64_t load_bytes(const char *at, size_t count) {
     uint64_t x = 0;
     memcpy(&x, at, count);
     return LOW_FIRST_64(x);
 }
 
+// Stores the low bytes of a number, at most 8.
 static inline void store_bytes(char *at, uint64_t x, size_t count) {
     x = LOW_FIRST_64(x);
     memcpy(at, &x, count);
@@ -284,9 +285,12 @@ static inline u128 u128_div(u128 x, u128 by) {
 }
 #endif
 
-// Where things without bytes lie. It has the bytes of a slot, since gcc warns of stores that it sees
-// there, though no run comes to them.
+// Where things without bytes lie. It has the bytes of a slot, since gcc warns of stores to it in
+// branches that are never taken.
 static uint64_t no_bytes[6];
-#define address_of(x) ((char *)(uintptr_t)(x))
+
+static inline char *address_of(uint64_t x) {
+    return (char *)(uintptr_t)x;
+}
 
 // What functions return. The fields have no names in the module.
