@@ -2,9 +2,10 @@
 // Copyright (c) 2026 the Dovaszing maintainers
 //
 // A hash map from 64-bit keys to 64-bit values, version 1.0.0. Each function that is declared here
-// has a contract in crates/intmap_c of the repository, and its code is proved to keep it. Tests
-// show the rest: the functions that are defined here, which calls request no memory, and that
-// memory is given back.
+// has a contract in crates/intmap_c of the repository, and its code there is proved to keep it.
+// Tests show the rest: what the functions do that are defined here, that calls succeed if malloc
+// does, which calls request no memory, that memory is given back, and how much stack calls take.
+// README.md says what has to be trusted.
 //
 // For C99 and C++11, on machines with addresses of 64 bits. Take this file and intmap.c:
 //
@@ -39,8 +40,10 @@
 // - The two words of intmap_clone differ. The array of intmap_copy_pairs has room for `room` pairs.
 // - An address from intmap_place, intmap_at or intmap_at_or_insert isn't used after the next call
 //   with the map, whatever that call does.
-// - There is enough stack: a call takes less than 1.2 KB of it, or less than 7 KB if the compiler
-//   doesn't optimise, besides what malloc takes.
+// - There is enough stack. A call takes less than 2,000 bytes of it if intmap.c is compiled with
+//   -O1, -O2, -O3 or -Os, and less than 8,000 otherwise, besides what functions of the C library
+//   take. `make check` measures this. On x86-64, calls took up to 904 bytes with gcc 12 -O2, 784 with
+//   clang 14 -O2, 5,288 with gcc 12 -O0 and 6,184 with clang 14 -O0. A sanitizer makes them take more.
 //
 // THREADS. Any number of threads may make calls with `const intmap *` at once, as long as no other
 // call has the map. A call with `intmap *` has the map alone: the calls before it have ended, and
@@ -71,20 +74,23 @@
 // scramble each key by intmap_scramble. If keys share slots, intmap_filled_slots is far below
 // intmap_len.
 //
-// An insertion that adds slots, or makes them larger, moves all pairs. Spread over all insertions,
-// this takes constant time for each pair, and for each slot that was made in advance. If
-// intmap_reserve, intmap_reserve_slots or intmap_set_load_factor adds slots, it takes time in the
-// pairs and slots, and otherwise constant time.
+// An insertion that adds slots, or makes lone slots shared (see MEMORY), moves all pairs. Spread
+// over all insertions, this takes constant time for each pair, and for each slot that was made in
+// advance. If intmap_reserve, intmap_reserve_slots or intmap_set_load_factor adds slots, it takes
+// time in the pairs and slots, and otherwise constant time.
 //
-// MEMORY. Only a call that may return INTMAP_NO_MEMORY requests memory, from malloc or realloc. A
-// slot takes 48 bytes, so a map that has grown takes some 50 to 120 a pair, and up to 140 if many
-// keys share slots. Slots that insertions have added take 24 each until two keys share any of them,
-// and then all take 48. So ids that count up take 27 to 54 a pair. A clone has as many slots.
+// MEMORY. Only a call that may return INTMAP_NO_MEMORY requests memory, from malloc or realloc. The
+// slots of a map are all shared or all lone. A shared slot takes 48 bytes. So a map of shared slots
+// that has grown takes some 50 to 120 bytes a pair, and up to 140 if many keys share slots. A lone
+// slot takes 24 bytes. An insertion that adds slots, to 16 or more, makes all slots lone if each
+// pair then has a slot of its own, and none held three pairs before. A second pair in a lone slot
+// makes all slots shared. So ids that count up take 27 to 54 bytes a pair. A clone has as many
+// slots.
 //
 // A call that makes slots in advance writes each of them, which takes time in their number. Linux
 // may grant more memory than there is, so too large a number of slots may end the process. Memory
 // is given back by intmap_free, by intmap_shrink_to_fit, and by a call that replaces a map, adds
-// slots or makes them larger.
+// slots or makes lone slots shared.
 //
 // DEBUGGING. With intmap_debug.c in place of intmap.c, some calls that break the rules end the
 // program, by a line on standard error and abort():
@@ -187,9 +193,10 @@ typedef struct intmap {
 #define INTMAP_NONE ((intmap)INTMAP_INIT)
 #endif
 
-// What a call did. If it didn't fail, the status is true exactly if the key, or a pair, was present
-// before. The status of a failure is negative, and so it is true as well: ask intmap_failed first,
-// or compare with INTMAP_PRESENT. A later version may add negative statuses for new failures.
+// What a call did. If it didn't fail, the status is true if and only if the key, or a pair, was
+// present before. The status of a failure is negative, and so it is true as well: ask intmap_failed
+// first, or compare with INTMAP_PRESENT. A later version may add negative statuses for new
+// failures.
 typedef int32_t intmap_status;
 
 enum {
@@ -247,7 +254,7 @@ uint32_t intmap_version(void) INTMAP_CALL;
 // Makes an empty map, with a load factor of 909 thousandths, in a word that is INTMAP_INIT or has a
 // map, which is freed. The number of slots is the least power of two that is at least `capacity`,
 // and at least 2. To insert n pairs without growth, ask for n + n / 10 + 1 slots. The call returns
-// INTMAP_OK; INTMAP_TOO_LARGE exactly if `capacity` is above 2^63; or INTMAP_NO_MEMORY. If it
+// INTMAP_OK; INTMAP_TOO_LARGE if and only if `capacity` is above 2^63; or INTMAP_NO_MEMORY. If it
 // fails, it leaves the word as it was.
 INTMAP_NONNULL INTMAP_MUST_USE intmap_status intmap_with_capacity(intmap *map, size_t capacity)
     INTMAP_CALL;
@@ -283,9 +290,9 @@ INTMAP_NONNULL bool intmap_contains_key(const intmap *map, uint64_t key) INTMAP_
 // of these pairs is 4 to 7, 12 to 15, 20 to 23, and so on.
 //
 // For a present key it never fails, and requests no memory. For an absent key it returns
-// INTMAP_TOO_LARGE exactly if there are 2^64 - 1 pairs or growth needs more than 2^63 slots, and
-// otherwise INTMAP_NO_MEMORY if an allocation fails. The key is then absent. If the map has memory,
-// no slots are added and the key's slot holds no pair, it requests no memory.
+// INTMAP_TOO_LARGE if and only if there are 2^64 - 1 pairs or growth needs more than 2^63 slots,
+// and otherwise INTMAP_NO_MEMORY if an allocation fails. The key is then absent. If the map has
+// memory, no slots are added and the key's slot holds no pair, it requests no memory.
 INTMAP_NONNULL INTMAP_MUST_USE intmap_found_value intmap_insert(intmap *map, uint64_t key,
                                                                 uint64_t value) INTMAP_CALL;
 
@@ -382,7 +389,7 @@ INTMAP_NONNULL size_t intmap_filled_slots(const intmap *map) INTMAP_CALL;
 // Makes slots; to make room for pairs, call intmap_reserve, below. If the slots are fewer than the
 // pairs and `additional` together, their number becomes the least power of two that isn't below
 // that sum. The load factor isn't considered, so the map may still grow before it has that many
-// pairs. The call returns INTMAP_OK; INTMAP_TOO_LARGE exactly if the sum is above 2^63; or
+// pairs. The call returns INTMAP_OK; INTMAP_TOO_LARGE if and only if the sum is above 2^63; or
 // INTMAP_NO_MEMORY, but never if the map has memory and slots enough.
 INTMAP_NONNULL INTMAP_MUST_USE intmap_status intmap_reserve_slots(intmap *map, size_t additional)
     INTMAP_CALL;
@@ -390,8 +397,9 @@ INTMAP_NONNULL INTMAP_MUST_USE intmap_status intmap_reserve_slots(intmap *map, s
 // Sets the load factor, in thousandths. A number of slots meets the load factor if 1000 * pairs /
 // slots, rounded down, isn't above it. The slots are doubled until their number meets it: with a
 // load factor of 0, until there are more than 1000 slots a pair. The call returns INTMAP_OK;
-// INTMAP_TOO_LARGE exactly if that takes more than 2^63 slots; or INTMAP_NO_MEMORY, but never if
-// the map has memory and its slots meet the load factor. If the call fails, the load factor stays.
+// INTMAP_TOO_LARGE if and only if that takes more than 2^63 slots; or INTMAP_NO_MEMORY, but never
+// if the map has memory and its slots meet the load factor. If the call fails, the load factor
+// stays.
 INTMAP_NONNULL INTMAP_MUST_USE intmap_status intmap_set_load_factor(intmap *map, size_t thousandths)
     INTMAP_CALL;
 
@@ -402,8 +410,8 @@ INTMAP_NONNULL INTMAP_MUST_USE intmap_status intmap_set_load_factor(intmap *map,
 // Insertions of ids that follow one another can't fail then: as long as all keys of the map lie
 // within as many numbers in a row as there are slots, each has a slot of its own. A law of the
 // sources, keys_in_a_row_have_room, proves it of a map with enough slots, and tests show that this
-// call makes enough. These slots take 48 bytes, so such ids take twice the memory that they take in
-// a map that grows.
+// call makes enough. These slots are shared ones, so such ids take twice the memory that they take
+// in a map that grows.
 //
 // A load factor above 10^16 counts as 10^16. The call returns INTMAP_OK; INTMAP_TOO_LARGE exactly
 // if that takes more than 2^63 slots, or there would be more than 2^64 - 1 pairs; or
@@ -505,7 +513,7 @@ INTMAP_NONNULL INTMAP_MUST_USE static inline intmap_status intmap_shrink_to_fit(
     }
     intmap_status status = intmap_set_load_factor(&made, intmap_load_factor(map));
     if (!intmap_failed(status)) {
-        // Half of the slots at most. Insertions add the others, so that ids take 24 bytes a slot.
+        // Half of the slots at most. Insertions add the others, so that those of ids are lone.
         status = intmap_reserve(&made, intmap_len(map) / 8 * 4);
     }
     while (!intmap_failed(status) && (next = intmap_step(map, &at)).status == INTMAP_PRESENT) {
