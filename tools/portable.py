@@ -32,7 +32,7 @@ COMPARED = {"eq": "==", "ne": "!=", "gt": ">", "ge": ">=", "lt": "<", "le": "<="
 OF_TESTS = {"xor": "!=", "and": "&", "or": "|"}
 CONTRARY = {"==": "!=", "!=": "==", "<": ">=", "<=": ">", ">": "<=", ">=": "<"}
 # numbers of 128 bits have functions of head.c
-WIDE = {"add": "u128_add", "mul": "u128_mul", "shl": "u128_shl", "udiv": "u128_div"}
+WIDE = {"add": "u128_add", "mul": "u128_mul", "udiv": "u128_div"}
 WIDE_COMPARED = {
     "u>": "u128_above({0}, {1})",
     "u<": "u128_above({1}, {0})",
@@ -86,8 +86,8 @@ def bits(kind):
 
 
 def is_odd(kind):
-    """Whether no type of C has so many bits."""
-    return kind[0] == "i" and bits(kind) not in (1, 8, 16, 32, 64, 128)
+    """Whether head.c loads and stores so many bits byte by byte."""
+    return kind[0] == "i" and bits(kind) not in (1, 8, 32, 64, 128)
 
 
 def fields_of(kind):
