@@ -747,16 +747,36 @@ static void test_clone(size_t count, uint64_t factor) {
     end_test();
 }
 
+// A number as a key: a multiple of the factor. With 0 the keys are random.
+static uint64_t key_of(uint64_t number, uint64_t factor) {
+    return factor > 0 ? number * factor : intmap_scramble(number, 1);
+}
+
 // Each request of an insertion is refused. Some keys share a slot, and some make the map grow.
 static void test_insertions(unsigned kind, uint64_t factor) {
     call_make(4);
     for (uint64_t key = 0; key < 300; key++) {
         while (refuse_in_turn()) {
-            call_insertion(kind, key * factor, key);
+            call_insertion(kind, key_of(key, factor), key);
         }
         check_figures(it);
     }
     check(it);
+    end_test();
+}
+
+// Small maps of random keys with several load factors grow often, in each form of slots.
+static void test_small_maps(unsigned kind) {
+    for (uint64_t secret = 0; secret < 50; secret++) {
+        call_make(4);
+        call_set_load_factor(300 + secret * 10);
+        for (uint64_t at = 0; at < 40; at++) {
+            while (refuse_in_turn()) {
+                call_insertion(kind, intmap_scramble(at, secret), at);
+            }
+        }
+        check(it);
+    }
     end_test();
 }
 
@@ -1300,8 +1320,10 @@ static void test_each(void) {
     RUN(test_clone(40, 1));
     RUN(test_clone(200, 16));
     for (unsigned kind = 0; kind < INSERTIONS; kind++) {
+        RUN(test_insertions(kind, 0));
         RUN(test_insertions(kind, 1));
         RUN(test_insertions(kind, 1 << 6));
+        RUN(test_small_maps(kind));
         RUN(test_stray_keys(kind));
     }
     RUN(test_growth());
@@ -1330,13 +1352,13 @@ static void test_each(void) {
     RUN(test_move());
 }
 
-// Random calls, on keys of one kind at a time: multiples of a factor.
+// Random calls, on keys of one kind at a time: multiples of a factor, or random ones.
 
 static const struct {
     uint64_t factor;
     size_t count;
 } kinds[] = {
-    {1, 40}, {1, 700}, {0x9E3779B97F4A7C15u, 3000}, {UINT64_MAX, 900}, {1 << 12, 600},
+    {0, 900}, {1, 40}, {1, 700}, {0x9E3779B97F4A7C15u, 3000}, {UINT64_MAX, 900}, {1 << 12, 600},
     {(uint64_t)1 << 32, 300}, {(uint64_t)1 << 60, 16},
 };
 
@@ -1385,7 +1407,7 @@ static void call_on_all(uint64_t value, unsigned which) {
 }
 
 static void call_some(size_t kind) {
-    uint64_t key = number() % kinds[kind].count * kinds[kind].factor, value = number();
+    uint64_t key = key_of(number() % kinds[kind].count, kinds[kind].factor), value = number();
     // Small values too, of which 0 is one.
     value = number() % 4 > 0 ? value : value % 3;
     if (number() % 20 > 0) {
