@@ -42,8 +42,9 @@
 //   with the map, whatever that call does.
 // - There is enough stack. A call takes less than 2,000 bytes of it if intmap.c is compiled with
 //   -O1, -O2, -O3 or -Os, and less than 8,000 otherwise, besides what functions of the C library
-//   take. `make check` measures this. On x86-64, calls took up to 904 bytes with gcc 12 -O2, 784 with
-//   clang 14 -O2, 5,288 with gcc 12 -O0 and 6,184 with clang 14 -O0. A sanitizer makes them take more.
+//   take. `make check` measures this. On x86-64, calls took some 900 bytes with gcc 12 -O2, 800 with
+//   clang 14 -O2, 5,300 with gcc 12 -O0 and 6,200 with clang 14 -O0. A sanitizer makes them take
+//   more.
 //
 // THREADS. Any number of threads may make calls with `const intmap *` at once, as long as no other
 // call has the map. A call with `intmap *` has the map alone: the calls before it have ended, and
