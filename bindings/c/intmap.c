@@ -13,8 +13,13 @@
 // is. An enum for each struct has the places of its fields: a map is a block of INT_MAP_SIZE bytes. Maps,
 // slots, pairs, fields and indices have the names of the sources. A name such as r12 is the optimiser's.
 //
-// Compilers: rattle-kit-13f logic dac8208d650f15bf; clang version 22.1.8
-// Sources: 84bf1c35aaac41bbe8e0f47e8c013103271e1b1cbc41bc0c6d0e14ec6e9d46a4
+// If this prints the SHA-256 that CHANGELOG.md of the repository has for this version, the file is as it
+// was released:
+//
+//     grep -v '^// Compilers: ' intmap.c | sha256sum
+//
+// Compilers: rattle-kit-13b logic dac8208d650f15bf; clang version 22.1.8
+// Sources: 87ce8d20215297e0fcbae5f44d41e922354ad771fd031b15abb047ca63b01ef1
 //
 // SPDX-License-Identifier: MIT
 //
@@ -80,12 +85,10 @@
 // A map's bytes are the same on every machine: the low byte of a number comes first.
 #if defined(__BYTE_ORDER__) && __BYTE_ORDER__ == __ORDER_BIG_ENDIAN__
 #define HIGH_BYTE_FIRST 1
-#define LOW_FIRST_16(x) __builtin_bswap16(x)
 #define LOW_FIRST_32(x) __builtin_bswap32(x)
 #define LOW_FIRST_64(x) __builtin_bswap64(x)
 #else
 #define HIGH_BYTE_FIRST 0
-#define LOW_FIRST_16(x) (x)
 #define LOW_FIRST_32(x) (x)
 #define LOW_FIRST_64(x) (x)
 #endif
@@ -93,8 +96,6 @@
 static inline uint8_t load8(const char *at) {
     return (uint8_t)*at;
 }
-
-
 
 static inline uint64_t load64(const char *at) {
     uint64_t x;
@@ -115,7 +116,6 @@ static inline uint64_t load_key(const char *at) {
 static inline void store8(char *at, uint8_t x) {
     *at = (char)x;
 }
-
 
 static inline void store32(char *at, uint32_t x) {
     x = LOW_FIRST_32(x);
@@ -147,8 +147,7 @@ static inline void store_address(char *at, char *x) {
 }
 #endif
 
-// The low bytes of a number, at most 8.
-
+// Stores the low bytes of a number, at most 8.
 static inline void store_bytes(char *at, uint64_t x, size_t count) {
     x = LOW_FIRST_64(x);
     memcpy(at, &x, count);
@@ -231,7 +230,6 @@ static inline u128 u128_mul(u128 one, u128 other) {
     return one * other;
 }
 
-
 static inline u128 u128_div(u128 x, u128 by) {
     return x / by;
 }
@@ -268,7 +266,6 @@ static inline u128 u128_less_one(u128 x) {
     return u128_two(x.high - (x.low == 0), x.low - 1);
 }
 
-
 static inline u128 u128_mul(u128 one, u128 other) {
     uint64_t half = 0xFFFFFFFFu;
     uint64_t a = one.low & half, b = one.low >> 32, c = other.low & half, d = other.low >> 32;
@@ -294,10 +291,9 @@ static inline u128 u128_div(u128 x, u128 by) {
 }
 #endif
 
-// Where things without bytes lie. It has the bytes of a slot, since gcc warns of stores that it sees
-// there, though no run comes to them.
+// Where things without bytes lie. It has the bytes of a slot, since gcc warns of stores to it in
+// branches that are never taken.
 static uint64_t no_bytes[6];
-#define address_of(x) ((char *)(uintptr_t)(x))
 
 // What functions return. The fields have no names in the module.
 
@@ -448,6 +444,7 @@ enum {
 #define MULTIPLIER UINT64_C(11400714819323198549)
 
 static ALIGNED void mem_drop(uint8_t a0, char *map);
+static ALIGNED NOINLINE void slot_clone_in(char *result, char *pairs, uint64_t pairs_len);
 static ALIGNED uint32_t make_keep(char *handle, char *a1);
 static ALIGNED void intmap_with_slots(char *result, uint64_t slots);
 static ALIGNED void grow_reserve_slots(char *result, char *slots, uint64_t capacity);
@@ -524,6 +521,47 @@ static ALIGNED void mem_drop(uint8_t a0, char *map) {
         return;
     }
     rattle_dealloc(shared);
+}
+
+// The same keys with clones of their values, in the same order.
+// intmap_table::slot::clone_in, in crates/intmap_table/src/slot.rt
+static ALIGNED NOINLINE void slot_clone_in(char *result, char *pairs, uint64_t pairs_len) {
+    char *r12_416_0_ph54, *r8, *pair, *r15;
+    struct word_word block;
+    uint64_t place, r49, value, next_place;
+    char *dangling = (char *)no_bytes;
+    if (pairs_len != 0) {
+        if (pairs_len < UINT64_C(576460752303423488)) {
+            block = rattle_alloc(pairs_len << 4, 8);
+            if ((block.first & 1) != 0) {
+                r8 = (char *)(uintptr_t)block.second;
+                place = 0;
+                for (;;) {
+                    r49 = place << 4;
+                    pair = pairs + r49;
+                    r15 = r8 + r49;
+                    value = load64(pair + PAIR_VALUE);
+                    store64(r15, load64(pair + PAIR_KEY));
+                    store64(r15 + 8, value);
+                    next_place = place + 1;
+                    if (next_place == pairs_len) {
+                        r12_416_0_ph54 = r8;
+                        goto after_5;
+                    }
+                    place = next_place;
+                }
+            }
+        }
+        store8(result, 1);
+        memset(result + 8, 0, 24);
+        return;
+    }
+    r12_416_0_ph54 = dangling;
+after_5:;
+    store8(result, 0);
+    store_address(result + 8, r12_416_0_ph54);
+    store64(result + 16, pairs_len);
+    store64(result + 24, pairs_len);
 }
 
 // Puts a new map into the handle and returns `OK`.
@@ -3881,16 +3919,20 @@ static ALWAYS_INLINE struct word_word do_intmap_replace(char *handle, uint64_t k
 // `OK`.
 // intmap_clone, in crates/intmap_c/src/read.rt
 static ALWAYS_INLINE uint32_t do_intmap_clone(char *word, char *to) {
-    char *map, *r25, *r32, *words, *r9_45_0_ph34, *r8, *r39, *lone, *slot, *r18_2, *shared, *slot_2, *rest, *r17,
-        *r8_2, *pair, *r15, *r9_2, *r20;
+    char *map, *r25, *r32, *words, *r9_45_0_ph34, *r8, *r39, *lone, *slot, *r18_2, *shared, *slot_2, *r69_2, *r6,
+        *r9_2, *r20;
     uint64_t map_address, lone_len, shared_len, words_len, r7_pre_phi33, r19, r0_05, r18, r30, lone_len_2, index,
-        r134, key, value, next_index, shared_len_2, index_2, r178, key_2, value_2, rest_len, place, r49, value_3,
-        next_place, r0_06, r12_4, next_index_2, mask, len, threshold, factor;
+        r134, key, value, next_index, shared_len_2, index_2, r178, key_2, value_2, rest_len, r0_06, r12_4,
+        next_index_2, mask, len, threshold, factor;
     uint32_t r5_0, r30_2;
     bool r12, r12_2, r12_3;
-    struct word_word block, block_2, block_3, block_4;
+    struct word_word block, block_2, block_3;
     uint8_t has_pair, has_first;
     char *dangling = (char *)no_bytes;
+    uint64_t r26_room[4];
+    char *r26 = (char *)r26_room;
+    uint64_t r69_room[2];
+    char *r69 = (char *)r69_room;
     uint64_t r9_room[14];
     char *r9 = (char *)r9_room;
     map = load_address(word);
@@ -4008,6 +4050,7 @@ static ALWAYS_INLINE uint32_t do_intmap_clone(char *word, char *to) {
             for (;;) {
                 r178 = index_2 * SLOT_SIZE;
                 slot_2 = shared + r178;
+                memset(r26, 0, 32);
                 has_first = load8(slot_2 + SLOT_HAS_FIRST);
                 if (has_first == 1) {
                     key_2 = load64(slot_2 + SLOT_KEY);
@@ -4016,65 +4059,50 @@ static ALWAYS_INLINE uint32_t do_intmap_clone(char *word, char *to) {
                     key_2 = 0;
                     value_2 = 0;
                 }
-                rest = load_address(slot_2 + SLOT_REST);
                 rest_len = load64(slot_2 + SLOT_REST_LEN);
-                if (rest_len != 0) {
-                    if (rest_len < UINT64_C(576460752303423488)) {
-                        block_4 = rattle_alloc(rest_len << 4, 8);
-                        if ((block_4.first & 1) != 0) {
-                            r8_2 = (char *)(uintptr_t)block_4.second;
-                            place = 0;
+                if (rest_len == 0) {
+                    memset(r69, 0, 16);
+                    r69_2 = dangling;
+                } else {
+                    slot_clone_in(r26, load_address(slot_2 + SLOT_REST), rest_len);
+                    if (load8(r26) != 0) {
+                        memset(r69, 0, 16);
+                        if (!r12_3) {
+                            rattle_dealloc(r39);
+                        }
+                        if (index_2 != 0) {
+                            r0_06 = 0;
                             for (;;) {
-                                r49 = place << 4;
-                                pair = rest + r49;
-                                r15 = r8_2 + r49;
-                                value_3 = load64(pair + PAIR_VALUE);
-                                store64(r15, load64(pair + PAIR_KEY));
-                                store64(r15 + 8, value_3);
-                                next_place = place + 1;
-                                if (next_place == rest_len) {
-                                    r17 = r8_2;
-                                    goto arm_26;
+                                r9_2 = r32 + (r0_06 * 48);
+                                if (load64(r9_2 + 40) != 0) {
+                                    rattle_dealloc(load_address(r9_2 + 24));
                                 }
-                                place = next_place;
+                                r12_4 = r0_06 + 1;
+                                if (r12_4 == index_2) {
+                                    break;
+                                }
+                                r0_06 = r12_4;
                             }
                         }
-                    }
-                    if (!r12_3) {
-                        rattle_dealloc(r39);
-                    }
-                    if (index_2 != 0) {
-                        r0_06 = 0;
-                        for (;;) {
-                            r9_2 = r32 + (r0_06 * 48);
-                            if (load64(r9_2 + 40) != 0) {
-                                rattle_dealloc(load_address(r9_2 + 24));
-                            }
-                            r12_4 = r0_06 + 1;
-                            if (r12_4 == index_2) {
-                                break;
-                            }
-                            r0_06 = r12_4;
+                        if (!r12_2) {
+                            rattle_dealloc(r32);
                         }
-                    }
-                    if (!r12_2) {
-                        rattle_dealloc(r32);
-                    }
-                    if (r12) {
+                        if (r12) {
+                            goto arm_2_2;
+                        }
+                        rattle_dealloc(r25);
                         goto arm_2_2;
                     }
-                    rattle_dealloc(r25);
-                    goto arm_2_2;
+                    r6 = load_address(r26 + 8);
+                    memcpy(r69, r26 + 16, 16);
+                    r69_2 = r6;
                 }
-                r17 = dangling;
-            arm_26:;
                 r20 = r32 + r178;
                 store64(r20, (uint64_t)has_first);
                 store64(r20 + 8, key_2);
                 store64(r20 + 16, value_2);
-                store_address(r20 + 24, r17);
-                store64(r20 + 32, rest_len);
-                store64(r20 + 40, rest_len);
+                store_address(r20 + 24, r69_2);
+                memcpy(r20 + 32, r69, 16);
                 next_index_2 = index_2 + 1;
                 if (next_index_2 == shared_len_2) {
                     break;
