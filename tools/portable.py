@@ -270,9 +270,6 @@ class FunctionInC:
             return nothing(kind)
         if text in ("true", "false"):
             return text
-        address = re.match(r"inttoptr \(i64 (-?\d+) to ptr\)", text)
-        if address:
-            return f"address_of({address[1]})"
         return "(char *)no_bytes" if text[0] == "@" else self.printer.constant(int(text), kind)
 
     def used(self, value, is_whole_wanted):
@@ -344,11 +341,6 @@ class FunctionInC:
         if not re.match(r"-?\d+$", by):
             return f"{self.operand(base, 'ptr')} + {self.operand(by, 'i64')}"
         by = int(by)
-        while bare(base) in self.function.free:
-            further = re.match(ADDRESS_AND_NUMBER, self.function.made_by[bare(base)])
-            if not further:
-                break
-            base, by = further[1], by + int(further[2])
         return self.field(base, by) or f"{self.operand(base, 'ptr')} {'-' if by < 0 else '+'} {abs(by)}"
 
     def field(self, base, by):

@@ -261,8 +261,4 @@ static inline u128 u128_div(u128 x, u128 by) {
 // branches that are never taken.
 static uint64_t no_bytes[6];
 
-static inline char *address_of(uint64_t x) {
-    return (char *)(uintptr_t)x;
-}
-
 // What functions return. The fields have no names in the module.
