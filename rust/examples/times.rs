@@ -1,51 +1,37 @@
-//! Nanoseconds a key of this map, of std's `HashMap`, and of that with a hasher that multiplies, with keys
-//! and values of 64 bits.
+//! Nanoseconds per key of this map, of std's `HashMap`, and of that with a hasher that multiplies,
+//! with keys and values of 64 bits.
 //!
 //! ```sh
 //! cargo run --offline --release --example times
-//! cargo run --offline --release --example times -- 20000
+//! cargo run --offline --release --example times -- 20000 random 90%
 //! ```
 //!
-//! Each figure is the least of many runs, so that other programs disturb it little. Random keys are
-//! scattered over all 64 bits, dense keys count from 0. Both are looked up in another order than
-//! that of their insertion. Maps start empty and grow.
-use intmap_proved::IntMap;
+//! The words are numbers of keys and kinds of keys, as `key_at` has them. The maps take turns. Each
+//! figure is the least of many rounds, so that other programs disturb it little; `longest` is the
+//! longest single insertion, in nanoseconds. Maps start empty and grow, except for
+//! `insert_with_room`. Where a name doesn't say `shuffled` or `absent`, keys come in the order of
+//! their insertion. Absent keys are shuffled too.
 use std::collections::HashMap;
 use std::hash::{BuildHasherDefault, Hasher};
-use std::hint::black_box;
 use std::time::Instant;
 
-const SIZES: [u64; 3] = [1_000, 20_000, 1_000_000];
 /// About how many keys are inserted for a figure, in several maps.
 const KEYS: u64 = 8_000_000;
 
-const PHASES: [&str; 12] = [
-    "insert",
-    "insert again",
-    "get, present",
-    "get, absent",
-    "entry += 1",
-    "iterate",
-    "iter_mut",
-    "clone",
-    "drain",
-    "insert, emptied",
-    "remove",
-    "drop",
-];
-
-/// The hash of a number: a product, with its high half folded onto the low one, where std looks for a
-/// place.
+/// A hasher that multiplies. std chooses a place by a hash's low bits, on which only a key's low
+/// bits would bear, so the high ones go there too.
 #[derive(Default)]
-struct Multiplying(u64);
+pub struct Multiplying(u64);
 
 impl Hasher for Multiplying {
     fn write(&mut self, _bytes: &[u8]) {
-        unreachable!("each key is one number");
+        unreachable!("all keys are u64");
     }
+
     fn write_u64(&mut self, key: u64) {
         self.0 = key.wrapping_mul(0x9e37_79b9_7f4a_7c15);
     }
+
     fn finish(&self) -> u64 {
         self.0 ^ self.0 >> 32
     }
@@ -53,143 +39,238 @@ impl Hasher for Multiplying {
 
 type Multiplied = HashMap<u64, u64, BuildHasherDefault<Multiplying>>;
 
-/// The keys of a map, in the order of insertion and in another, and keys that are absent.
-struct Keys {
-    inserted: Vec<u64>,
+/// A number whose bits all depend on all bits of this one.
+fn mixed(number: u64) -> u64 {
+    let number = (number ^ (number >> 30)).wrapping_mul(13787848793156543929);
+    let number = (number ^ (number >> 27)).wrapping_mul(10723151780598845931);
+    number ^ (number >> 31)
+}
+
+/// The key of a kind at this place, in a map of so many keys. Absent keys have the places behind.
+fn key_at(kind: &str, place: u64, count: u64) -> u64 {
+    match kind {
+        // all over the range
+        "random" => mixed(place.wrapping_mul(11400714819323198485)),
+        // ids in order, or shuffled by `Work::new`
+        "dense" | "shuffled" => place,
+        // ids in order, without one of each ten
+        "90%" => {
+            let (ten, at) = (place / 9, place % 9);
+            ten * 10 + at + u64::from(at >= mixed(ten) % 10)
+        }
+        // ids in order, one of each two
+        "50%" => place * 2 + mixed(place) % 2,
+        "even" => place * 2,
+        // ids in order, and a last key that shares the slot of id 0
+        "stray" if place + 1 == count => 1 << 40,
+        "stray" => place,
+        // runs of 16, each from a random multiple of 16
+        "runs" => (mixed(place / 16) << 4) | (place % 16),
+        // all in one slot, of up to 2^20
+        "one-slot" => place << 20,
+        _ => panic!("no kind of keys: {kind}"),
+    }
+}
+
+/// The same keys in another order.
+fn shuffled(keys: &[u64]) -> Vec<u64> {
+    let mut sorted: Vec<_> = (1..).map(mixed).zip(keys.iter().copied()).collect();
+    sorted.sort_unstable();
+    sorted.into_iter().map(|(_, key)| key).collect()
+}
+
+/// The keys that maps are filled with, the same shuffled, and as many absent ones, shuffled too.
+pub struct Work {
+    keys: Vec<u64>,
     shuffled: Vec<u64>,
     absent: Vec<u64>,
 }
 
-/// A number of 64 bits for each number. No two numbers have the same.
-fn scattered(number: u64) -> u64 {
-    let mut key = number.wrapping_add(1).wrapping_mul(0xbf58_476d_1ce4_e5b9);
-    key ^= key >> 29;
-    key = key.wrapping_mul(0x94d0_49bb_1331_11eb);
-    key ^ key >> 32
-}
-
-impl Keys {
-    fn new(size: u64, key_of: fn(u64) -> u64) -> Keys {
-        let mut shuffled: Vec<u64> = (0..size).collect();
-        shuffled.sort_unstable_by_key(|number| scattered(!number));
-        Keys {
-            inserted: (0..size).map(key_of).collect(),
-            absent: shuffled.iter().map(|number| key_of(number + size)).collect(),
-            shuffled: shuffled.into_iter().map(key_of).collect(),
+impl Work {
+    pub fn new(kind: &str, count: u64) -> Work {
+        let Work { mut keys, .. } = Work::to_fill(kind, count);
+        let mixed = shuffled(&keys);
+        if kind == "shuffled" {
+            keys = shuffled(&mixed);
         }
+        let behind: Vec<u64> = (count..2 * count).map(|at| key_at(kind, at, count)).collect();
+        Work { keys, shuffled: mixed, absent: shuffled(&behind) }
+    }
+
+    /// Only keys to fill a map with, since the bytes of more would hide the most that a map takes.
+    pub fn to_fill(kind: &str, count: u64) -> Work {
+        let keys = (0..count).map(|at| key_at(kind, at, count)).collect();
+        Work { keys, shuffled: Vec::new(), absent: Vec::new() }
     }
 }
 
-/// Nanoseconds a key of each phase, the least of all runs.
-struct Times {
-    least: [f64; PHASES.len()],
-    phase: usize,
-    size: f64,
-}
+/// The phases in turn: the name, nanoseconds, and the sum of what the calls returned.
+#[derive(Default)]
+pub struct Times(pub Vec<(&'static str, u128, u64)>);
 
 impl Times {
-    fn new(size: u64) -> Times {
-        Times { least: [f64::MAX; PHASES.len()], phase: 0, size: size as f64 }
-    }
-
-    /// Times the next phase, and returns what it returned.
-    fn time<T>(&mut self, call: impl FnOnce() -> T) -> T {
+    /// Times a phase that makes a sum.
+    #[inline(never)]
+    fn sum(&mut self, name: &'static str, phase: impl FnOnce() -> u64) {
         let start = Instant::now();
-        let returned = black_box(call());
-        let nanos = start.elapsed().as_nanos() as f64 / self.size;
-        self.least[self.phase] = self.least[self.phase].min(nanos);
-        self.phase = (self.phase + 1) % PHASES.len();
-        returned
+        let sum = phase();
+        self.0.push((name, start.elapsed().as_nanos(), sum));
+    }
+
+    /// Times a phase that makes a map or nothing, and returns what it made.
+    #[inline(never)]
+    fn made<M>(&mut self, name: &'static str, phase: impl FnOnce() -> M) -> M {
+        let start = Instant::now();
+        let map = phase();
+        self.0.push((name, start.elapsed().as_nanos(), 0));
+        map
+    }
+
+    /// Times each of some calls, and keeps the longest time.
+    #[inline(never)]
+    fn longest(&mut self, keys: &[u64], mut call: impl FnMut(&[u64]) -> u64) {
+        let times = keys.chunks(1).map(|key| {
+            let start = Instant::now();
+            call(key);
+            start.elapsed().as_nanos()
+        });
+        self.0.push(("longest", times.max().unwrap_or(0), 0));
     }
 }
 
-/// The calls that are timed. Each returns something that depends on all that it read.
-trait Map: Default + Clone {
-    fn put(&mut self, key: u64, value: u64) -> u64;
-    fn find(&self, key: u64) -> u64;
-    fn increment(&mut self, key: u64);
-    fn sum(&self) -> u64;
-    fn write(&mut self);
-    fn empty(&mut self) -> u64;
-    fn take(&mut self, key: u64) -> u64;
+/// The sum of what is made of each item.
+macro_rules! sum {
+    ($items:expr, $item:pat => $made:expr) => {{
+        let mut sum = 0u64;
+        for $item in $items {
+            sum = sum.wrapping_add($made);
+        }
+        sum
+    }};
 }
 
-macro_rules! is_a_map {
-    ($map:ty, $($by:tt)?) => {
-        impl Map for $map {
-            fn put(&mut self, key: u64, value: u64) -> u64 {
-                self.insert(key, value).unwrap_or(1)
+/// A function of this name that goes through the phases with maps of this type, or only fills one:
+/// how one with room is made, how an entry gives its value, and whether look-ups take a reference.
+macro_rules! goes_through {
+    ($name:ident: $map:ty, $room:ident => $sized:expr, $entry:ident => $value:expr, [$($by:tt)?]) => {
+        pub fn $name(work: &Work, only_fills: bool) -> Times {
+            /// Binds each key to one more. Sums the values before.
+            #[inline(never)]
+            fn put(map: &mut $map, keys: &[u64]) -> u64 {
+                sum!(keys, key => map.insert(*key, key.wrapping_add(1)).unwrap_or(0))
             }
-            fn find(&self, key: u64) -> u64 {
-                self.get($($by)? key).copied().unwrap_or(1)
+            #[inline(never)]
+            fn find(map: &$map, keys: &[u64]) -> u64 {
+                sum!(keys, key => map.get($($by)? *key).copied().unwrap_or(0))
             }
-            fn increment(&mut self, key: u64) {
-                *self.entry(key).or_insert(0) += 1;
+            #[inline(never)]
+            fn take(map: &mut $map, keys: &[u64]) -> u64 {
+                sum!(keys, key => map.remove($($by)? *key).unwrap_or(0))
             }
-            fn sum(&self) -> u64 {
-                self.iter().fold(0, |sum, (key, value)| sum ^ key ^ value)
+            #[inline(never)]
+            fn add(map: &mut $map, keys: &[u64]) {
+                for key in keys {
+                    let $entry = map.entry(*key);
+                    let value: &mut u64 = $value;
+                    *value = value.wrapping_add(1);
+                }
             }
-            fn write(&mut self) {
-                self.iter_mut().for_each(|(_, value)| *value ^= 1);
+            let (keys, $room) = (work.keys.as_slice(), work.keys.len());
+            let (mut map, mut times) = (<$map>::default(), Times::default());
+            if only_fills {
+                put(&mut map, keys);
+                std::mem::forget(map);
+                return times;
             }
-            fn empty(&mut self) -> u64 {
-                self.drain().fold(0, |sum, (key, value)| sum ^ key ^ value)
-            }
-            fn take(&mut self, key: u64) -> u64 {
-                self.remove($($by)? key).unwrap_or(1)
-            }
+            times.sum("insert", || put(&mut map, keys));
+            times.sum("get", || find(&map, keys));
+            times.sum("get_shuffled", || find(&map, &work.shuffled));
+            times.sum("get_absent", || find(&map, &work.absent));
+            times.sum("iterate", || sum!(map.iter(), (key, value) => key ^ value));
+            times.made("add", || add(&mut map, keys));
+            times.sum("insert_present", || put(&mut map, keys));
+            times.sum("remove", || take(&mut map, keys));
+            put(&mut map, keys);
+            times.sum("remove_shuffled", || take(&mut map, &work.shuffled));
+            let mut other = <$map>::default();
+            times.longest(keys, |key| put(&mut other, key));
+            times.made("drop", || drop(other));
+            put(&mut map, keys);
+
+            let mut twin = times.made("clone", || map.clone());
+            times.made("values_mut", || twin.values_mut().for_each(|value| *value ^= 1));
+            times.made("retain_half", || twin.retain(|_, value| *value % 2 == 1));
+            twin.clear();
+            put(&mut twin, keys);
+            times.made("clear", || twin.clear());
+            put(&mut twin, keys);
+            times.sum("drain", || sum!(twin.drain(), (key, value) => key ^ value));
+            put(&mut twin, keys);
+            times.sum("into_iter", || sum!(twin, (key, value) => key ^ value));
+
+            times.made("insert_with_room", || {
+                let mut sized: $map = $sized;
+                put(&mut sized, keys);
+                sized
+            });
+            times
         }
     };
 }
 
-is_a_map!(IntMap<u64, u64>,);
-is_a_map!(HashMap<u64, u64>, &);
-is_a_map!(Multiplied, &);
-
-/// The sum of what a call returns at each key.
-fn each(keys: &[u64], mut call: impl FnMut(u64) -> u64) -> u64 {
-    keys.iter().fold(0, |sum, key| sum ^ call(*key))
-}
-
-/// Times each phase once, and returns a sum of what was returned.
-fn run<M: Map>(keys: &Keys, times: &mut Times) -> u64 {
-    let mut map = M::default();
-    let mut sum = times.time(|| each(&keys.inserted, |key| map.put(key, !key)));
-    sum ^= times.time(|| each(&keys.shuffled, |key| map.put(key, key)));
-    sum ^= times.time(|| each(&keys.shuffled, |key| map.find(key)));
-    sum ^= times.time(|| each(&keys.absent, |key| map.find(key)));
-    times.time(|| keys.shuffled.iter().for_each(|key| map.increment(*key)));
-    sum ^= times.time(|| map.sum());
-    times.time(|| map.write());
-    drop(times.time(|| map.clone()));
-    sum ^= times.time(|| map.empty());
-    sum ^= times.time(|| each(&keys.inserted, |key| map.put(key, key)));
-    sum ^= times.time(|| each(&keys.shuffled, |key| map.take(key)));
-    each(&keys.inserted, |key| map.put(key, key));
-    times.time(|| drop(map));
-    sum
-}
+goes_through!(
+    proved: intmap_proved::IntMap<u64, u64>,
+    room => intmap_proved::IntMap::with_room_for(room),
+    entry => entry.or_insert(0),
+    []
+);
+goes_through!(
+    std: HashMap<u64, u64>,
+    room => HashMap::with_capacity(room),
+    entry => entry.or_insert(0),
+    [&]
+);
+goes_through!(
+    multiplied: Multiplied,
+    room => HashMap::with_capacity_and_hasher(room, Default::default()),
+    entry => entry.or_insert(0),
+    [&]
+);
 
 /// Prints the figures of one kind of keys.
-fn compare(size: u64, kind: &str, key_of: fn(u64) -> u64) {
-    let keys = Keys::new(size, key_of);
-    let [mut this, mut std, mut multiplied] = [(); 3].map(|()| Times::new(size));
-    for _ in 0..(KEYS / size).max(4) {
-        let sum = run::<IntMap<u64, u64>>(&keys, &mut this);
-        assert_eq!(sum, run::<HashMap<u64, u64>>(&keys, &mut std), "they return the same");
-        assert_eq!(sum, run::<Multiplied>(&keys, &mut multiplied), "they return the same");
+fn compare(size: u64, kind: &str) {
+    let (work, maps) = (Work::new(kind, size), [proved, std, multiplied]);
+    let mut least = maps.map(|go| go(&work, false));
+    for _ in 1..(KEYS / size).max(4) {
+        for (Times(least), go) in least.iter_mut().zip(maps) {
+            for (least, (_, nanos, _)) in least.iter_mut().zip(go(&work, false).0) {
+                least.1 = least.1.min(nanos);
+            }
+        }
     }
-    for (phase, name) in PHASES.iter().enumerate() {
-        let [this, std, multiplied] = [&this, &std, &multiplied].map(|it| it.least[phase]);
-        println!("{size:>9}  {kind:<6}  {name:<15} {this:>8.1} {std:>8.1} {multiplied:>11.1}");
+    for (phase, (name, _, sum)) in least[0].0.iter().enumerate() {
+        let keys = if *name == "longest" { 1 } else { size };
+        let [this, std, multiplied] = least.each_ref().map(|Times(of_map)| {
+            assert_eq!(of_map[phase].2, *sum, "{kind}, {name}: maps return the same");
+            of_map[phase].1 as f64 / keys as f64
+        });
+        println!("{size:>9}  {kind:<8}  {name:<16} {this:>8.1} {std:>8.1} {multiplied:>11.1}");
     }
 }
 
 fn main() {
-    let given: Vec<u64> = std::env::args().skip(1).map(|it| it.parse().expect("a size")).collect();
-    println!("     keys  kind    call                this      std multiplying");
-    for size in if given.is_empty() { SIZES.to_vec() } else { given } {
-        compare(size, "random", scattered);
-        compare(size, "dense", |number| number);
+    let words: Vec<String> = std::env::args().skip(1).collect();
+    let mut sizes: Vec<u64> = words.iter().filter_map(|it| it.parse().ok()).collect();
+    let mut kinds: Vec<&str> = words.iter().map(String::as_str).collect();
+    kinds.retain(|it| it.parse::<u64>().is_err());
+    if sizes.is_empty() {
+        sizes = vec![1_000, 20_000, 1_000_000];
+    }
+    if kinds.is_empty() {
+        kinds = vec!["random", "dense", "90%"];
+    }
+    println!("     keys  kind      call                 this      std multiplying");
+    for size in sizes {
+        kinds.iter().for_each(|kind| compare(size, kind));
     }
 }
