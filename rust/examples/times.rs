@@ -81,9 +81,9 @@ fn shuffled(keys: &[u64]) -> Vec<u64> {
 
 /// The keys that maps are filled with, the same shuffled, and as many absent ones, shuffled too.
 pub struct Work {
-    keys: Vec<u64>,
-    shuffled: Vec<u64>,
-    absent: Vec<u64>,
+    pub keys: Vec<u64>,
+    pub shuffled: Vec<u64>,
+    pub absent: Vec<u64>,
 }
 
 impl Work {
@@ -111,7 +111,7 @@ pub struct Times(pub Vec<(&'static str, u128, u64)>);
 impl Times {
     /// Times a phase that makes a sum.
     #[inline(never)]
-    fn sum(&mut self, name: &'static str, phase: impl FnOnce() -> u64) {
+    pub fn sum(&mut self, name: &'static str, phase: impl FnOnce() -> u64) {
         let start = Instant::now();
         let sum = phase();
         self.0.push((name, start.elapsed().as_nanos(), sum));
@@ -119,7 +119,7 @@ impl Times {
 
     /// Times a phase that makes a map or nothing, and returns what it made.
     #[inline(never)]
-    fn made<M>(&mut self, name: &'static str, phase: impl FnOnce() -> M) -> M {
+    pub fn made<M>(&mut self, name: &'static str, phase: impl FnOnce() -> M) -> M {
         let start = Instant::now();
         let map = phase();
         self.0.push((name, start.elapsed().as_nanos(), 0));
@@ -128,7 +128,7 @@ impl Times {
 
     /// Times each of some calls, and keeps the longest time.
     #[inline(never)]
-    fn longest(&mut self, keys: &[u64], mut call: impl FnMut(&[u64]) -> u64) {
+    pub fn longest(&mut self, keys: &[u64], mut call: impl FnMut(&[u64]) -> u64) {
         let times = keys.chunks(1).map(|key| {
             let start = Instant::now();
             call(key);

@@ -1,7 +1,7 @@
 // SPDX-License-Identifier: MIT
 // Times the calls of one of several maps of C and C++ from 64 bits to 64 bits, one phase after another. It takes the
 // arguments of tools/measure_driver/src/main.rt.txt, has its keys, and prints the same lines, but fewer. Without arguments
-// it prints the maps' names: khash, GLib's GHashTable, uthash and boost's flat map are there if their headers are.
+// it prints the maps' names and versions: khash, GLib's GHashTable, uthash and boost's flat map are there if their headers are.
 #include "intmap.h"
 #include <algorithm>
 #include <cinttypes>
@@ -26,6 +26,7 @@
 #endif
 #if __has_include(<boost/unordered/unordered_flat_map.hpp>)
 #include <boost/unordered/unordered_flat_map.hpp>
+#include <boost/version.hpp>
 #endif
 
 typedef std::vector<uint64_t> numbers;
@@ -317,38 +318,42 @@ template <typename Map> static void go(const work &on, bool only_fills) {
     phase("add", [&] { return each(on.keys, [&](uint64_t key) { return map.add(key); }); });
     phase("insert_present", [&] { return put(map, on.keys); });
     phase("remove", [&] { return take(map, on.keys); });
-    put(map, on.keys);
-    phase("remove_shuffled", [&] { return take(map, on.mixed); });
     delete &map;
-    Map *sized = NULL;
+    // a new one, since khash is slow where it removed keys
+    Map other(0), *sized = NULL;
+    put(other, on.keys);
+    phase("remove_shuffled", [&] { return take(other, on.mixed); });
     phase("insert_with_room", [&] { return put(*(sized = new Map(on.keys.size())), on.keys); });
     delete sized;
 }
 
+#define TEXT(it) #it
+#define TEXT_OF(it) TEXT(it)
+
 static const struct {
-    const char *name;
+    const char *name, *version;
     void (*go)(const work &, bool);
 } maps[] = {
-    {"intmap", go<of_intmap>},
+    {"intmap", "", go<of_intmap>},
 #ifdef KHASH_MAP_INIT_INT64
-    {"khash", go<of_khash>},
+    {"khash", AC_VERSION_KHASH_H, go<of_khash>},
 #endif
 #ifdef __G_LIB_H__
-    {"glib", go<of_glib>},
+    {"glib", TEXT_OF(GLIB_MAJOR_VERSION.GLIB_MINOR_VERSION), go<of_glib>},
 #endif
 #ifdef HASH_FIND
-    {"uthash", go<of_uthash>},
+    {"uthash", TEXT_OF(UTHASH_VERSION), go<of_uthash>},
 #endif
-    {"std", go<of_std<std::unordered_map<uint64_t, uint64_t>>>},
-#ifdef BOOST_UNORDERED_UNORDERED_FLAT_MAP_HPP_INCLUDED
-    {"boost", go<of_std<boost::unordered_flat_map<uint64_t, uint64_t>>>},
+    {"std", "", go<of_std<std::unordered_map<uint64_t, uint64_t>>>},
+#ifdef BOOST_LIB_VERSION
+    {"boost", BOOST_LIB_VERSION, go<of_std<boost::unordered_flat_map<uint64_t, uint64_t>>>},
 #endif
 };
 
 int main(int words, char **word) {
     if (words < 5) {
         for (const auto &map : maps) {
-            puts(map.name);
+            printf("%s%s%s\n", map.name, *map.version ? " " : "", map.version);
         }
         return 0;
     }
