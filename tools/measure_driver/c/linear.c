@@ -1,6 +1,7 @@
 // SPDX-License-Identifier: MIT
-// A walk, a cut of each second pair and a drain take linear time: on 1,000,000 pairs at most twelve times as long a pair as
-// on a thirty-second of them. A call that began at the first pair would take thirty-two times as long a pair.
+// A walk, a cut of each second pair and a drain take linear time: per pair at most twelve times as
+// long on 1,000,000 pairs as on a thirty-second of them. With a call that began at the first pair
+// they would take thirty-two times as long.
 #include "intmap.h"
 #include <inttypes.h>
 #include <stdio.h>
@@ -67,7 +68,8 @@ static double seconds(size_t kind, size_t pass, size_t pairs, size_t runs) {
     for (size_t run = 0; run < runs; run++) {
         intmap map = INTMAP_NONE;
         for (size_t at = 0; at < pairs; at++) {
-            require(!intmap_failed(intmap_insert(&map, key_at(kind, at, pairs), 1).status), "out of memory");
+            uint64_t key = key_at(kind, at, pairs);
+            require(!intmap_failed(intmap_insert(&map, key, 1).status), "out of memory");
         }
         clock_t from = clock();
         passes[pass].on(&map);
@@ -81,8 +83,10 @@ static double seconds(size_t kind, size_t pass, size_t pairs, size_t runs) {
 int main(void) {
     for (size_t kind = 0; kind < KINDS; kind++) {
         for (size_t pass = 0; pass < sizeof passes / sizeof passes[0]; pass++) {
-            double few = seconds(kind, pass, PAIRS / SCALE, 9), many = seconds(kind, pass, PAIRS, 1);
-            printf("%s: %.6f s, of %d times the pairs %.3f s\n", passes[pass].name, few, SCALE, many);
+            double few = seconds(kind, pass, PAIRS / SCALE, 9);
+            double many = seconds(kind, pass, PAIRS, 1);
+            printf("%s: %.6f s, of %d times the pairs %.3f s\n", passes[pass].name, few, SCALE,
+                   many);
             require(many < ALLOWED * SCALE * few, "it takes more than linear time");
         }
     }

@@ -1,7 +1,8 @@
 // SPDX-License-Identifier: MIT
-// Times the calls of one of several maps of C and C++ from 64 bits to 64 bits, one phase after another. It takes the
-// arguments of tools/measure_driver/src/main.rt.txt, has its keys, and prints the same lines, but fewer. Without arguments
-// it prints the maps' names and versions: khash, GLib's GHashTable, uthash and boost's flat map are there if their headers are.
+// Times the calls of one of several maps of C and C++ from 64 bits to 64 bits, one phase after
+// another. It takes the arguments of tools/measure_driver/src/main.rt.txt, has its keys, and prints
+// the same lines, but fewer. Without arguments it prints the maps' names and versions: khash, GLib's
+// GHashTable, uthash and boost's flat map are there if their headers are.
 #include "intmap.h"
 #include <algorithm>
 #include <cinttypes>
@@ -38,8 +39,8 @@ static void require(bool is_so) {
     }
 }
 
-// The maps under measurement. `put` and `add` return the value before, `find` and `take` the value, or 0 if there is none.
-// A map is made with room for so many pairs, or with none.
+// The maps under measurement. `put` and `add` return the value before, `find` and `take` the value,
+// or 0 if there is none. A map is made with room for so many pairs, or with none.
 
 struct of_intmap {
     intmap map = INTMAP_INIT;
@@ -278,7 +279,8 @@ static uint64_t nanos(void) {
     return (uint64_t)now.tv_sec * 1000000000u + (uint64_t)now.tv_nsec;
 }
 
-template <typename Phase> static __attribute__((noinline)) void phase(const char *name, Phase made) {
+template <typename Phase>
+static __attribute__((noinline)) void phase(const char *name, Phase made) {
     uint64_t start = nanos(), sum = made();
     printf("%s %" PRIu64 " %" PRIu64 "\n", name, nanos() - start, sum);
 }
@@ -292,15 +294,18 @@ template <typename Call> static inline uint64_t each(const numbers &keys, Call c
     return sum;
 }
 
-template <typename Map> static __attribute__((noinline)) uint64_t put(Map &map, const numbers &keys) {
+template <typename Map>
+static __attribute__((noinline)) uint64_t put(Map &map, const numbers &keys) {
     return each(keys, [&](uint64_t key) { return map.put(key, key + 1); });
 }
 
-template <typename Map> static __attribute__((noinline)) uint64_t find(const Map &map, const numbers &keys) {
+template <typename Map>
+static __attribute__((noinline)) uint64_t find(const Map &map, const numbers &keys) {
     return each(keys, [&](uint64_t key) { return map.find(key); });
 }
 
-template <typename Map> static __attribute__((noinline)) uint64_t take(Map &map, const numbers &keys) {
+template <typename Map>
+static __attribute__((noinline)) uint64_t take(Map &map, const numbers &keys) {
     return each(keys, [&](uint64_t key) { return map.take(key); });
 }
 
