@@ -1,8 +1,8 @@
 // SPDX-License-Identifier: MIT
 // Times the calls of one of several maps of C and C++ from 64 bits to 64 bits, one phase after
 // another. It takes the arguments of tools/measure_driver/src/main.rt.txt, has its keys, and prints
-// the same lines, but fewer. Without arguments it prints the maps' names and versions: khash, GLib's
-// GHashTable, uthash and boost's flat map are there if their headers are.
+// the same lines, but fewer. Without arguments it prints the maps' names and versions. khash,
+// GLib's GHashTable, uthash and boost's flat map are there if their headers are.
 #include "intmap.h"
 #include <algorithm>
 #include <cinttypes>
@@ -40,9 +40,10 @@ static void require(bool is_so) {
 }
 
 // The maps under measurement. `put` and `add` return the value before, `find` and `take` the value,
-// or 0 if there is none. A map is made with room for so many pairs, or with none.
+// or 0 if there is none. A map that `makes_room` is made with room for so many pairs.
 
 struct of_intmap {
+    enum { makes_room = true };
     intmap map = INTMAP_INIT;
     // room at the load factor of 909 thousandths
     explicit of_intmap(size_t room) {
@@ -74,6 +75,7 @@ struct of_intmap {
 KHASH_MAP_INIT_INT64(numbers, uint64_t)
 
 struct of_khash {
+    enum { makes_room = true };
     khash_t(numbers) *map = kh_init(numbers);
     // room at khash's load factor of 0.77
     explicit of_khash(size_t room) {
@@ -110,8 +112,9 @@ struct of_khash {
 #endif
 
 #ifdef __G_LIB_H__
-// It has keys and values in its pointers, and no call that makes room.
+// It has keys and values in its pointers.
 struct of_glib {
+    enum { makes_room = false };
     GHashTable *map = g_hash_table_new(g_direct_hash, NULL);
     explicit of_glib(size_t) {}
     ~of_glib() { g_hash_table_destroy(map); }
@@ -155,8 +158,9 @@ struct item {
     UT_hash_handle hh;
 };
 
-// It has a block for each pair, and no call that makes room.
+// It has a block for each pair.
 struct of_uthash {
+    enum { makes_room = false };
     item *map = NULL;
     explicit of_uthash(size_t) {}
     ~of_uthash() {
@@ -207,6 +211,7 @@ struct of_uthash {
 
 // A map with the calls of std::unordered_map.
 template <typename Map> struct of_std {
+    enum { makes_room = true };
     Map map;
     explicit of_std(size_t room) { map.reserve(room); }
     uint64_t put(uint64_t key, uint64_t value) { return std::exchange(map[key], value); }
@@ -328,8 +333,10 @@ template <typename Map> static void go(const work &on, bool only_fills) {
     Map other(0), *sized = NULL;
     put(other, on.keys);
     phase("remove_shuffled", [&] { return take(other, on.mixed); });
-    phase("insert_with_room", [&] { return put(*(sized = new Map(on.keys.size())), on.keys); });
-    delete sized;
+    if (Map::makes_room) {
+        phase("insert_with_room", [&] { return put(*(sized = new Map(on.keys.size())), on.keys); });
+        delete sized;
+    }
 }
 
 #define TEXT(it) #it

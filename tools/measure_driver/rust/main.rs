@@ -1,5 +1,5 @@
 //! Times the calls of one of several maps of Rust from `u64` to `u64`, one phase after another. It
-//! takes the arguments of tools/measure_driver/src/main.rt.txt, and prints the same lines, and more.
+//! takes the arguments of tools/measure_driver/src/main.rt.txt, and prints the same lines and more.
 //! The phases and the keys are those of rust/examples/times.rs, which tools/measure copies beside
 //! this file.
 use std::env;
