@@ -1,4 +1,5 @@
-//! Two types of keys: the cells of a sheet, with two fields, and how far rows are apart, with a sign.
+//! Three types of keys: the articles of a shop, with one field, the cells of a sheet, with two, and
+//! how far rows are apart, with a sign.
 #![tactic(auto)]
 
 ghost use Rattle.std.specs.Prelude.{◌≡◌, ◌≢◌, ◌↔◌, ℕ, ◌<◌, IfErr, IfOk, IfSome, IsSome, OnOk, OnErr, Some};
@@ -10,6 +11,7 @@ use intmap::{Cause, IntKey, IntMap};
 use std::alloc::Allocator;
 use std::marker::Model;
 
+pub mod article;
 pub mod offset;
 
 /// How many columns a sheet has.
