@@ -1,5 +1,6 @@
 -- What callers say of the pairs of a map: values by number, counts, floors, written values, and pairs that wait.
-use Rattle.std.specs.Prelude.{◌%◌, ◌++◌, ◌+◌, ◌^◌, ◌≡◌, ◌≢◌, Bool, List, Option, Some, ℕ, ℤ, count_by, map, unwrap_or}
+use Rattle.std.specs.Prelude.{◌%◌, ◌++◌, ◌+◌, ◌^◌, ◌∷◌, ◌≡◌, ◌≢◌, Bool, List, Option, Some, ℕ, ℤ, count_by, map, reverse, unwrap_or}
+use Rattle.std.specs.Option.{option_or}
 use Rattle.intmap.specs.Bindings.{value_of}
 use Rattle.intmap.specs.Keys.{number_of_signed}
 use Rattle.callers.specs.declared.insertions.Waiting.{Waiting}
@@ -16,6 +17,13 @@ module _ {V : Type 0} where
   -- every number has the value that it had
   abbrev pub AllStay : List (ℕ × V) → List (ℕ × V) → Type 0
   AllStay before after = (q : ℕ) → value_at after q ≡ value_at before q
+
+  -- the pairs before the failed one were inserted in turn: each of their numbers has its last value, and every other what it had
+  pub record IsPutUpTo (failed : ℕ × V) (pairs before after : List (ℕ × V)) : Type 0 where
+    pub put : List (ℕ × V)
+    pub rest : List (ℕ × V)
+    pub are : pairs ≡ put ++ failed ∷ rest
+    pub bound : (q : ℕ) → value_at after q ≡ option_or (value_at (reverse put) q) (value_at before q)
 
 module _ {K : Type 0} (number : K → ℕ) where
   -- how often a key was counted

@@ -22,6 +22,11 @@ pub record IsDense {V : Type 0} (W : List (ℕ × V)) (C : ℕ) : Type 0 where
   pub given : (n : ℕ) → n < length W → IsSome (value_at W n)
   pub not_given : (n : ℕ) → length W ≤ n → value_at W n ≡ None
 
+-- the two maps of an interner: from codes to ids, and from ids to codes
+pub record Interned : Type 0 where
+  pub ids : List (ℕ × ℕ)
+  pub codes : List (ℕ × ℕ)
+
 -- the code of each id leads back to it, and so does the id of each code; the ids are the numbers below n
 pub record AreInverse (ids codes : ℕ → Option ℕ) (n : ℕ) : Type 0 where
   pub there : (code id : ℕ) → ids code ≡ Some id → codes id ≡ Some code

@@ -1,7 +1,7 @@
 //! Values by key: looked up, set, replaced and removed.
 ghost use Rattle.std.specs.Prelude.{[], ◌+◌, ◌-◌, ◌^◌, ◌∷◌, ◌≡◌, ◌≢◌, FitsSigned, IfErr, IfNone, IfOk, IfSome, List, None, OnErr, OnOk, Some, ℤ, false, length, min, option_map, reverse};
 ghost use Rattle.std.specs.Int.{w64};
-ghost use Rattle.intmap.specs.Bindings.{IsPresent, value_of};
+ghost use Rattle.intmap.specs.Bindings.{IsPresent, Updates, value_of};
 ghost use Rattle.intmap.specs.Classes.{same_key};
 ghost use Rattle.callers.specs.Bindings.{OthersStay, rooms_on, value_at};
 
@@ -68,6 +68,22 @@ pub fn raise<A: Allocator + Copy>(
         Ok(_) => Some(raised),
         Err(_) => unreachable!(),
     }
+}
+
+/// A copy of the prices, in which the article has this price. The prices themselves stay.
+///
+/// It fails if the copy can't be made or the insertion fails.
+pub fn with_price<A: Allocator + Copy>(
+    prices: &IntMap<u64, u64, A>,
+    article: u64,
+    price: u64,
+) -> Result<IntMap<u64, u64, A>, Cause>
+    ensures { IfOk result (λ copy.
+        Updates (λ key. key) prices.now.walk copy.walk article (Some price)) }
+{
+    let mut copy = prices.clone()?;
+    copy.insert(article, price)?;
+    Ok(copy)
 }
 
 // Floors of a house, some of them below the ground floor: keys that may be negative.

@@ -11,7 +11,7 @@ use intmap::{Cause, IntKey, IntMap, Refused, laws};
 use std::alloc::{Allocator, Global};
 use std::marker::Model;
 
-/// Counts one occurrence of the number, which is looked up once.
+/// Counts one occurrence of the number, by its entry.
 ///
 /// It fails if the insertion of a new number fails.
 pub fn count_by_entry<A: Allocator + Copy>(
@@ -49,7 +49,7 @@ pub fn count_by_closure<A: Allocator + Copy>(
     Ok(())
 }
 
-/// Counts one occurrence of the number, whose count is written in place.
+/// Counts one occurrence of the number, by a reference to its count.
 ///
 /// It fails if the insertion of a new number fails.
 pub fn count_by_get_mut<A: Allocator + Copy>(

@@ -1,5 +1,5 @@
 //! Calls by entries: what they return, and what the map is once its entry has ended.
-ghost use Rattle.std.specs.Prelude.{◌*◌, ◌+◌, ◌-◌, ◌<◌, ◌^◌, ◌≡◌, IfErr, IfOk, IfSome, None, OnErr, OnOk, Some, false, unwrap_or};
+ghost use Rattle.std.specs.Prelude.{◌+◌, ◌-◌, ◌<◌, ◌^◌, ◌≡◌, IfErr, IfOk, IfSome, None, OnErr, OnOk, Some, false, unwrap_or};
 ghost use Rattle.intmap.specs.Bindings.{IsPresent, Updates, value_of};
 ghost use Rattle.intmap.specs.Classes.{same_key};
 ghost use Rattle.intmap.specs.Map.{after_search, written};
@@ -8,24 +8,6 @@ ghost use Rattle.callers.specs.Bindings.{count_of};
 use intmap::entry::Entry;
 use intmap::{Cause, IntKey, IntMap, Refused};
 use std::alloc::Allocator;
-
-/// The value of the key, by an entry. Only the count of compared keys is changed.
-pub fn read_by_entry<K: IntKey, V: Copy, A: Allocator + Copy>(
-    map: &mut IntMap<K, V, A>,
-    key: K,
-) -> Option<V>
-    ensures value { result ≡ value_of K.number_of map.old.walk key }
-    ensures state { map.new ≡ after_search K.number_of map.old key }
-{
-    match map.entry(key) {
-        Entry::Occupied(entry) => {
-            let value = *entry.get();
-            entry.leave();
-            Some(value)
-        }
-        Entry::Vacant(_entry) => None,
-    }
-}
 
 /// If the key is present, sets its value in its place, and returns the value before. If it is
 /// absent, only the count of compared keys is changed.
@@ -47,27 +29,6 @@ pub fn replace_by_entry<K: IntKey, V: Drop, A: Allocator + Copy>(
             Some(old)
         }
         Entry::Vacant(_entry) => None,
-    }
-}
-
-/// If the key is present, sets its value in its place. If it is absent, only the count of compared
-/// keys is changed.
-pub fn write_by_entry<K: IntKey, V: Drop, A: Allocator + Copy>(
-    map: &mut IntMap<K, V, A>,
-    key: K,
-    value: V,
-)
-    ensures bound { (old : V) → value_of K.number_of map.old.walk key ≡ Some old
-        → map.new ≡ written K.number_of (after_search K.number_of map.old key) key value }
-    ensures missing { value_of K.number_of map.old.walk key ≡ None
-        → map.new ≡ after_search K.number_of map.old key }
-{
-    match map.entry(key) {
-        Entry::Occupied(mut entry) => {
-            *entry.get_mut() = value;
-            entry.leave();
-        }
-        Entry::Vacant(_entry) => (),
     }
 }
 
@@ -96,7 +57,8 @@ pub fn reset_by_entry<K: IntKey, A: Allocator + Copy>(map: &mut IntMap<K, u64, A
     entry.into_map();
 }
 
-/// The value of the key, by an entry that is only dropped.
+/// The value of the key, by an entry that is only dropped. Only the count of compared keys is
+/// changed.
 pub fn read_and_let_go<K: IntKey, V: Copy, A: Allocator + Copy>(
     map: &mut IntMap<K, V, A>,
     key: K,
@@ -128,25 +90,6 @@ pub fn write_and_let_go<K: IntKey, V: Drop, A: Allocator + Copy>(
     }
 }
 
-/// The same by `insert` of the entry, whose result is dropped too.
-pub fn insert_and_let_go<K: IntKey, V: Drop, A: Allocator + Copy>(
-    map: &mut IntMap<K, V, A>,
-    key: K,
-    value: V,
-)
-    ensures bound { (old : V) → value_of K.number_of map.old.walk key ≡ Some old
-        → map.new ≡ written K.number_of (after_search K.number_of map.old key) key value }
-    ensures missing { value_of K.number_of map.old.walk key ≡ None
-        → map.new ≡ after_search K.number_of map.old key }
-{
-    match map.entry(key) {
-        Entry::Occupied(mut entry) => {
-            let _old = entry.insert(value);
-        }
-        Entry::Vacant(_entry) => (),
-    }
-}
-
 // Values that are made if a key is absent, and entries that are kept, removed or ended.
 
 /// Counts one occurrence of the key. A new key's count begins at the default of a number.
@@ -165,31 +108,10 @@ pub fn count_by_default<K: IntKey, A: Allocator + Copy>(
     Ok(())
 }
 
-/// The value of a number below 2^32 in a map of squares. If the number is absent, its square is
-/// computed and inserted first.
-///
-/// It fails if that insertion fails, and returns the square with the cause.
-pub fn square<A: Allocator + Copy>(
-    squares: &mut IntMap<u64, u64, A>,
-    number: u64,
-) -> Result<u64, Refused<u64>>
-    requires { number < 2 ^ 32 }
-    ensures ok { IfOk result (λ square. square
-        ≡ unwrap_or (value_of (λ key. key) squares.old.walk number) (number * number)) }
-    ensures updates { IfOk result (λ square.
-        Updates (λ key. key) squares.old.walk squares.new.walk number (Some square)) }
-    ensures err { IfErr result (λ refused. refused.value ≡ number * number) }
-{
-    let square = squares
-        .entry(number)
-        .or_insert_with_key(|number| number * number)?;
-    Ok(*square)
-}
-
 /// The value of the key. If the key is absent, the given value becomes its value first. Every other
 /// key keeps its value.
 ///
-/// It fails if the insertion fails, and returns the value.
+/// It fails if the insertion fails, and returns the value. Every key then keeps its value.
 pub fn value_or<K: IntKey, V: Copy, A: Allocator + Copy>(
     map: &mut IntMap<K, V, A>,
     key: K,
@@ -199,6 +121,7 @@ pub fn value_or<K: IntKey, V: Copy, A: Allocator + Copy>(
         (λ now. now ≡ unwrap_or (value_of K.number_of map.old.walk key) value) }
     ensures updates { IfOk result
         (λ now. Updates K.number_of map.old.walk map.new.walk key (Some now)) }
+    ensures err { OnErr result (map.new ≡ after_search K.number_of map.old key) }
     ensures value_returned { IfErr result (λ refused. refused.value ≡ value) }
 {
     Ok(*map.entry(key).or_insert_with(|| value)?)

@@ -1,12 +1,12 @@
 //! Insertions of many pairs, insertions that never fail, and pairs that wait after a failure.
-ghost use Rattle.std.specs.Prelude.{[], ◌++◌, ◌+◌, ◌<◌, ◌^◌, ◌∷◌, ◌≡◌, ◌≤◌, All, IfOk, List, None, OnErr, OnOk, Some, ℕ, length, reverse, true, vec_capacity};
+ghost use Rattle.std.specs.Prelude.{[], ◌++◌, ◌+◌, ◌<◌, ◌^◌, ◌∷◌, ◌≡◌, ◌≤◌, All, IfErr, IfOk, List, None, OnErr, OnOk, Some, ℕ, length, reverse, true, vec_capacity};
 ghost use Rattle.std.specs.Option.{option_or};
 ghost use Rattle.intmap.specs.Bindings.{HasDistinctKeys, Updates, value_of};
 ghost use Rattle.intmap.specs.Growth.{IsNext, MeetsLoad};
 ghost use Rattle.intmap.specs.Insertions.{IsInsertion};
 ghost use Rattle.intmap.specs.Reach.{class_size};
 ghost use Rattle.intmap.specs.Room.{AreInRow, HasRoomFor};
-ghost use Rattle.callers.specs.Bindings.{Moves, pairs_of};
+ghost use Rattle.callers.specs.Bindings.{IsPutUpTo, Moves, pairs_of};
 
 use intmap::{Cause, IntKey, IntMap, RefusedPair, laws};
 use std::alloc::{AllocError, Allocator};
@@ -27,14 +27,17 @@ pub fn set_price(prices: &mut IntMap<u64, u64>, id: u64, price: u64) -> Result<(
 /// Puts further settings over the present ones. Each setting then has its last value among the
 /// further ones, or, if they don't name it, the value that it had.
 ///
-/// It fails if an insertion fails. The settings before that one are then in the table.
+/// It fails if an insertion fails, and returns that setting. The settings before it are then in the
+/// table, those behind it aren't.
 pub fn put_over<V: Drop, A: Allocator + Copy>(
     settings: &mut IntMap<u64, V, A>,
     further: Vec<(u64, V), A>,
 ) -> Result<(), RefusedPair<u64, V>>
-    ensures { OnOk result ((q : ℕ) → value_of (λ k. k) settings.new.walk q
+    ensures ok { OnOk result ((q : ℕ) → value_of (λ k. k) settings.new.walk q
         ≡ option_or (value_of (λ k. k) (reverse further.items) q)
         (value_of (λ k. k) settings.old.walk q)) }
+    ensures err { IfErr result (λ refused. IsPutUpTo (refused.key, refused.value) further.items
+        settings.old.walk settings.new.walk) }
 {
     settings.extend(further.into_iter())
 }
@@ -179,9 +182,9 @@ pub fn made_of_one_count<A: Allocator + Copy>(
     Ok((map, is_in))
 }
 
-/// Moves the pairs into the map, the last first. A pair whose insertion fails waits with its cause,
-/// behind those that wait already. So each pair is in the map, at least until a later one takes its
-/// key, or it waits. No pair is lost or doubled.
+/// Moves the pairs into the map, and lets those wait whose insertion fails. Each pair, also one
+/// that waited before, is then in the map, at least until another takes its key, or it waits. No
+/// pair is lost or doubled.
 ///
 /// It fails if there is no memory to let all of them wait, and then moves nothing.
 pub fn move_into<V: Drop, A: Allocator + Copy>(

@@ -1,6 +1,7 @@
 //! Callers of maps, by kind of call. The contract of each says in its own words what is proved of
-//! it. Those of `walks` that write by `iter_mut` or `values_mut` don't say which values they write,
-//! since no clause of these two calls tells that.
+//! it. When a call fails is proved only where a clause such as `refused` says so. Those of `walks`
+//! that write by `iter_mut` or `values_mut` don't say which values they write, since no clause of
+//! these two calls tells that.
 #![tactic(auto)]
 
 pub mod bindings;

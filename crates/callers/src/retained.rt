@@ -3,6 +3,7 @@ ghost use Rattle.std.specs.Prelude.{[], ◌%◌, ◌++◌, ◌+◌, ◌==◌, �
 ghost use Rattle.std.specs.List.{slice_get};
 ghost use Rattle.std.specs.Option.{option_map};
 ghost use Rattle.intmap.specs.Bindings.{Updates, value_of};
+ghost use Rattle.intmap.specs.Retaining.{KeepsAt, Retains};
 ghost use Rattle.callers.specs.Bindings.{value_at};
 ghost use Rattle.callers.specs.declared.retained.Symbol.{Symbol};
 
@@ -55,6 +56,7 @@ pub fn retain_counted<K: IntKey, V: Drop, A: Allocator + Copy, F: FnMut(K, &V) -
     keeps: F,
 ) -> usize
     requires { F.IsAlwaysCallable keeps }
+    ensures pairs { (last : F) × Retains (KeepsAt F.FnMut) keeps map.old.walk map.new.walk last }
     ensures count { length map.new.walk + result ≡ length map.old.walk }
     ensures capacity { map.new.capacity ≡ map.old.capacity }
 {
@@ -174,7 +176,7 @@ pub fn pop<V: Drop, A: Allocator + Copy>(queue: &mut IntMap<u64, V, A>) -> Optio
 /// lost: the jobs that are done, followed by those in the queue, are the same as before, in the
 /// same order.
 ///
-/// It fails if there is no memory for one more job. This job and those behind it then stay in the
+/// It fails if there is no memory for one more job. The jobs that aren't done then stay in the
 /// queue.
 pub fn work_off<V: Drop, A: Allocator + Copy>(
     queue: &mut IntMap<u64, V, A>,

@@ -126,7 +126,7 @@ impl<V, A: Allocator + Copy> Model for Dense<V, A> {
 }
 
 impl<V: Drop, A: Allocator + Copy> Dense<V, A> {
-    /// A table without values, with slots for `capacity` values.
+    /// A table without values. Its map is made by `with_capacity`.
     ///
     /// It fails if an allocation fails, or if `capacity` is above 2^63.
     pub fn with_capacity(alloc: A, capacity: usize) -> Result<Dense<V, A>, Cause>
@@ -193,12 +193,20 @@ impl<V: Drop, A: Allocator + Copy> Dense<V, A> {
 // Ids of codes, handed out from 0 up, over two maps: from codes to ids, and from ids to codes.
 
 /// Codes with ids. The two maps are inverse to each other, and the ids are the numbers below their
-/// count.
+/// count. Contracts see two lists of pairs, and read them by `value_at`.
 #[derive(Drop)]
 pub struct Interner<A: Allocator + Copy = Global> {
     ids: IntMap<u64, u64, A>,
     codes: IntMap<u64, u64, A>,
     ghost inverse: { AreInverse (value_at ids.walk) (value_at codes.walk) (length codes.walk) },
+}
+
+impl<A: Allocator + Copy> Model for Interner<A> {
+    ghost use Rattle.callers.specs.Tables.{Interned};
+
+    ghost Value = { Interned };
+
+    ghost view = { λ it. record { ids = it.ids.walk; codes = it.codes.walk } };
 }
 
 /// Gives a code without an id the next id, and inserts both ways. The map from codes to ids is
@@ -233,7 +241,7 @@ fn bind_both<A: Allocator + Copy>(
 impl<A: Allocator + Copy> Interner<A> {
     /// An interner without codes. It fails if an allocation fails.
     pub fn new(alloc: A) -> Result<Interner<A>, Cause>
-        ensures { IfOk result (λ made. (code : ℕ) → value_at made.ids.walk code ≡ None) }
+        ensures { IfOk result (λ made. (code : ℕ) → value_at made.ids code ≡ None) }
     {
         Ok(Interner {
             ids: IntMap::new(alloc)?,
@@ -246,12 +254,14 @@ impl<A: Allocator + Copy> Interner<A> {
     /// It fails if the insertion of a new pair fails. Every code then keeps its id, and every id
     /// its code.
     pub fn id_of(&mut self, code: u64) -> Result<u64, Cause>
-        ensures here { IfOk result (λ id. value_at self.new.ids.walk code ≡ Some id) }
-        ensures known { IfSome (value_at self.old.ids.walk code) (λ id. result ≡ Ok id) }
-        ensures kept { (q id : ℕ) → value_at self.old.ids.walk q ≡ Some id
-            → value_at self.new.ids.walk q ≡ Some id }
-        ensures ids_stay { OnErr result (AllStay self.old.ids.walk self.new.ids.walk) }
-        ensures codes_stay { OnErr result (AllStay self.old.codes.walk self.new.codes.walk) }
+        ensures here { IfOk result (λ id. value_at self.new.ids code ≡ Some id) }
+        ensures known { IfSome (value_at self.old.ids code) (λ id. result ≡ Ok id) }
+        ensures next { value_at self.old.ids code ≡ None
+            → IfOk result (λ id. id ≡ length self.old.codes) }
+        ensures kept { (q id : ℕ) → value_at self.old.ids q ≡ Some id
+            → value_at self.new.ids q ≡ Some id }
+        ensures ids_stay { OnErr result (AllStay self.old.ids self.new.ids) }
+        ensures codes_stay { OnErr result (AllStay self.old.codes self.new.codes) }
     {
         if let Some(id) = self.ids.get(code) {
             return Ok(*id);
@@ -261,7 +271,7 @@ impl<A: Allocator + Copy> Interner<A> {
 
     /// The code of the id, if it was handed out.
     pub fn code_of(&self, id: u64) -> Option<u64>
-        ensures { result ≡ value_at self.now.codes.walk id }
+        ensures { result ≡ value_at self.now.codes id }
     {
         self.codes.get(id).copied()
     }

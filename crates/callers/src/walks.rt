@@ -1,15 +1,17 @@
 //! Ways to go through a map: by reference, by value, page by page, and to write each value.
-ghost use Rattle.std.specs.Prelude.{◌+◌, ◌<◌, ◌^◌, ◌≡◌, All, IfOk, IfSome, None, cond, drop, is_some, length};
+ghost use Rattle.std.specs.Prelude.{◌+◌, ◌<◌, ◌^◌, ◌≡◌, All, IfNone, IfOk, IfSome, None, cond, is_some, length};
 ghost use Rattle.std.specs.Iterator.{YieldsFirst, item_count};
 ghost use Rattle.std.specs.List.{slice_get};
 ghost use Rattle.std.specs.Map.{keys_of, values_of};
 ghost use Rattle.intmap.specs.Bindings.{HasDistinctKeys, Updates};
-ghost use Rattle.intmap.specs.Map.{IsMap, passed};
+ghost use Rattle.intmap.specs.Map.{IsMap};
+ghost use Rattle.intmap.specs.Writes.{Writes, WritesAt};
 ghost use Rattle.callers.specs.Bindings.{more_by_keys, one_more};
 
 use intmap::iter::Cursor;
 use intmap::{IntKey, IntMap};
 use std::alloc::{AllocError, Allocator, Global};
+use std::marker::Model;
 use std::mem;
 
 /// What each way to go through a map gave, in order.
@@ -90,19 +92,28 @@ fn hand_out<K: IntKey, V: Copy, A: Allocator + Copy>(
 
 // A map that is shown page by page: a cursor says where the next page begins.
 
-/// The pairs that are left to be shown.
+/// The pairs that are left to be shown. Contracts see them as a list.
 #[derive(Drop)]
 pub struct Page<'a, A: Allocator + Copy> {
     map: &'a IntMap<u64, u64, A>,
     at: Cursor,
 }
 
+impl<'a, A: Allocator + Copy> Model for Page<'a, A> {
+    ghost use Rattle.std.specs.Prelude.{ℕ, List, drop};
+    ghost use Rattle.intmap.specs.Map.{passed};
+
+    ghost Value = { List (ℕ × ℕ) };
+
+    ghost view = { λ page. drop (passed (λ key. key) page.map.now page.at) page.map.now.walk };
+}
+
 impl<A: Allocator + Copy> Iterator for Page<'_, A> {
     type Item = (u64, u64);
 
-    ghost next_gives = { YieldsFirst (λ page. drop (passed (λ key. key) page.map.now page.at) page.map.now.walk) };
+    ghost next_gives = { YieldsFirst (λ rest. rest) };
 
-    ghost remaining = { item_count (λ page. drop (passed (λ key. key) page.map.now page.at) page.map.now.walk) };
+    ghost remaining = { item_count (λ rest. rest) };
 
     fn next(&mut self) -> Option<(u64, u64)> {
         let (key, value) = self.map.step(&mut self.at)?;
@@ -112,8 +123,7 @@ impl<A: Allocator + Copy> Iterator for Page<'_, A> {
 
 /// The first page.
 pub fn first_page<A: Allocator + Copy>(map: &IntMap<u64, u64, A>) -> Page<'_, A>
-    ensures { drop (passed (λ key. key) result.map.now result.at) result.map.now.walk
-        ≡ map.now.walk }
+    ensures { result ≡ map.now.walk }
 {
     Page {
         map,
@@ -131,11 +141,13 @@ pub fn second<A: Allocator + Copy>(map: &IntMap<u64, u64, A>) -> Option<(u64, u6
     Some((*key, *value))
 }
 
-/// Removes the second pair of the walk and returns it. All other keys keep their values.
+/// Removes the second pair of the walk and returns it. All other keys keep their values. If there
+/// is no such pair, the walk stays.
 pub fn cut_second<A: Allocator + Copy>(map: &mut IntMap<u64, u64, A>) -> Option<(u64, u64)>
     ensures pair { result ≡ slice_get map.old.walk 1 }
     ensures updates { IfSome result (λ pair. Updates (λ key. key) map.old.walk map.new.walk
         pair.0 None) }
+    ensures none { IfNone result (map.new.walk ≡ map.old.walk) }
     ensures len { length map.new.walk + cond (is_some result) 1 0 ≡ length map.old.walk }
 {
     let mut at = Cursor::start();
@@ -171,6 +183,7 @@ pub fn write_counted<K: IntKey, V, A: Allocator + Copy, F: FnMut(K, &mut V)>(
     write: F,
 ) -> usize
     requires { F.IsAlwaysCallable write }
+    ensures values { (last : F) × Writes (WritesAt F.FnMut) write map.old.walk map.new.walk last }
     ensures count { result ≡ length map.old.walk }
     ensures keys { keys_of map.new.walk ≡ keys_of map.old.walk }
     ensures capacity { map.new.capacity ≡ map.old.capacity }
