@@ -27,6 +27,7 @@ pub fn square_by_get<A: Allocator + Copy>(
         → value_of (λ key. key) table.new.walk q ≡ value_of (λ key. key) table.old.walk q }
     ensures right { (q v : ℕ) → value_of (λ key. key) table.new.walk q ≡ Some v
         → v ≡ (q * q) % 2 ^ 64 }
+    ensures err { OnErr result (table.new.walk ≡ table.old.walk) }
 {
     if let Some(known) = table.get(x) {
         return Ok(*known);
@@ -54,8 +55,8 @@ fn known_or_squared<A: Allocator + Copy>(
     Ok(*found)
 }
 
-/// The square of a number, by one search, which is then kept in the table. The function before says
-/// what it changes of the table, and this one what that means.
+/// The square of a number, by an entry, which is then kept in the table. The function before says
+/// what it changes of the table, and this one what that means. Every other number keeps its value.
 ///
 /// It fails if the insertion of a new number fails. Every number then keeps its value.
 pub fn square_by_entry<A: Allocator + Copy>(
@@ -69,6 +70,7 @@ pub fn square_by_entry<A: Allocator + Copy>(
         → value_of (λ key. key) table.new.walk q ≡ value_of (λ key. key) table.old.walk q }
     ensures right { (q v : ℕ) → value_of (λ key. key) table.new.walk q ≡ Some v
         → v ≡ (q * q) % 2 ^ 64 }
+    ensures err { OnErr result (table.new.walk ≡ table.old.walk) }
 {
     known_or_squared(table, x)
 }

@@ -82,7 +82,7 @@ pub fn are_equal<K: IntKey, V: PartialEq, A: Allocator + Copy>(
     *first == *second
 }
 
-/// Whether three maps are equal, each to each other, by two comparisons.
+/// Whether three maps are equal, each to each other.
 pub fn are_all_equal<K: IntKey, V: PartialEq, A: Allocator + Copy>(
     first: &IntMap<K, V, A>,
     second: &IntMap<K, V, A>,

@@ -7,8 +7,8 @@ use std::alloc::Allocator;
 
 /// Marks a node, and puts it into the queue if it is new.
 ///
-/// It fails if there is no memory for the queue, or if the insertion of a new node fails. Every mark
-/// then stays. In the second case the node stands in the queue, unmarked.
+/// It fails if there is no memory for the queue, or if the insertion of a new node fails. Every
+/// mark then stays. The queue stays too, or the node stands at its end, unmarked.
 pub fn visit<A: Allocator + Copy>(
     visited: &mut IntMap<u64, (), A>,
     queue: &mut Vec<u64, A>,
@@ -22,7 +22,8 @@ pub fn visit<A: Allocator + Copy>(
         (queue.old.items ++ node ∷ []) queue.old.items) }
     ensures marks_stay { OnErr result (visited.new.walk ≡ visited.old.walk) }
     ensures queue_left { OnErr result ((queue.new.items ≡ queue.old.items)
-        ⊎ (queue.new.items ≡ queue.old.items ++ node ∷ [])) }
+        ⊎ ((queue.new.items ≡ queue.old.items ++ node ∷ [])
+        × (value_of (λ k. k) visited.new.walk node ≡ None))) }
 {
     if visited.contains_key(node) {
         return Ok(());
@@ -34,10 +35,11 @@ pub fn visit<A: Allocator + Copy>(
     Ok(())
 }
 
-/// The same by `insert_checked`, with one search.
+/// The same by `insert_checked`.
 ///
 /// It fails if the insertion of a new node fails, or if there is no memory for the queue. The queue
-/// then stays. In the second case the node is marked, so another call doesn't put it into the queue.
+/// then stays. Every mark stays too, or the node is marked, so that another call doesn't put it
+/// into the queue.
 pub fn visit_once<A: Allocator + Copy>(
     visited: &mut IntMap<u64, (), A>,
     queue: &mut Vec<u64, A>,

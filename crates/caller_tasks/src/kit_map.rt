@@ -2,10 +2,10 @@
 //! changed: the types, the places of `?`, and keys, which are passed by value here.
 //!
 //! A call that returns a `Result` fails if there is no memory or the map would be too large.
-//! `missing` and `first_length` never fail.
-ghost use Rattle.std.specs.Prelude.{◌≡◌, IfOk, IfSome, IsSome, None, OnOk, Some, unwrap_or, string_len};
+//! `first_length` never fails.
+ghost use Rattle.std.specs.Prelude.{◌≡◌, IfOk, OnOk, Some, unwrap_or, string_len};
 ghost use Rattle.std.specs.Map.{keys_of, values_of};
-ghost use Rattle.intmap.specs.Bindings.{IsPresent, value_of, Updates};
+ghost use Rattle.intmap.specs.Bindings.{value_of, Updates};
 ghost use Rattle.std.specs.Option.{option_map};
 
 use intmap::entry::Entry;
@@ -92,47 +92,6 @@ pub fn toggle(texts: &mut Texts, number: u64, text: String) -> Result<Option<(u6
             Ok(None)
         }
     }
-}
-
-/// The number, if it has no text.
-pub fn missing(texts: &mut Texts, number: u64) -> Result<Option<u64>, Cause>
-    ensures missing { IfOk result (λ missing. IfSome missing (λ missing. (missing ≡ number)
-        × (value_of (λ key. key) texts.old.walk number ≡ None))) }
-    ensures none { IfOk result (λ missing. missing ≡ None
-        → IsPresent (λ key. key) texts.old.walk number) }
-{
-    match texts.entry(number) {
-        Entry::Occupied(_entry) => Ok(None),
-        Entry::Vacant(entry) => Ok(Some(entry.into_key())),
-    }
-}
-
-/// The number itself and the length of its text.
-pub fn pair_of(texts: &Texts, number: u64) -> Option<(u64, usize)>
-    ensures { result
-        ≡ option_map (λ text. (number, string_len text))
-        (value_of (λ key. key) texts.now.walk number) }
-{
-    let (number, text) = texts.get_key_value(number)?;
-    Some((*number, text.len()))
-}
-
-/// Removes the number, and returns it with its text.
-pub fn take(texts: &mut Texts, number: u64) -> Option<(u64, String)>
-    ensures pair { result
-        ≡ option_map (λ text. (number, text)) (value_of (λ key. key) texts.old.walk number) }
-    ensures updates { Updates (λ key. key) texts.old.walk texts.new.walk number None }
-{
-    texts.remove_entry(number)
-}
-
-/// The length of a text that the caller knows to be there.
-pub fn known_length(texts: &Texts, number: u64) -> usize
-    requires { IsSome (value_of (λ key. key) texts.now.walk number) }
-    ensures { IfSome (value_of (λ key. key) texts.now.walk number)
-        (λ text. result ≡ string_len text) }
-{
-    texts[number].len()
 }
 
 /// Removes the empty texts, and returns how many they were.

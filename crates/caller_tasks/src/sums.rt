@@ -30,7 +30,7 @@ pub fn hit<A: Allocator + Copy>(histogram: &mut IntMap<u64, u64, A>, bin: u64) -
 
 /// Sets the value of a key. The sum of all values rises by the new value, and falls by the old one.
 ///
-/// It fails if the insertion of a new key fails.
+/// It fails if the insertion of a new key fails. All pairs then stay.
 pub fn put<A: Allocator + Copy>(
     map: &mut IntMap<u64, u64, A>,
     key: u64,
@@ -79,6 +79,9 @@ pub fn merge<A: Allocator + Copy>(
     sums: &mut IntMap<u64, u64, A>,
     more: &IntMap<u64, u64, A>,
 ) -> Result<(), Cause>
+    ensures values { OnOk result ((q : ℕ) → unwrap_or (value_of (λ k. k) sums.new.walk q) 0
+        ≡ unwrap_or (value_of (λ k. k) sums.old.walk q) 0
+        + unwrap_or (value_of (λ k. k) more.now.walk q) 0) }
     ensures total { OnOk result (sum (values_of sums.new.walk)
         ≡ sum (values_of sums.old.walk) + sum (values_of more.now.walk)) }
 {

@@ -32,23 +32,6 @@ pub fn bind<K: IntKey, V: Drop, A: Allocator + Copy>(
 
 // Prices by article number.
 
-/// The price of an article after it was raised, in a price list of its own.
-///
-/// It fails if there is no memory for the list or for a price in it.
-pub fn raised_price<A: Allocator + Copy>(
-    alloc: A,
-    article: u64,
-    price: u64,
-    raised: u64,
-) -> Result<Option<u64>, Cause>
-    ensures { IfOk result (λ price. price ≡ Some raised) }
-{
-    let mut prices: IntMap<u64, u64, A> = IntMap::new(alloc)?;
-    prices.insert(article, price)?;
-    prices.insert(article, raised)?;
-    Ok(prices.get(article).copied())
-}
-
 /// Raises the price of an article, to at most 2^64 - 1, and returns the new price, or `None` if the
 /// article has none. It never fails: the insertion of a present key needs no memory.
 pub fn raise<A: Allocator + Copy>(

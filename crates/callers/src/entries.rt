@@ -1,9 +1,7 @@
 //! Calls by entries: what they return, and what the map is once its entry has ended.
-ghost use Rattle.std.specs.Prelude.{◌+◌, ◌-◌, ◌<◌, ◌^◌, ◌≡◌, IfErr, IfOk, IfSome, None, OnErr, OnOk, Some, false, unwrap_or};
+ghost use Rattle.std.specs.Prelude.{◌≡◌, IfErr, IfOk, IfSome, None, OnErr, OnOk, Some, unwrap_or};
 ghost use Rattle.intmap.specs.Bindings.{IsPresent, Updates, value_of};
-ghost use Rattle.intmap.specs.Classes.{same_key};
 ghost use Rattle.intmap.specs.Map.{after_search, written};
-ghost use Rattle.callers.specs.Bindings.{count_of};
 
 use intmap::entry::Entry;
 use intmap::{Cause, IntKey, IntMap, Refused};
@@ -90,23 +88,7 @@ pub fn write_and_let_go<K: IntKey, V: Drop, A: Allocator + Copy>(
     }
 }
 
-// Values that are made if a key is absent, and entries that are kept, removed or ended.
-
-/// Counts one occurrence of the key. A new key's count begins at the default of a number.
-///
-/// It fails if the insertion of a new key fails. Every key then keeps its value.
-pub fn count_by_default<K: IntKey, A: Allocator + Copy>(
-    counts: &mut IntMap<K, u64, A>,
-    key: K,
-) -> Result<(), Cause>
-    requires { count_of K.number_of counts.old.walk key < 2 ^ 64 - 1 }
-    ensures ok { OnOk result (Updates K.number_of counts.old.walk counts.new.walk key
-        (Some (count_of K.number_of counts.old.walk key + 1))) }
-    ensures err { OnErr result (counts.new ≡ after_search K.number_of counts.old key) }
-{
-    *counts.entry(key).or_default()? += 1;
-    Ok(())
-}
+// Values that are made if a key is absent, and entries that are kept or ended.
 
 /// The value of the key. If the key is absent, the given value becomes its value first. Every other
 /// key keeps its value.
@@ -142,24 +124,6 @@ pub fn set_by_entry<K: IntKey, V: Drop, A: Allocator + Copy>(
 {
     map.entry(key).insert_entry(value)?.leave();
     Ok(())
-}
-
-/// Removes the pair of the key, and returns it with its key.
-pub fn take_pair<K: IntKey, V, A: Allocator + Copy>(
-    map: &mut IntMap<K, V, A>,
-    key: K,
-) -> Option<(K, V)>
-    ensures pair { IfSome result (λ pair. (pair.0 ≡ key)
-        × (value_of K.number_of map.old.walk key ≡ Some pair.1)) }
-    ensures none { result ≡ None → value_of K.number_of map.old.walk key ≡ None }
-    ensures gone { value_of K.number_of map.new.walk key ≡ None }
-    ensures others { (q : K) → same_key K.number_of key q ≡ false
-        → value_of K.number_of map.new.walk q ≡ value_of K.number_of map.old.walk q }
-{
-    match map.entry(key) {
-        Entry::Occupied(entry) => Some(entry.remove_entry()),
-        Entry::Vacant(_entry) => None,
-    }
 }
 
 /// The key, if it is absent.

@@ -162,26 +162,6 @@ pub fn made_of_one<V: Drop, A: Allocator + Copy>(
     Ok((map, is_in))
 }
 
-/// A new map that counts the key once, and whether its insertion by an entry succeeded, which it
-/// does.
-///
-/// It fails if the map can't be made.
-pub fn made_of_one_count<A: Allocator + Copy>(
-    alloc: A,
-    key: u64,
-) -> Result<(IntMap<u64, u64, A>, bool), Cause>
-    ensures inserted { IfOk result (λ made. made.1 ≡ true) }
-    ensures here { IfOk result (λ made. value_of (λ k. k) made.0.walk key ≡ Some 1) }
-    ensures len { IfOk result (λ made. length made.0.walk ≡ 1) }
-{
-    let mut map = IntMap::new(alloc)?;
-    let is_in = match map.entry(key).or_insert(1) {
-        Ok(_count) => true,
-        Err(_refused) => false,
-    };
-    Ok((map, is_in))
-}
-
 /// Moves the pairs into the map, and lets those wait whose insertion fails. Each pair, also one
 /// that waited before, is then in the map, at least until another takes its key, or it waits. No
 /// pair is lost or doubled.
