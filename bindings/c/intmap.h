@@ -514,8 +514,8 @@ INTMAP_NONNULL INTMAP_MUST_USE static inline intmap_status intmap_shrink_to_fit(
     }
     intmap_status status = intmap_set_load_factor(&made, intmap_load_factor(map));
     if (!intmap_failed(status)) {
-        // Half of the slots at most. Insertions add the others, so that those of ids are lone.
-        status = intmap_reserve(&made, intmap_len(map) / 8 * 4);
+        // At most half of the slots. Insertions add the others, so that those of ids are lone.
+        status = intmap_reserve(&made, intmap_len(map) / 16 * 7);
     }
     while (!intmap_failed(status) && (next = intmap_step(map, &at)).status == INTMAP_PRESENT) {
         status = intmap_find_or_insert(&made, next.pair.key, next.pair.value);

@@ -1199,8 +1199,8 @@ static void test_shrunk_slots(void) {
 
 // Ids have slots without room for further pairs behind it, as in a map that grew.
 static void test_shrunk_ids(void) {
-    call_reserve(1000);
-    insert_some(1000, 1);
+    call_reserve(1865);
+    insert_some(1865, 1);
     largest_request = LONE * 2048;
     call_shrink_to_fit();
     EXPECT(!was_refused() && it->plain.capacity == 2048);
