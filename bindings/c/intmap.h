@@ -414,8 +414,8 @@ INTMAP_NONNULL INTMAP_MUST_USE intmap_status intmap_set_load_factor(intmap *map,
 // call makes enough. These slots are shared ones, so such ids take twice the memory that they take
 // in a map that grows.
 //
-// A load factor above 10^16 counts as 10^16. The call returns INTMAP_OK; INTMAP_TOO_LARGE exactly
-// if that takes more than 2^63 slots, or there would be more than 2^64 - 1 pairs; or
+// A load factor above 10^16 counts as 10^16. The call returns INTMAP_OK; INTMAP_TOO_LARGE if and
+// only if that takes more than 2^63 slots, or there would be more than 2^64 - 1 pairs; or
 // INTMAP_NO_MEMORY, but never if the map has memory and slots enough.
 INTMAP_NONNULL INTMAP_MUST_USE static inline intmap_status intmap_reserve(intmap *map, size_t more)
     INTMAP_CALL {

@@ -314,8 +314,8 @@ static bool was_refused_at_once(void) {
     return was_refused() && granted_bytes == granted_before;
 }
 
-// Whether a call failed, which it has to exactly if a request was refused. Then nothing changes,
-// but the memory of a first call may stay.
+// Whether a call failed, which it has to if and only if a request was refused. Then nothing
+// changes, but the memory of a first call may stay.
 static bool fails(intmap_status status, side *changed) {
     EXPECT(was_refused() == (status == INTMAP_NO_MEMORY));
     EXPECT(intmap_failed(status) == was_refused());

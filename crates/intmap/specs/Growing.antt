@@ -13,7 +13,7 @@ pub record IsEnough (C n D : ℕ) : Type 0 where
   pub least : IsLeastPower n power
   pub capacity : D ≡ max C power
 
--- it may fail with this cause: as too large exactly if n is above 2^63, and for want of memory only if C is less than n
+-- it may fail with this cause: as too large if and only if n is above 2^63, and for want of memory only if C is less than n
 pub record MayRefuseReserve (C n : ℕ) (cause : Cause) : Type 0 where
   pub too_large : (cause ≡ TooLarge) ↔ (2 ^ 63 < n)
   pub memory : cause ≡ Memory → C < n
@@ -23,7 +23,7 @@ pub record MeetsFactor (C n F D : ℕ) : Type 0 where
   pub in_range : D ≤ 2 ^ 63
   pub wanted : IsWanted C n F D
 
--- it may fail with this cause: as too large exactly if more than 2^63 slots are needed, and for want of memory only if C slots don't
+-- it may fail with this cause: as too large if and only if more than 2^63 slots are needed, and for want of memory only if C slots don't
 -- meet it
 pub record MayRefuseFactor (C n F : ℕ) (cause : Cause) : Type 0 where
   pub too_large : (cause ≡ TooLarge) ↔ NeedsTooMuch (IsWanted C n F)

@@ -45,7 +45,7 @@ module _ {K V : Type 0} (number : K → ℕ) where
     pub placed : t.placed ≡ s.placed + cond (t.capacity == s.capacity) 0 (length t.pairs)
     pub after : t ≡ record s { pairs = put_pair number s.pairs s.capacity k v; capacity = t.capacity; placed = t.placed }
 
-  -- an insertion may fail with this cause: for a new key alone, as too large exactly if the key is out of range, and
+  -- an insertion may fail with this cause: for a new key alone, as too large if and only if the key is out of range, and
   -- for want of memory never if the capacity stays and no present key shares its slot
   pub record RefusalIsDue (s : PlainList K V) (k : K) (cause : Cause) : Type 0 where
     pub new_key : IsNone (value_of number s.pairs k)

@@ -75,7 +75,7 @@ pub fn insertion_lengthens<K: IntKey, V>()
         ≡ length L + cond (is_some (value_of K.number_of L k)) 0 1 }
 {}
 
-/// A pair is in the walk of a map exactly if its value is that of its key.
+/// A pair is in the walk of a map if and only if its value is that of its key.
 pub fn pairs_are_values<K: IntKey, V>()
     ensures value { (m : MapState K V) (k : K) (v : V) → IsMap K.number_of K.is_valid m
         → Contains m.walk (k, v) → value_of K.number_of m.walk k ≡ Some v }
@@ -298,7 +298,7 @@ pub fn small_keys_fill_slots<K: IntKey, V>()
         → All (λ p. K.number_of p.0 < C) L → load_of K.number_of L C ≡ length L }
 {}
 
-/// Two maps are equal exactly if they have the same keys, each with equal values.
+/// Two maps are equal if and only if they have the same keys, each with equal values.
 pub fn equal_maps_bind_the_same<K: IntKey, V: PartialEq>()
     ensures { (m n : MapState K V) → IsTrue (maps_equal K.number_of V.eq m n)
         ↔ BindSame K.number_of V.eq m.walk n.walk }

@@ -30,10 +30,10 @@ use std::marker::Model;
 /// A hash map from integer keys to values.
 ///
 /// Its pairs lie in slots, whose number is a power of two. A key's slot is its number times an odd
-/// constant, modulo the number of slots: two keys share a slot exactly if their numbers are equal
-/// modulo the number of slots. Iteration goes through the slots in turn, and through each from
-/// front to back. The list of the pairs in this order is the walk. It depends on the calls alone:
-/// there is no random seed. No call makes the number of slots smaller.
+/// constant, modulo the number of slots: two keys share a slot if and only if their numbers are
+/// equal modulo the number of slots. Iteration goes through the slots in turn, and through each
+/// from front to back. The list of the pairs in this order is the walk. It depends on the calls
+/// alone: there is no random seed. No call makes the number of slots smaller.
 ///
 /// Contracts see a map as a [`MapState`](../specs/Map.antt): its walk, its number of slots, its
 /// load factor in thousandths, and two counts. One counts the pairs that insertions put into larger

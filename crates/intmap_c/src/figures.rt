@@ -39,9 +39,9 @@ fn set_load_factor(map: &mut IntMap<u64, u64>, thousandths: usize) -> i32
 }
 
 /// Makes slots for the pairs and `additional` more, and returns `OK`. If there are fewer, their
-/// number becomes the least power of two that isn't below that sum. It fails with `TOO_LARGE` exactly
-/// if the sum is above 2^63, and otherwise with `NO_MEMORY` if an allocation fails. A failed call
-/// leaves the map.
+/// number becomes the least power of two that isn't below that sum. It fails with `TOO_LARGE` if
+/// and only if the sum is above 2^63, and otherwise with `NO_MEMORY` if an allocation fails. A
+/// failed call leaves the map.
 #[unsafe(no_mangle)]
 pub extern "C" fn intmap_reserve_slots(alloc: Global, handle: &mut Handle, additional: usize) -> i32
     ensures { OnMapOrNew handle.old.value handle.new.value (MakesNone additional result)
@@ -58,8 +58,8 @@ pub extern "C" fn intmap_reserve_slots(alloc: Global, handle: &mut Handle, addit
 }
 
 /// Sets the load factor in thousandths, doubles the slots until their number meets it, and returns
-/// `OK`. It fails with `TOO_LARGE` exactly if that takes more than 2^63 slots, and otherwise with
-/// `NO_MEMORY` if an allocation fails. A failed call leaves the map and its load factor.
+/// `OK`. It fails with `TOO_LARGE` if and only if that takes more than 2^63 slots, and otherwise
+/// with `NO_MEMORY` if an allocation fails. A failed call leaves the map and its load factor.
 #[unsafe(no_mangle)]
 pub extern "C" fn intmap_set_load_factor(
     alloc: Global,

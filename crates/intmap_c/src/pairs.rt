@@ -85,8 +85,8 @@ fn remove(map: &mut IntMap<u64, u64>, key: u64) -> FoundValue
 }
 
 /// Inserts the pair of the key and the value at the end of its slot, and returns the value before.
-/// The insertion of a present key never fails. The insertion of a new key fails with `TOO_LARGE`
-/// exactly if the map has 2^64 - 1 pairs or would need more than 2^63 slots, and otherwise with
+/// The insertion of a present key never fails. The insertion of a new key fails with `TOO_LARGE` if
+/// and only if the map has 2^64 - 1 pairs or would need more than 2^63 slots, and otherwise with
 /// `NO_MEMORY` if an allocation fails. A failed call leaves the map.
 #[unsafe(no_mangle)]
 pub extern "C" fn intmap_insert(

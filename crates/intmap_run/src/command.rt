@@ -7,9 +7,9 @@ use std::alloc::{Allocator, Global};
 pub enum Command<K, V, A: Allocator = Global> {
     /// `insert`: sets the value of the key. The answer is `Old` with the value before.
     ///
-    /// It fails only for a new key, and returns the value. It fails with `TooLarge` exactly if the
-    /// map has 2^64 - 1 pairs or growth needs more than 2^63 slots. It never fails with `Memory` if
-    /// the capacity stays and no present key has the same slot.
+    /// It fails only for a new key, and returns the value. It fails with `TooLarge` if and only if
+    /// the map has 2^64 - 1 pairs or growth needs more than 2^63 slots. It never fails with
+    /// `Memory` if the capacity stays and no present key has the same slot.
     Insert(K, V),
     /// `insert_checked`: inserts the pair if the key is absent. The answer is `Flag`: whether the
     /// pair was inserted. If the key is present, the value is dropped.
@@ -33,14 +33,14 @@ pub enum Command<K, V, A: Allocator = Global> {
     /// `reserve`: makes the capacity at least the least power of two that is no less than the
     /// length plus this number. The answer is `Done`.
     ///
-    /// It fails with `TooLarge` exactly if that sum is above 2^63, and with `Memory` only if it is
-    /// above the capacity.
+    /// It fails with `TooLarge` if and only if that sum is above 2^63, and with `Memory` only if it
+    /// is above the capacity.
     Reserve(usize),
     /// `set_load_factor`: sets the load factor, in thousandths. At once it makes the capacity the
     /// least of itself and its doublings that meets the load factor. The answer is `Done`.
     ///
-    /// It fails with `TooLarge` exactly if no capacity up to 2^63 meets it, and with `Memory` only
-    /// if the present capacity doesn't.
+    /// It fails with `TooLarge` if and only if no capacity up to 2^63 meets it, and with `Memory`
+    /// only if the present capacity doesn't.
     SetLoadFactor(usize),
     /// `get_load_factor`: the answer is `Number` with the load factor, in thousandths.
     GetLoadFactor,

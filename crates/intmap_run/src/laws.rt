@@ -52,7 +52,7 @@ pub fn runs_leave_few_slots<K: IntKey, V, J: Judge<K, V>, A: Allocator>()
         → RunLeavesFewSlots K.number_of (J.sees judge) (J.keeps judge) s cs as' t run }
 {}
 
-/// Two keys have the same slot exactly if they agree modulo the number of slots.
+/// Two keys have the same slot if and only if they agree modulo the number of slots.
 pub fn keys_share_slots_by_residue<K: IntKey>()
     ensures { (C : ℕ) (a b : K) → IsCapacity C
         → (slot_number K.number_of a C ≡ slot_number K.number_of b C)

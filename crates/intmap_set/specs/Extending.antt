@@ -16,7 +16,7 @@ use Rattle.intmap_set.specs.Combined.{IsUnion}
 
 module _ {K : Type 0} (number : K → ℕ) (is_valid : K → Type 0) where
   -- an insertion of k took the set s to t: it is one into the map, a new key is the last of its slot, a member is looked up and nothing
-  -- more, the search is counted, each other key is a member exactly if it was one, and there is one member more if k is new
+  -- more, the search is counted, each other key is a member if and only if it was one, and there is one member more if k is new
   pub record Inserts (s : SetState K) (k : K) (t : SetState K) : Type 0 where
     pub inserted : IsInsertion number is_valid (as_map s) k tt (as_map t)
     pub state : t ≡ cond (holds number s.walk k) (looked_up number s k) (set_of (after_insert number (as_map s) k tt t.capacity))

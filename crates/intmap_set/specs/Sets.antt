@@ -52,7 +52,7 @@ module _ {K : Type 0} (number : K → ℕ) where
   abbrev pub looked_up : SetState K → K → SetState K
   looked_up s k = record s { compared = s.compared + reach number (paired s.walk) s.capacity k }
 
-  -- W has k exactly if b is true, and each other key exactly if V has it: the three parts say so of every key, of k, and of every other key
+  -- W has k if and only if b is true, and each other key if and only if V has it: the three parts say so of every key, of k, and of every other key
   abbrev pub Updates : List K → List K → K → Bool → Type 0
   Updates V W k b =
       ((q : K) → holds W q ≡ cond (same_key number k q) b (holds V q))

@@ -17,7 +17,7 @@ ghost use Rattle.intmap.specs.Extending.{new_keys};
 
 use intmap::IntKey;
 
-/// A key is a member exactly if the pairs of the members with `()` have it. The clauses of
+/// A key is a member if and only if the pairs of the members with `()` have it. The clauses of
 /// insertions speak of these pairs.
 pub fn members_are_keys<K: IntKey>()
     ensures { (W : List K) (k : K)
@@ -45,13 +45,13 @@ pub fn symmetric_difference_holds<K: IntKey>()
         (symmetric_difference_of K.number_of V W) }
 {}
 
-/// Two sets are equal exactly if each is a subset of the other.
+/// Two sets are equal if and only if each is a subset of the other.
 pub fn equal_sets_are_mutual_subsets<K: IntKey>()
     ensures { (s t : SetState K) → IsTrue (sets_equal K.number_of s t)
         ↔ (IsSubset K.number_of s.walk t.walk × IsSubset K.number_of t.walk s.walk) }
 {}
 
-/// Two sets are equal exactly if they have the same members.
+/// Two sets are equal if and only if they have the same members.
 pub fn equal_sets_have_the_same_members<K: IntKey>()
     ensures { (s t : SetState K) → IsTrue (sets_equal K.number_of s t)
         ↔ HaveSameMembers K.number_of s.walk t.walk }

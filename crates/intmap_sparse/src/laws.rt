@@ -10,7 +10,7 @@ pub fn products_agree()
     ensures { (V W : List (ℕ × ℤ)) → product V W ≡ product W V }
 {}
 
-/// Two vectors are equal exactly if they have the same value at every place.
+/// Two vectors are equal if and only if they have the same value at every place.
 pub fn equal_vectors_have_the_same_values()
     ensures { (v w : Vector) → IsTrue (vectors_equal v w) ↔ HaveSameValues v.walk w.walk }
 {}

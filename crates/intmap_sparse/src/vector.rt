@@ -70,8 +70,8 @@ impl<A: Allocator + Copy> SparseVec<A> {
 
     /// Sets the value at the place, and returns the old value. A 0 removes the place.
     ///
-    /// It fails only if the place isn't stored and the value isn't 0: with [`Cause::TooLarge`]
-    /// exactly if the vector already stores 2^64 - 1 places or growth needs more than 2^63 slots,
+    /// It fails only if the place isn't stored and the value isn't 0: with [`Cause::TooLarge`] if
+    /// and only if the vector already stores 2^64 - 1 places or growth needs more than 2^63 slots,
     /// and otherwise with [`Cause::Memory`] if an allocation fails. A failed call changes nothing.
     ///
     /// ```text
@@ -105,9 +105,9 @@ impl<A: Allocator + Copy> SparseVec<A> {
 
     /// Adds to the value at the place, and returns the sum. A sum of 0 removes the place.
     ///
-    /// It fails with [`SparseCause::Overflow`] exactly if the sum isn't an `i64`. Otherwise it
-    /// fails only if the place isn't stored and the sum isn't 0: with [`SparseCause::TooLarge`]
-    /// exactly if the vector already stores 2^64 - 1 places or growth needs more than 2^63 slots,
+    /// It fails with [`SparseCause::Overflow`] if and only if the sum isn't an `i64`. Otherwise it
+    /// fails only if the place isn't stored and the sum isn't 0: with [`SparseCause::TooLarge`] if
+    /// and only if the vector already stores 2^64 - 1 places or growth needs more than 2^63 slots,
     /// and otherwise with [`SparseCause::Memory`] if an allocation fails. A failed call changes
     /// nothing.
     ///
@@ -146,7 +146,7 @@ impl<A: Allocator + Copy> SparseVec<A> {
     /// The sum of the products of the values of both vectors, over all places.
     ///
     /// The products are added along the walk of the vector with fewer stored places, or of `self`
-    /// if both have the same number. The result is `None` exactly if a partial sum of that walk
+    /// if both have the same number. The result is `None` if and only if a partial sum of that walk
     /// isn't an `i128`. It allocates nothing, and costs a step and a look-up for each of those
     /// places.
     ///

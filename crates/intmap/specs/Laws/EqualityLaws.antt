@@ -66,7 +66,7 @@ module _ {K V : Type 0} (number : K → ℕ) (equal : V → V → Bool) where
       equiv (IsPartialEquivalence-maps_equal (partial_equiv_from_equiv values))
       (λ m. let same : BindSame number equal m.walk m.walk = λ k. option_eq-refl equal values.refl (value_of number m.walk k) in maps_equal-from_BindSame m m same same)
 
-  -- maps are equal exactly if they have the same keys, each with equal values
+  -- maps are equal if and only if they have the same keys, each with equal values
   pub maps_equal-iff_BindSame : IsPartialEquivalence equal → (m n : MapState K V) → IsTrue (maps_equal number equal m n) ↔ BindSame number equal m.walk n.walk
   maps_equal-iff_BindSame values m n = (
     BindSame-from_equal m n,

@@ -48,8 +48,8 @@ impl<K: IntKey, V: Drop, A: Allocator + Copy> IntMap<K, V, A> {
     }
 
     /// An empty map with a load factor of 909 thousandths. Its number of slots is the least power
-    /// of two that is at least `capacity`, and at least 2. It fails with [`Cause::TooLarge`]
-    /// exactly if `capacity` is above 2^63, and otherwise with [`Cause::Memory`] if an allocation
+    /// of two that is at least `capacity`, and at least 2. It fails with [`Cause::TooLarge`] if and
+    /// only if `capacity` is above 2^63, and otherwise with [`Cause::Memory`] if an allocation
     /// fails.
     ///
     /// ```text

@@ -27,10 +27,11 @@ impl<K: IntKey, V: Drop, A: Allocator + Copy> IntMap<K, V, A> {
     /// last.
     ///
     /// The insertion of a present key never fails. The insertion of a new key fails with
-    /// [`Cause::TooLarge`] exactly if the map holds 2^64 - 1 pairs or growth needs more than 2^63
-    /// slots, and otherwise with [`Cause::Memory`] if an allocation fails. It allocates nothing if
-    /// the capacity stays and the slot holds no pair. A failed call returns the value and leaves
-    /// the map as it was. Only the count of compared keys, which takes no memory, changes.
+    /// [`Cause::TooLarge`] if and only if the map holds 2^64 - 1 pairs or growth needs more than
+    /// 2^63 slots, and otherwise with [`Cause::Memory`] if an allocation fails. It allocates
+    /// nothing if the capacity stays and the slot holds no pair. A failed call returns the value
+    /// and leaves the map as it was. Only the count of compared keys, which takes no memory,
+    /// changes.
     ///
     /// ```text
     /// let mut map = IntMap::from_array(alloc, [(0, 10), (4, 14), (8, 18)])?;

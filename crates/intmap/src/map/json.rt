@@ -83,7 +83,7 @@ impl IntMap<u64, Value> {
     /// pair's key, in decimal with no sign and no leading zero, and its value is a clone of the
     /// pair's value. The map stays as it is.
     ///
-    /// It fails with [`JsonCause::HoldsFloat`] exactly if a value holds, at any depth, a number
+    /// It fails with [`JsonCause::HoldsFloat`] if and only if a value holds, at any depth, a number
     /// that is neither a `u64` nor an `i64`. This is checked first, without allocating. Otherwise
     /// it fails only with [`JsonCause::Memory`], if an allocation for a text, for a clone or for
     /// the object fails. What was made until then is dropped.

@@ -34,8 +34,8 @@ impl<K: IntKey, A: Allocator + Copy> IntSet<K, A> {
     }
 
     /// An empty set with a load factor of 909 thousandths. Its number of slots is the least power
-    /// of two that is at least `capacity`, and at least 2. It fails with [`Cause::TooLarge`]
-    /// exactly if `capacity` is above 2^63, and otherwise with [`Cause::Memory`] if an allocation
+    /// of two that is at least `capacity`, and at least 2. It fails with [`Cause::TooLarge`] if and
+    /// only if `capacity` is above 2^63, and otherwise with [`Cause::Memory`] if an allocation
     /// fails.
     pub fn with_capacity(alloc: A, capacity: usize) -> Result<IntSet<K, A>, Cause>
         ensures state { IfOk result (λ made. made ≡ empty_set made.capacity) }
@@ -54,10 +54,10 @@ impl<K: IntKey, A: Allocator + Copy> IntSet<K, A> {
     /// grows as the table of a map does at a new key.
     ///
     /// The insertion of a member never fails. The insertion of a new key fails with
-    /// [`Cause::TooLarge`] exactly if the set has 2^64 - 1 members or growth needs more than 2^63
-    /// slots, and otherwise with [`Cause::Memory`] if an allocation fails. It allocates nothing if
-    /// the capacity stays and the slot holds no member. A failed call leaves the set as it was. Only
-    /// the count of compared keys, which takes no memory, changes.
+    /// [`Cause::TooLarge`] if and only if the set has 2^64 - 1 members or growth needs more than
+    /// 2^63 slots, and otherwise with [`Cause::Memory`] if an allocation fails. It allocates
+    /// nothing if the capacity stays and the slot holds no member. A failed call leaves the set as
+    /// it was. Only the count of compared keys, which takes no memory, changes.
     ///
     /// ```text
     /// let mut set = IntSet::from_iter(alloc, [0, 4, 8].into_iter())?;
@@ -91,9 +91,9 @@ impl<K: IntKey, A: Allocator + Copy> IntSet<K, A> {
     /// `additional`. If the capacity is greater already, it stays. The load factor isn't
     /// considered, so later insertions may still grow the table.
     ///
-    /// It fails with [`Cause::TooLarge`] exactly if the length plus `additional` is above 2^63, and
-    /// otherwise with [`Cause::Memory`] if an allocation fails. It never fails if the capacity is
-    /// at least that sum. A failed call leaves the set as it was. Both counts stay.
+    /// It fails with [`Cause::TooLarge`] if and only if the length plus `additional` is above 2^63,
+    /// and otherwise with [`Cause::Memory`] if an allocation fails. It never fails if the capacity
+    /// is at least that sum. A failed call leaves the set as it was. Both counts stay.
     ///
     /// ```text
     /// let mut set: IntSet<u64> = IntSet::with_capacity(alloc, 20)?;

@@ -58,7 +58,7 @@ module _ {K X : Type 0} (number : K → ℕ) where
     pub set_at : (j : ℕ) → marked marks' j ≡ (marked marks j || nat_lt 0 (need L (length S) j))
     pub counted : n' ≡ n + length L
 
-  -- the pairs can be put there one after another: a slot that gets some is marked exactly if it holds a pair, and has room for all of them;
+  -- the pairs can be put there one after another: a slot that gets some is marked if and only if it holds a pair, and has room for all of them;
   -- a slot that gets one pair alone needs no room, and slot x may have no block: the current block, whose room is given, is large enough for it
   pub record CanPut (S : List (Held K X)) (marks : List Bool) (L : List (K × X)) (block : ℕ) : Type 0 where
     pub capacity : IsCapacity (length S)

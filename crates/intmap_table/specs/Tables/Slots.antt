@@ -87,7 +87,7 @@ IsSlotWord slots from at word = IsHeldWord (λ i. nat_lt 0 (length (row_of slots
 abbrev pub IsWalkWord : {K X : Type 0} (number : K → ℕ) → List (K × X) → ℕ → ℕ → ℕ → ℕ → Type 0
 IsWalkWord number W C from at word = IsHeldWord (λ i. nat_lt 0 (length (slot_of number W C i))) from at word
 
--- marks in whole words of 64: the index of a row is marked exactly if the row has a pair, and no index behind the last row is marked
+-- marks in whole words of 64: the index of a row is marked if and only if the row has a pair, and no index behind the last row is marked
 pub record AreMarked {P : Type 0} (S : List (List P)) (marks : List Bool) : Type 0 where
   pub words : length marks ≡ 64 * ((length S + 63) / 64)
   pub own : (i : ℕ) → marked marks i ≡ nat_lt 0 (length (slice_index_or S i []))

@@ -5,9 +5,10 @@ mod wide;
 
 /// A type of keys. Each key has a number below `2 ^ 64` that no other key has.
 ///
-/// A slot is chosen by the low bits of the number: two keys share a slot exactly if their numbers
-/// are equal modulo the capacity. Keys with equal low bits therefore share slots, and each call
-/// that looks for one of them is slow: addresses, ids shifted left, times in round units, pairs
+/// A slot is chosen by the low bits of the number: two keys share a slot if and only if their
+/// numbers are equal modulo the capacity. Keys with equal low bits therefore share slots, and each
+/// call that looks for one of them is slow: addresses, ids shifted left, times in round units,
+/// pairs
 /// packed as `a << 32 | b`. Number such keys so that their low bits differ: divide by the unit, or
 /// use `row * WIDTH + column`.
 ///

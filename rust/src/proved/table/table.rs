@@ -24,9 +24,9 @@ pub use slots::walk::Pairs;
 use crate::memory::alloc::{AllocError, Allocator};
 
 /// An odd number. A key's number, times this one, modulo the number of slots is the key's slot.
-/// Only the low bits of the number count: two keys share a slot exactly if their numbers are equal
-/// modulo the number of slots. Since this number is odd, it permutes the slots and makes no keys
-/// share one.
+/// Only the low bits of the number count: two keys share a slot if and only if their numbers are
+/// equal modulo the number of slots. Since this number is odd, it permutes the slots and makes no
+/// keys share one.
 const MULTIPLIER: u64 = 11400714819323198549;
 
 /// The slot of a key in a table of `mask + 1` slots.

@@ -22,10 +22,10 @@ impl IntMap<u64, Value> {
     /// Each key must be the canonical text of a number of at most 2^64 - 1: decimal digits with no
     /// sign and no leading zero.
     ///
-    /// It fails with [`JsonCause::NotAnObject`] exactly if the JSON value isn't an object;
-    /// otherwise with [`JsonCause::BadKey`] exactly if a key isn't canonical; otherwise with
-    /// [`JsonCause::HoldsFloat`] exactly if a member's value holds, at any depth, a number that is
-    /// neither a `u64` nor an `i64`. These are checked in this order, without allocating. After
+    /// It fails with [`JsonCause::NotAnObject`] if and only if the JSON value isn't an object;
+    /// otherwise with [`JsonCause::BadKey`] if and only if a key isn't canonical; otherwise with
+    /// [`JsonCause::HoldsFloat`] if and only if a member's value holds, at any depth, a number that
+    /// is neither a `u64` nor an `i64`. These are checked in this order, without allocating. After
     /// that it fails if `with_capacity` or an insertion does, with the same cause, or if a clone
     /// does, with [`JsonCause::Memory`]. What was made until then is dropped.
     ///

@@ -12,9 +12,9 @@ impl<K: IntKey, V, A: Allocator + Copy> IntMap<K, V, A> {
     /// `additional`. If the capacity is greater already, it stays. The load factor isn't
     /// considered, so later insertions may still grow the table.
     ///
-    /// It fails with [`Cause::TooLarge`] exactly if the length plus `additional` is above 2^63, and
-    /// otherwise with [`Cause::Memory`] if an allocation fails. It never fails if the capacity is
-    /// at least that sum. A failed call leaves the map as it was.
+    /// It fails with [`Cause::TooLarge`] if and only if the length plus `additional` is above 2^63,
+    /// and otherwise with [`Cause::Memory`] if an allocation fails. It never fails if the capacity
+    /// is at least that sum. A failed call leaves the map as it was.
     pub fn reserve(&mut self, additional: usize) -> Result<(), Cause> {
         if self.len > GREATEST_CAPACITY || additional > GREATEST_CAPACITY - self.len {
             return Err(Cause::TooLarge);
@@ -32,9 +32,9 @@ impl<K: IntKey, V, A: Allocator + Copy> IntMap<K, V, A> {
     /// lengths at which insertions check the load. At once, whatever the length is, the capacity
     /// becomes the least of itself and its doublings that meets the load factor.
     ///
-    /// It fails with [`Cause::TooLarge`] exactly if no capacity up to 2^63 meets the load factor,
-    /// and otherwise with [`Cause::Memory`] if an allocation fails. It never fails if the present
-    /// capacity meets it. A failed call leaves the map as it was, with its load factor.
+    /// It fails with [`Cause::TooLarge`] if and only if no capacity up to 2^63 meets the load
+    /// factor, and otherwise with [`Cause::Memory`] if an allocation fails. It never fails if the
+    /// present capacity meets it. A failed call leaves the map as it was, with its load factor.
     pub fn set_load_factor(&mut self, thousandths: usize) -> Result<(), Cause> {
         let Some(capacity) = wanted_capacity(self.len, self.table.capacity(), thousandths) else {
             return Err(Cause::TooLarge);
