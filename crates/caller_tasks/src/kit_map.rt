@@ -5,6 +5,7 @@
 //! `first_length` never fails.
 ghost use Rattle.std.specs.Prelude.{◌≡◌, IfOk, OnOk, Some, unwrap_or, string_len};
 ghost use Rattle.std.specs.Map.{keys_of, values_of};
+ghost use Rattle.std.specs.String.{string_bytes};
 ghost use Rattle.intmap.specs.Bindings.{value_of, Updates};
 ghost use Rattle.std.specs.Option.{option_map};
 
@@ -22,7 +23,7 @@ pub fn first_two(alloc: Global, zero: String, one: String) -> Result<Texts, Caus
 
 /// A copy of the word.
 fn copy_of(alloc: Global, word: &str) -> Result<String, Cause>
-    ensures { IfOk result (λ text. text.bytes.items ≡ word.now) }
+    ensures { IfOk result (λ text. string_bytes text ≡ word.now) }
 {
     Ok(String::from_str(alloc, word)?)
 }
