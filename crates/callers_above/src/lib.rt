@@ -1,5 +1,5 @@
 //! Callers of sets, runs and sessions. The contract of each says in its own words what is proved of
-//! it.
+//! it. When a call fails is proved only where a clause such as `memory` says so.
 #![tactic(auto)]
 
 pub mod served;

@@ -1,14 +1,15 @@
 //! Facts of sets that a caller draws from their clauses and laws: when the next member grows the
 //! table, when there is room for it, how many members two sets have together, in common and apart,
 //! which members a set made of two has, and how many of some numbers are distinct.
-ghost use Rattle.std.specs.Prelude.{◌+◌, ◌<◌, ◌||◌, ◌↔◌, ◌≡◌, ◌≤◌, IfErr, IfOk, IfSome, IsErrOf, IsTrue, None, OnOk, length, not, true};
+ghost use Rattle.std.specs.Prelude.{◌+◌, ◌<◌, ◌||◌, ◌↔◌, ◌≡◌, ◌≤◌, IfErr, IfOk, IfSome, IsErrOf, IsSome, IsTrue, OnOk, length, not, true};
+ghost use Rattle.intmap.specs.Bindings.{HasDistinctKeys};
 ghost use Rattle.intmap.specs.Growth.{IsNext, MeetsLoad};
 ghost use Rattle.intmap.specs.Map.{IsCapacityAfter, IsOutOfRange};
 ghost use Rattle.intmap.specs.Reach.{class_size};
-ghost use Rattle.intmap_set.specs.Combined.{IsDifference, IsIntersection, IsSubset, IsUnion, difference_of, sets_equal, symmetric_difference_of};
+ghost use Rattle.intmap_set.specs.Combined.{HaveSameMembers, IsDifference, IsIntersection, IsSubset, IsUnion, difference_of, sets_equal, symmetric_difference_of};
 ghost use Rattle.intmap_set.specs.Sets.{AreBelow, holds, load_factor, paired};
 
-use intmap::{Cause, IntKey, IntMap};
+use intmap::{Cause, IntKey};
 use intmap_set::{IntSet, laws};
 use std::alloc::Allocator;
 
@@ -72,7 +73,7 @@ pub fn count_missing<K: IntKey, A: Allocator + Copy>(
 ) -> Option<usize>
     ensures missing { IfSome result
         (λ missing. missing + length part.now.walk ≡ length group.now.walk) }
-    ensures none { result ≡ None → IsSubset K.number_of part.now.walk group.now.walk → ⊥ }
+    ensures part { IsSome result ↔ IsSubset K.number_of part.now.walk group.now.walk }
 {
     laws::subsets_are_no_longer::<K>();
     let (some, all) = (part.len(), group.len());
@@ -202,27 +203,23 @@ pub fn leave_together<K: IntKey, A: Allocator + Copy>(
     laws::difference_holds::<K>();
 }
 
-// How many numbers are distinct: at most as many as there are, by a map and by a set.
+// The distinct ones of some numbers.
 
-/// How many distinct numbers there are, by a map.
+/// The set of the numbers, and how many of them are distinct.
 ///
-/// It fails if the map can't be made or an insertion fails.
-pub fn distinct<A: Allocator + Copy>(alloc: A, numbers: &[u64]) -> Result<usize, Cause>
-    ensures { IfOk result (λ count. count ≤ length numbers.now) }
-{
-    let map: IntMap<u64, (), A> = IntMap::from_iter(
-        alloc,
-        numbers.iter().map(|number| (*number, ())),
-    )?;
-    Ok(map.len())
-}
-
-/// The same by a set.
-pub fn distinct_by_set<A: Allocator + Copy>(alloc: A, numbers: &[u64]) -> Result<usize, Cause>
-    ensures { IfOk result (λ count. count ≤ length numbers.now) }
+/// It fails if the set can't be made or an insertion fails.
+pub fn distinct<A: Allocator + Copy>(
+    alloc: A,
+    numbers: &[u64],
+) -> Result<(IntSet<u64, A>, usize), Cause>
+    ensures members { IfOk result (λ made. HaveSameMembers (λ k. k) made.0.walk numbers.now) }
+    ensures once { IfOk result (λ made. HasDistinctKeys (λ k. k) (paired made.0.walk)) }
+    ensures count { IfOk result (λ made. made.1 ≡ length made.0.walk) }
+    ensures few { IfOk result (λ made. made.1 ≤ length numbers.now) }
 {
     let set: IntSet<u64, A> = IntSet::from_iter(alloc, numbers.iter().copied())?;
-    Ok(set.len())
+    let count = set.len();
+    Ok((set, count))
 }
 
 /// A new set with one member, and whether its insertion succeeded, which it does.
