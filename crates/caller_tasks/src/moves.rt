@@ -201,7 +201,7 @@ pub fn run_apart<T: Send, J: FnOnce() -> T + Send>(job: J) -> T
     job()
 }
 
-/// The sum of all values, by a job that the map moves into. It is `None` exactly if the sum is
+/// The sum of all values, by a job that the map moves into. It is `None` if and only if the sum is
 /// above 2^64 - 1.
 pub fn total_apart(map: IntMap<u64, u64>) -> Option<u64>
     ensures some { IfSome result (λ total. total ≡ sum (values_of map.walk)) }

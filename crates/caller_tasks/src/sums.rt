@@ -93,7 +93,7 @@ pub fn merge<A: Allocator + Copy>(
 
 // The sum of all values, and the greatest.
 
-/// The sum of all values. It is `None` exactly if the sum is above 2^64 - 1.
+/// The sum of all values. It is `None` if and only if the sum is above 2^64 - 1.
 pub fn total<K: IntKey, A: Allocator + Copy>(map: &IntMap<K, u64, A>) -> Option<u64>
     ensures some { IfSome result (λ total. total ≡ sum (values_of map.now.walk)) }
     ensures none { result ≡ None → 2 ^ 64 ≤ sum (values_of map.now.walk) }
@@ -105,7 +105,7 @@ pub fn total<K: IntKey, A: Allocator + Copy>(map: &IntMap<K, u64, A>) -> Option<
     Some(total)
 }
 
-/// A pair with the greatest value. It is `None` exactly if the map is empty.
+/// A pair with the greatest value. It is `None` if and only if the map is empty.
 pub fn greatest<A: Allocator + Copy>(map: &IntMap<u64, u64, A>) -> Option<(u64, u64)>
     ensures present { IfSome result (λ pair. Contains map.now.walk pair) }
     ensures greatest { IfSome result (λ greatest. All (λ pair. pair.1 ≤ greatest.1) map.now.walk) }
@@ -120,7 +120,7 @@ pub fn greatest<A: Allocator + Copy>(map: &IntMap<u64, u64, A>) -> Option<(u64, 
 
 // Balances of accounts: what calls change of them, and of their sum.
 
-/// Moves the amount from one account to another, and returns whether it did. It does exactly if
+/// Moves the amount from one account to another, and returns whether it did. It does if and only if
 /// they are two accounts, the first has the amount, and the second's new balance is below 2^64.
 /// Else no balance changes. No other account's balance ever changes, nor the sum of all balances.
 /// It never fails.
@@ -144,7 +144,7 @@ pub fn transfer<K: IntKey, A: Allocator + Copy>(
     ensures total { sum (values_of accounts.new.walk) ≡ sum (values_of accounts.old.walk) }
     ensures len { length accounts.new.walk ≡ length accounts.old.walk }
 {
-    // two keys are one exactly if their numbers are equal
+    // two keys are one if and only if their numbers are equal
     if from.number() == to.number() {
         return false;
     }

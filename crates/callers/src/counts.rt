@@ -174,7 +174,7 @@ impl<K: IntKey, A: Allocator + Copy> Counter<K, A> {
 
     /// Counts one occurrence of the key, and returns its new count.
     ///
-    /// It fails with `TooOften` exactly if the count is 2^64 - 1, and with `Refused` if the
+    /// It fails with `TooOften` if and only if the count is 2^64 - 1, and with `Refused` if the
     /// insertion of a new key fails. All counts then stay.
     pub fn count(&mut self, key: K) -> Result<u64, Uncounted>
         ensures count { IfOk result (λ count. count ≡ count_of K.number_of self.new key) }

@@ -146,7 +146,7 @@ pub fn count_each_alone<K: IntKey, A: Allocator + Copy>(
     Ok((left.len(), right.len()))
 }
 
-/// Inserts the members of another set. Each key is a member afterwards exactly if it was one of
+/// Inserts the members of another set. Each key is a member afterwards if and only if it was one of
 /// either, and there are no fewer slots.
 ///
 /// It fails if an insertion fails.
