@@ -1,5 +1,5 @@
 //! Pairs that stay and pairs that go: by a test, by the scope of a name, and from a queue's front.
-ghost use Rattle.std.specs.Prelude.{[], ◌%◌, ◌++◌, ◌+◌, ◌==◌, ◌≡◌, ◌≤◌, IfSome, IsSome, None, OnOk, Some, ℕ, cond, count_by, drop, false, filter, is_some, length, nat_le, nat_lt, not, slice_index_or, take};
+ghost use Rattle.std.specs.Prelude.{[], ◌%◌, ◌++◌, ◌+◌, ◌==◌, ◌≡◌, ◌≤◌, All, IfSome, IsSome, None, OnOk, Some, ℕ, cond, count_by, drop, false, filter, is_some, length, nat_le, nat_lt, not, slice_index_or, take};
 ghost use Rattle.std.specs.List.{slice_get};
 ghost use Rattle.std.specs.Option.{option_map};
 ghost use Rattle.intmap.specs.Bindings.{Updates, value_of};
@@ -7,7 +7,7 @@ ghost use Rattle.intmap.specs.Retaining.{KeepsAt, Retains};
 ghost use Rattle.callers.specs.Bindings.{value_at};
 ghost use Rattle.callers.specs.declared.retained.Symbol.{Symbol};
 
-use intmap::{IntKey, IntMap};
+use intmap::{Cause, IntKey, IntMap};
 use std::alloc::{AllocError, Allocator};
 
 /// Drops the pairs whose key is odd. The others keep their order and their slots.
@@ -197,4 +197,37 @@ pub fn work_off<V: Drop, A: Allocator + Copy>(
         left -= 1;
     }
     Ok(())
+}
+
+// Calls that want a lemma: what holds of all pairs, and a closure of any type.
+
+/// Forgets one student, and notes the grade of another. No grade is above `most` then.
+///
+/// It fails if the insertion of a new student fails.
+pub fn replace_student<A: Allocator + Copy>(
+    grades: &mut IntMap<u64, u64, A>,
+    former: u64,
+    student: u64,
+    grade: u64,
+    most: u64,
+) -> Result<(), Cause>
+    requires fits { grade ≤ most }
+    requires fit { All (λ pair. pair.1 ≤ most) grades.old.walk }
+    ensures { OnOk result (All (λ pair. pair.1 ≤ most) grades.new.walk) }
+{
+    grades.remove(former);
+    grades.insert(student, grade)?;
+    Ok(())
+}
+
+/// A step of `extract_if`, by any closure that can always be called. The capacity stays.
+#[tactic(auto, using(intmap::proofs::Callers::extracts_each_callable))]
+pub fn extract_first<K: IntKey, V: Drop, A: Allocator + Copy, F: FnMut(K, &mut V) -> bool>(
+    map: &mut IntMap<K, V, A>,
+    picks: F,
+) -> Option<(K, V)>
+    requires { F.IsAlwaysCallable picks }
+    ensures { map.new.capacity ≡ map.old.capacity }
+{
+    map.extract_if(picks).next()
 }
