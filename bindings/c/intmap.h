@@ -82,11 +82,11 @@
 //
 // MEMORY. Only a call that may return INTMAP_NO_MEMORY requests memory, from malloc or realloc. The
 // slots of a map are all shared or all lone. A shared slot takes 48 bytes. So a map of shared slots
-// that has grown takes some 50 to 120 bytes a pair, and up to 140 if many keys share slots. A lone
-// slot takes 24 bytes. An insertion that adds slots, to 16 or more, makes all slots lone if each
-// pair then has a slot of its own, and none held three pairs before. A second pair in a lone slot
-// makes all slots shared. So ids that count up take 27 to 54 bytes a pair. A clone has as many
-// slots.
+// that has grown takes some 50 to 120 bytes per pair, and up to 140 if many keys share slots. A
+// lone slot takes 24 bytes. An insertion that adds slots, to 16 or more, makes all slots lone if
+// each pair then has a slot of its own, and none held three pairs before. A second pair in a lone
+// slot makes all slots shared. So ids that count up without gaps take 27 to 54 bytes per pair. A
+// clone has as many slots.
 //
 // A call that makes slots in advance writes each of them, which takes time in their number. Linux
 // may grant more memory than there is, so too large a number of slots may end the process. Memory
@@ -397,7 +397,7 @@ INTMAP_NONNULL INTMAP_MUST_USE intmap_status intmap_reserve_slots(intmap *map, s
 
 // Sets the load factor, in thousandths. A number of slots meets the load factor if 1000 * pairs /
 // slots, rounded down, isn't above it. The slots are doubled until their number meets it: with a
-// load factor of 0, until there are more than 1000 slots a pair. The call returns INTMAP_OK;
+// load factor of 0, until there are more than 1000 slots per pair. The call returns INTMAP_OK;
 // INTMAP_TOO_LARGE if and only if that takes more than 2^63 slots; or INTMAP_NO_MEMORY, but never
 // if the map has memory and its slots meet the load factor. If the call fails, the load factor
 // stays.

@@ -46,7 +46,7 @@
 //!   pairs, [`reserve_members`](IntSet::reserve_members) members. Keys that share a slot still
 //!   allocate.
 //! - `new`, `default` and `mem::take` allocate, so no map is a constant. A map that begins with
-//!   room writes all of it at once, 48 bytes a slot for keys and values of 64 bits.
+//!   room writes all of it at once, 48 bytes per slot for keys and values of 64 bits.
 //! - `insert` of a present key moves its pair to the end of its slot, so later in the order.
 //!   [`first_key_value`](IntMap::first_key_value) returns the first pair in that order.
 //! - A map's `insert`, `extend` and `collect` store the new key of a present one, where std keeps

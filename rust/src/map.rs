@@ -39,9 +39,9 @@ mod walk;
 ///
 /// The pairs of a slot behind its first lie in a block. Each slot keeps the block for the most
 /// pairs that it ever had, as long as the capacity stays: no removal gives it back. So memory
-/// creeps where keys rise and random ones leave: 10,000 live pairs of 56 bytes took 1.05 MB at
-/// first, 2.2 MB after 10 times as many removals, and 5.1 MB after 1000 times. A
-/// [`clone`](Clone::clone) of them took 1.5 MB. Keys that come again find their slot's block.
+/// grows slowly while new keys rise and old ones are removed at random: 10,000 live pairs of 56
+/// bytes took 1.05 MB at first, 2.2 MB after 10 times as many removals, and 5.1 MB after 1000
+/// times. Their [`clone`](Clone::clone) took 1.5 MB. Keys that come again find their slot's block.
 ///
 /// With keys and values of 64 bits, std's map takes a third of the bytes for random keys and 0.7
 /// for ids without gaps, as counted at the allocator from 100 to 1,000,000 pairs; twice that for a

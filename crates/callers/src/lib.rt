@@ -1,7 +1,7 @@
 //! Callers of maps, by kind of call. The contract of each says in its own words what is proved of
 //! it. When a call fails is proved only where a clause such as `refused` says so. Those of `walks`
 //! that write by `iter_mut` or `values_mut` don't say which values they write, since no clause of
-//! these two calls tells that.
+//! these two calls says so.
 #![tactic(auto)]
 
 pub mod bindings;
