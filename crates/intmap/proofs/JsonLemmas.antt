@@ -49,7 +49,7 @@ IsKeyText-not_parsed {E} text (Err e) parsed = λ k is.
 abbrev pub Entry : Type 0
 Entry = String Global × Value
 
--- the values of members hold a float exactly if the members do
+-- the values of members hold a float if and only if the members do
 pub items_have_float-values : (es : List Entry) → items_have_float (items_view (map (λ e. e.1) es)) ≡ members_have_float (members_view es)
 items_have_float-values [] = refl
 items_have_float-values (e ∷ es) = ap (λ b. has_float (view e.1) || b) (items_have_float-values es)

@@ -10,7 +10,7 @@ use Rattle.intmap.specs.Classes.{residue, same_key, agrees}
 use Rattle.intmap_run.specs.Removals.{FillsHole, Takes}
 
 module _ {X : Type 0} (f : X → ℕ) (a : ℕ) where
-  -- the numbers of elements are all others exactly if none passes the test
+  -- the numbers of elements are all others if and only if none passes the test
   All-others : (xs : List X) → list_any (λ x. f x == a) xs ≡ false → All (λ x. f x ≢ a) xs
   All-others [] none = All-nil (λ x. f x ≢ a)
   All-others (x ∷ xs) none =

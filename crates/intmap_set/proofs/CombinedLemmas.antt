@@ -83,7 +83,7 @@ module _ {K : Type 0} (number : K → ℕ) where
       list_any-append (same_key number q) (difference_of number V W) (difference_of number W V)
       ∙ (λ i. IsDifference-difference_of V W q i || IsDifference-difference_of W V q i) ∙ one_alone (holds number V q) (holds number W q)
 
-  -- an iterator gives nothing exactly if nothing is a member of what is left
+  -- an iterator gives nothing if and only if nothing is a member of what is left
   pub none-given : (L M : List K) (r : Option (Bor K)) (b : Bool) → is_some r ≡ not b → YieldsFirstBy (λ key. key.now) (λ rest. rest) L r M → IsTrue b ↔ ((q : K) → holds number L q ≡ false)
   none-given L M None true is gives = (λ yes q. ap (λ N. holds number N q) gives.0, λ none. refl)
   none-given L M None false is gives = absurd (true≢false (sym is))
@@ -93,7 +93,7 @@ module _ {K : Type 0} (number : K → ℕ) where
     λ none. absurd (true≢false (sym (ap (λ b. b || holds number M x.now) (same_key-itself number x.now)) ∙ sym (ap (λ N. holds number N x.now) gives) ∙ none x.now)),
   )
 
-  -- no member of V is absent from W exactly if V is a subset
+  -- no member of V is absent from W if and only if V is a subset
   pub IsSubset-from_none : (V W M : List K) (r : Option (Bor K)) (b : Bool) → is_some r ≡ not b → YieldsFirstBy (λ key. key.now) (λ rest. rest) (difference_of number V W) r M
       → IsTrue b ↔ IsSubset number V W
   IsSubset-from_none V W M r b is gives =
@@ -102,7 +102,7 @@ module _ {K : Type 0} (number : K → ℕ) where
         λ sub. none.1 (λ q. each q ∙ (without-other (holds number V q) (holds number W q)).1 (sub q)),
       )
 
-  -- no member is in both exactly if they are disjoint
+  -- no member is in both if and only if they are disjoint
   pub IsDisjoint-from_none : (V W M : List K) (r : Option (Bor K)) (b : Bool) → is_some r ≡ not b → YieldsFirstBy (λ key. key.now) (λ rest. rest) (intersection_of number V W) r M
       → IsTrue b ↔ IsDisjoint number V W
   IsDisjoint-from_none V W M r b is gives =

@@ -65,7 +65,7 @@ module _ {K : Type 0} (number : K → ℕ) where
   holds-same_number [] j k same = refl
   holds-same_number (q ∷ W) j k same = λ i. (number q == same i) || holds-same_number W j k same i
 
-  -- a key is a member exactly if its pair with () is there
+  -- a key is a member if and only if its pair with () is there
   pub holds-paired : (W : List K) (k : K) → holds number W k ≡ is_some (value_of number (paired W) k)
   holds-paired [] k = refl
   holds-paired (q ∷ W) k = ap (λ b. same_key number k q || b) (holds-paired W k) ∙ at (same_key number k q)
@@ -74,7 +74,7 @@ module _ {K : Type 0} (number : K → ℕ) where
       at true = refl
       at false = refl
 
-  -- a key of pairs without values is a member exactly if it is present
+  -- a key of pairs without values is a member if and only if it is present
   pub holds-keys_of : (L : List (K × Unit {0})) (k : K) → holds number (keys_of L) k ≡ is_some (value_of number L k)
   holds-keys_of L k = holds-paired (keys_of L) k ∙ ap (λ M. is_some (value_of number M k)) (paired-keys_of L)
 

@@ -118,6 +118,6 @@ wide-behind : (a z : ℤ) (zs : List ℤ) (i : ℕ) → FitsSigned w128 a → (F
 wide-behind a z zs zero fits wide = absurd (wide fits)
 wide-behind a z zs (suc i) fits wide = (i, wide)
 
--- if a is an i128, some sum is too wide exactly if one behind the first term is
+-- if a is an i128, some sum is too wide if and only if one behind the first term is
 pub IsWideFrom-cons : (a z : ℤ) (zs : List ℤ) → FitsSigned w128 a → IsWideFrom a (z ∷ zs) ↔ IsWideFrom (a +ℤ z) zs
 IsWideFrom-cons a z zs fits = (λ wide. wide-behind a z zs wide.0 fits wide.1, λ wide. (suc wide.0, wide.1))

@@ -101,7 +101,7 @@ count_below-length (p ∷ V) n once below none =
 pub IsVector-map : (m : MapState ℕ ℤ) → IsMap (λ key. key) (λ key. key < 2 ^ 64) m → HasNoZeros m.walk → IsVector m.walk
 IsVector-map m map none = record { distinct = map.distinct; places = map.keys; no_zeros = none }
 
--- a place is stored exactly if its value isn't 0
+-- a place is stored if and only if its value isn't 0
 pub is_nonzero-value_at : (V : List (ℕ × ℤ)) (place : ℕ) → HasNoZeros V → is_nonzero (value_at V place) ≡ is_some (value_of (λ key. key) V place)
 is_nonzero-value_at V place none = at (value_of (λ key. key) V place) (none place)
   where

@@ -91,7 +91,7 @@ module _ {K V : Type 0} (number : K → ℕ) where
   IsPresent-at W C at is =
       bound_from W C at.key at.slot at.place (value_of number W at.key) (ap (λ i. value_of number (slot_of number W C i) at.key) is.slot ∙ value_of-slot_of number C W at.key) is.place
 
-  -- a key was located exactly if it is present
+  -- a key was located if and only if it is present
   pub is_ok-located : (W : List (K × V)) (C : ℕ) (k : K) (r : Result (Location K) ℕ) → IfOk r (λ at. (at.key ≡ k) × IsAt number W C at) → OnErr r (value_of number W k ≡ None) → is_ok r ≡ is_some (value_of number W k)
   is_ok-located W C k (Err slot) found missing = rw missing refl
   is_ok-located W C k (Ok at) found missing = sym (subst (IsPresent number W) found.0 (IsPresent-at W C at found.1))

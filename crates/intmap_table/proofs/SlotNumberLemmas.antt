@@ -1,4 +1,4 @@
--- Which slot a key has: keys share one exactly if they agree modulo the number of slots.
+-- Which slot a key has: keys share one if and only if they agree modulo the number of slots.
 use Rattle.std.proofs.Common.{◌≡◌, ℕ, ◌+◌, ◌-◌, ◌*◌, ◌/◌, ◌%◌, ◌^◌, ◌<◌, ◌≤◌, sym, ap, ◌∙◌, subst, arith}
 use Rattle.std.specs.Prelude.{◌==◌, bit_and, ◌↔◌}
 use Rattle.std.proofs.Math.Nat.{add-mul-mod_self_right, mul_assoc}
@@ -37,7 +37,7 @@ residue_from_slot a b e small same =
     ∙ mul-mod_first (b * multiplier) inverse (2 ^ e) ∙ undone b e small
 
 module _ {K : Type 0} (number : K → ℕ) where
-  -- two keys have one slot exactly if they agree modulo the number of slots
+  -- two keys have one slot if and only if they agree modulo the number of slots
   pub slot_number-residue : (C : ℕ) → IsCapacity C → (a b : K) → (slot_number number a C ≡ slot_number number b C) ↔ (residue number a C ≡ residue number b C)
   slot_number-residue C cap a b =
       let e : ℕ = cap.0 in

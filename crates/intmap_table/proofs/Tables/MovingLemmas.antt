@@ -28,7 +28,7 @@ pub record IsLeft {K X : Type 0} (number : K → ℕ) (S₀ : List (Held K X)) (
   pub bare : (j : ℕ) → j % C ≡ k → marked bits j ≡ false
   pub leave : CanLeave number (rooms S) (get_or (rows S₀) k []) C (length S₀) k
 
--- an old slot whose pairs are in its parts, each of which is marked exactly if it got one
+-- an old slot whose pairs are in its parts, each of which is marked if and only if it got one
 pub record IsDone {K X : Type 0} (number : K → ℕ) (S₀ : List (Held K X)) (C : ℕ) (bits : List Bool) (S : List (Held K X)) (k : ℕ) : Type 0 where
   pub parts : (j : ℕ) → j < length S₀ → j % C ≡ k → get_or (rows S) j [] ≡ slot_of number (get_or (rows S₀) k []) (length S₀) j
   pub told : (j : ℕ) → j % C ≡ k → marked bits j ≡ nat_lt 0 (need number (get_or (rows S₀) k []) (length S₀) j)

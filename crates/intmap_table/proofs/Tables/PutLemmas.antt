@@ -55,7 +55,7 @@ module _ {K X : Type 0} (number : K → ℕ) where
     one : need number (p ∷ M) (length S) j ≡ need number M (length S) j + 1
     one = length-first number p M (length S) j is
 
-    -- the slot of the next pair is marked exactly if it holds a pair
+    -- the slot of the next pair is marked if and only if it holds a pair
     pub told-at : (d : Held K X) → marked marks j ≡ nat_lt 0 (length (get_or S j d).pairs)
     told-at d = let n = one in can.told j below (omega (arith, n)) ∙ ap (λ ps. nat_lt 0 (length ps)) (get_or-rows S j d below)
 

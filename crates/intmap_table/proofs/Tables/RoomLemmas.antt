@@ -75,7 +75,7 @@ module _ {K X : Type 0} (number : K → ℕ) where
         room = λ j lt part. let alone = bare j lt part in let le = one.1 j in grind (arith, nat_tests, alone, le);
       }
 
-  -- pairs of old slot k go to part t exactly if they go to slot t C + k
+  -- pairs of old slot k go to part t if and only if they go to slot t C + k
   in_part-need : (L : List (K × X)) (C D k t : ℕ) → IsGrown C D → k < C → All (λ p. slot_number number p.0 C ≡ k) L → in_part number L C D t ≡ need number L D (t * C + k)
   in_part-need [] C D k t grown below own = refl
   in_part-need (p ∷ L) C D k t grown below own =

@@ -6,7 +6,7 @@ use Rattle.intmap.proofs.map.json.+holds_float.Given as goal
 abbrev pub decreases-holds_float : goal.decreases-holds_float
 decreases-holds_float l = goal.size-holds_float l
 
--- the items that are left hold a float exactly if all do
+-- the items that are left hold a float if and only if all do
 abbrev pub invariant-loop-item : goal.invariant-loop-item
 invariant-loop-item l = items_have_float (items_view (drop l.item-index l.item-items)) ≡ has_float (view l.fn.value)
 

@@ -2,7 +2,7 @@ use Rattle.serde_json.specs.View.{members_view}
 use Rattle.intmap.specs.Json.{HasKeyTexts}
 use Rattle.intmap.proofs.map.json.read.have_key_texts.Given as goal
 
--- the keys that are left are texts of numbers exactly if all are
+-- the keys that are left are texts of numbers if and only if all are
 abbrev pub invariant-loop-text : goal.invariant-loop-text
 invariant-loop-text l = record {
   can : (goal.iterator-loop-text).can_next l.text-iterator;
