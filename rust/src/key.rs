@@ -47,8 +47,7 @@ use core::num::{
 ///
 /// # Keys that strangers choose
 ///
-/// They may all share a slot. [`int_key!`](crate::int_key) scrambles the numbers of keys by a secret,
-/// and says what this is worth.
+/// They may all share a slot. [`int_key!`](crate::int_key) scrambles their numbers by a secret.
 ///
 /// # Numbers and slots
 ///

@@ -17,9 +17,9 @@
 //! You want | Take
 //! ---|---
 //! the fastest map for keys of any kind, or little memory | std's or hashbrown's with a hasher that multiplies. With random keys an insertion here takes 2.5 to 4.2 times std's time, a look-up 1.3 to 4.2, a removal 0.7 to 1.8, a step of `iter` 1.5 to 4, and a map three times std's bytes
-//! to clone, collect, drain, clear or drop whole maps | the same. Here `clone` takes 3 to 40 times std's time, `clear` 20 to 120, `into_iter` and `drain` 2 to 14, `collect` 2 to 7.5, and `extend` of a new map by random keys 5 to 13. A `drop` of random keys goes through all slots, where std's frees one block
+//! to clone, collect, drain, clear or drop whole maps | the same. Here `clone` takes 2.5 to 40 times std's time, `clear` 20 to 120, `into_iter` and `drain` 2 to 14, `collect` 2 to 7.5, and `extend` of a new map by random keys 5 to 13. A `drop` of random keys goes through all slots, where std's frees one block
 //! ids with hardly a gap, inserted in order | this. A look-up of a present id takes 0.5 to 1.05 of std's time, a removal 0.3 to 0.8, an insertion 0.5 to 0.95 but 0.9 to 1.9 where room was made, and a map 1.4 times std's bytes. Of 20,000 ids, look-ups of absent ones in shuffled order take 1.4 to 2 times std's time
-//! ids with gaps, or inserted in another order | std's, or measure. Here an insertion takes 1.6 to 1.9 times std's time with a tenth of the ids missing, 2 to 3 times in shuffled order, and 4 to 6 times with half of the ids missing or with even ids
+//! ids with gaps or a stray key, or inserted in another order | std's, or measure. Here an insertion takes 1.6 to 1.9 times std's time with a tenth of the ids missing, 1.9 to 3 times in shuffled order, and 4 to 6.3 times with half of the ids missing or with even ids. One stray key whose slot is taken doubles the bytes of a map of ids that grew. A look-up of a present id then takes 0.65 to 2.3 times std's time, and an insertion 1.1 to 1.3
 //! a program that goes on when memory fails | this: it returns the failure and the value, and the map is as it was. std's has `try_reserve` alone
 //! the same order on every run and machine | this, or `indexmap` (in order of insertion), or `BTreeMap` (sorted)
 //! look-ups, removals and growth that are proved | this

@@ -1,5 +1,5 @@
-//! Entries: closures that are called or not, errors of theirs, and growth. The lines of `table` have
-//! each call on a key that is present and on one that is absent.
+//! Entries: closures that are called or not, errors of theirs, and growth. The lines of `table`
+//! have each call on a key that is present and on one that is absent.
 use intmap_proved::{IntMap, Refused};
 
 /// Why a closure of a test makes no value.
@@ -34,8 +34,7 @@ fn an_absent_key_is_inserted_by_its_entry() {
 #[test]
 fn a_closure_that_fails_inserts_nothing() {
     fn parsed(map: &mut IntMap<u64, i32>, text: &str) -> Result<i32, String> {
-        let value = map.entry(1).or_try_insert_with(|| text.parse().map_err(|_| Failed))?;
-        Ok(*value)
+        Ok(*map.entry(1).or_try_insert_with(|| text.parse().map_err(|_| Failed))?)
     }
     let mut map = IntMap::new();
     assert_eq!((parsed(&mut map, "one"), map.len()), (Err("failed".into()), 0));

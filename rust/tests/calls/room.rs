@@ -129,8 +129,6 @@ fn clone_from_makes_what_clone_makes() {
 
 #[test]
 fn more_pairs_than_a_usize_counts_are_too_many() {
-    let mut map = IntMap::from([(1u64, 'a')]);
-    assert_eq!(map.try_reserve_pairs(usize::MAX), Err(Cause::TooLarge));
-    let mut set = IntSet::from([1u64]);
-    assert_eq!(set.try_reserve_members(usize::MAX), Err(Cause::TooLarge));
+    assert_eq!(IntMap::from([(1u64, 'a')]).try_reserve_pairs(usize::MAX), Err(Cause::TooLarge));
+    assert_eq!(IntSet::from([1u64]).try_reserve_members(usize::MAX), Err(Cause::TooLarge));
 }

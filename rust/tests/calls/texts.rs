@@ -8,8 +8,7 @@ fn maps_and_sets_have_the_texts_of_std() {
     assert_eq!(format!("{map:?}"), "{0: 1, 1: 2, 2: 3}");
     assert_eq!(format!("{map:#?}"), "{\n    0: 1,\n    1: 2,\n    2: 3,\n}");
     assert_eq!(format!("{:?}", IntMap::<u64, u8>::default()), "{}");
-    let set = IntSet::from([0_u8, 1, 2]);
-    assert_eq!(format!("{set:?} {:?}", IntSet::<i64>::default()), "{0, 1, 2} {}");
+    assert_eq!(format!("{:?} {:?}", IntSet::from([0, 1, 2]), IntSet::<i64>::new()), "{0, 1, 2} {}");
 }
 
 #[test]
@@ -26,8 +25,7 @@ fn texts_have_each_of_many_pairs() {
 #[test]
 fn entries_have_texts() {
     let mut map = IntMap::from([(21_u64, 'a')]);
-    let text = format!("{:?}", map.entry(21));
-    assert_eq!(text, "Entry(OccupiedEntry { key: 21, value: 'a' })");
+    assert_eq!(format!("{:?}", map.entry(21)), "Entry(OccupiedEntry { key: 21, value: 'a' })");
     assert_eq!(format!("{:?}", map.entry(22)), "Entry(VacantEntry(22))");
 }
 
@@ -41,11 +39,17 @@ fn iterators_have_the_texts_of_what_is_left() {
 }
 
 #[test]
-fn errors_say_why() {
+fn errors_say_why_and_are_equal_if_they_say_the_same() {
     let refused = Refused { value: 'a', cause: Cause::Memory };
+    assert!(refused == Refused { ..refused } && refused != Refused { value: 'b', ..refused });
+    assert_ne!(refused, Refused { cause: Cause::TooLarge, ..refused });
     assert_eq!(refused.to_string(), "the value could not be inserted: out of memory");
     assert_eq!(Cause::from(refused), Cause::Memory);
     let refused = RefusedPair { key: 7_u64, value: 'a', applied: 3, cause: Cause::TooLarge };
+    assert!(refused == RefusedPair { ..refused } && refused != RefusedPair { key: 8, ..refused });
+    assert_ne!(refused, RefusedPair { value: 'b', ..refused });
+    assert_ne!(refused, RefusedPair { applied: 4, ..refused });
+    assert_ne!(refused, RefusedPair { cause: Cause::Memory, ..refused });
     assert_eq!(refused.to_string(), "a pair could not be inserted, after 3 others: too large");
     assert_eq!(Cause::from(refused), Cause::TooLarge);
 }
