@@ -16,4 +16,5 @@ pub mod MappedLemmas
 pub mod BindingLemmas
 pub mod BindSameLemmas
 pub mod Tables
+pub mod Nodes
 pub mod Lending

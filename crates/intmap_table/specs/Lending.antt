@@ -1,16 +1,24 @@
--- What a stored value, a slot and a table end as, once a value of theirs was lent and written.
-use Rattle.std.specs.Prelude.{ℕ, List}
+-- What a stored value, a slot, a node, a pool of nodes and a table end as, once a value of theirs was lent and written.
+use denote.Struct.Tuple.{Tuple}
+use Rattle.std.specs.Prelude.{ℕ, List, [], ◌∷◌}
 use Rattle.std.specs.Borrow.{Lends, Fml, RattleType, MutBor}
 use Rattle.std.specs.declared.alloc.Allocator as allocator
 use Rattle.std.specs.declared.cmp.PartialEq as eq
 use Rattle.intmap_table.specs.declared.key.IntKey as key
 use Rattle.intmap_table.specs.Bindings.{write_value}
 use Rattle.intmap_table.specs.Tables.Slots.{Held, Grid, write_at, write_row}
+use Rattle.intmap_table.specs.Tables.Rows.{Contents, write_rows}
+use Rattle.intmap_table.specs.Tables.Nodes.{Node, Slot, Pool, node_with, slot_with, write_node}
 use Rattle.intmap_table.specs.contracts.kept.Kept.{the_row as kept_row}
 use Rattle.intmap_table.specs.contracts.lone.Lone.{the_row as lone_row}
 use Rattle.intmap_table.specs.contracts.slot.Slot.{the_row as slot_row}
 use Rattle.intmap_table.specs.contracts.table.slots.Slots.{the_row as slots_row}
 use Rattle.intmap_table.specs.contracts.table.Table.{the_row as table_row}
+use Rattle.intmap_table.specs.contracts.table.stored.Stored.{the_row as stored_row}
+use Rattle.intmap_table.specs.contracts.linked.node.Node.{the_row as node_row}
+use Rattle.intmap_table.specs.contracts.linked.slot.Slot.{the_row as slot_head_row}
+use Rattle.intmap_table.specs.contracts.linked.pool.Pool.{the_row as pool_row}
+use Rattle.intmap_table.specs.contracts.table.linked.Slots.{the_row as linked_row}
 
 -- once the loan named r ends, the stored value is the last one written through it
 abbrev pub kept_lends : (V : RattleType) → MutBor V.Denot → MutBor V.Denot → Fml
@@ -34,3 +42,25 @@ slots_lends K X A g e a s i j r = Lends (slots_row K X A g e a) X s r (λ v. wri
 abbrev pub table_lends : (K X A : RattleType) → (g : key.Ghosts K.Denot) → eq.Ghosts K.Denot → allocator.Ghosts A.Denot
     → MutBor (Grid K.Denot X.Denot) → K.Denot → MutBor X.Denot → Fml
 table_lends K X A g e a t k r = Lends (table_row K X A g e a) X t r (λ v. record t.now { walk = write_value g.number_of t.now.walk k v })
+
+-- a stored pair, as the logic names its type
+abbrev pub pair_row : (K X : RattleType) → key.Ghosts K.Denot → eq.Ghosts K.Denot → RattleType
+pair_row K X g e = Tuple (stored_row K g e ∷ X ∷ [])
+
+-- once it ends, the node behind n has that value in its pair
+abbrev pub node_lends : (K X : RattleType) → key.Ghosts K.Denot → eq.Ghosts K.Denot → MutBor (Node (K.Denot × X.Denot)) → MutBor X.Denot → Fml
+node_lends K X g e n r = Lends (node_row (pair_row K X g e)) X n r (λ v. node_with n.now v)
+
+-- the same of the first pair of a slot
+abbrev pub slot_head_lends : (K X : RattleType) → key.Ghosts K.Denot → eq.Ghosts K.Denot → MutBor (Slot (K.Denot × X.Denot)) → MutBor X.Denot → Fml
+slot_head_lends K X g e s r = Lends (slot_head_row (pair_row K X g e)) X s r (λ v. slot_with s.now v)
+
+-- once it ends, the pool behind p has that value in the pair of node i
+abbrev pub pool_lends : (K X A : RattleType) → key.Ghosts K.Denot → eq.Ghosts K.Denot → allocator.Ghosts A.Denot
+    → MutBor (Pool (K.Denot × X.Denot)) → ℕ → MutBor X.Denot → Fml
+pool_lends K X A g e a p i r = Lends (pool_row (pair_row K X g e) A a) X p r (λ v. record p.now { nodes = write_node p.now.nodes i v })
+
+-- once it ends, the slots behind s have that value at place j of slot i
+abbrev pub linked_lends : (K X A : RattleType) → key.Ghosts K.Denot → eq.Ghosts K.Denot → allocator.Ghosts A.Denot
+    → MutBor (Contents K.Denot X.Denot) → ℕ → ℕ → MutBor X.Denot → Fml
+linked_lends K X A g e a s i j r = Lends (linked_row K X A g e a) X s r (λ v. record s.now { rows = write_rows s.now.rows i j v })

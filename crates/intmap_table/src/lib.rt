@@ -6,6 +6,7 @@ mod bits;
 pub mod kept;
 mod key;
 pub mod lent;
+mod linked;
 mod lone;
 mod slot;
 pub mod steps;

@@ -1,0 +1,19 @@
+-- Lemmas on nodes, chains of nodes and slots.
+pub mod NodeLemmas
+pub mod FreeLemmas
+pub mod PathLemmas
+pub mod PassedLemmas
+pub mod ChainLemmas
+pub mod SlotLemmas
+pub mod LinkedLemmas
+pub mod TurnLemmas
+pub mod WalkLemmas
+pub mod CloneLemmas
+pub mod WrittenLemmas
+pub mod PlacedLemmas
+pub mod LentLemmas
+pub mod WalkedLemmas
+pub mod RetainedLemmas
+pub mod PairsWrittenLemmas
+pub mod PickedLemmas
+pub mod DroppedLemmas

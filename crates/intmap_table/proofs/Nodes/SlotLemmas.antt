@@ -1,0 +1,296 @@
+-- Changes of one slot.
+use Rattle.std.proofs.Common.{◌≡◌, ◌≢◌, ℕ, zero, suc, ◌+◌, ◌-◌, ◌<◌, ◌≤◌, Bool, false, List, [], ◌∷◌, ◌++◌, length, get_or, set, take, drop, refl, sym, ap, ◌∙◌, subst, arith}
+use Rattle.std.specs.Prelude.{swap_remove}
+use Rattle.std.proofs.lemmas.List.{length-append, get_or_append_left, set-append_left, length-set}
+use Rattle.std.proofs.Math.Seq.{set-append_seam, take-append_seam}
+use Rattle.intmap_table.specs.Tables.Nodes.{Slot, Empty, Filled, Pool, nowhere, node_limit, chain_of, IsChain, Misses, Spares, IsChainSet, IsPopped, IsCut, IsLastSet, row_in, IsSlotSet}
+use Rattle.intmap_table.proofs.Nodes.PathLemmas.{IsChain-none, Chain-none, Chain-beyond}
+
+module _ {P : Type 0} where
+  -- what a slot has after its link was changed
+  pub relinked : (s t : Slot P) (l : ℕ) (p : P) (m l0 : ℕ) (p0 : P) → s ≡ Filled l p → s ≡ Filled l0 p0 → t ≡ Filled m p0 → t ≡ Filled m p
+  relinked s t l p m l0 p0 is was now =
+      let both : Filled l p ≡ Filled l0 p0 = sym is ∙ was in
+      let pair : p0 ≡ p = cc in
+      now ∙ ap (λ q. Filled m q) pair
+
+  -- after its first pair was changed
+  pub first_set : (s t : Slot P) (l : ℕ) (p r q : P) (l0 : ℕ) → s ≡ Filled l p → s ≡ Filled l0 r → t ≡ Filled l0 q → t ≡ Filled l q
+  first_set s t l p r q l0 is was now =
+      let both : Filled l p ≡ Filled l0 r = sym is ∙ was in
+      let link : l0 ≡ l = cc in
+      now ∙ ap (λ m. Filled m q) link
+
+  -- and what that pair was
+  pub first_was : (s : Slot P) (l : ℕ) (p r : P) (l0 : ℕ) → s ≡ Filled l p → s ≡ Filled l0 r → r ≡ p
+  first_was s l p r l0 is was =
+      let both : Filled l p ≡ Filled l0 r = sym is ∙ was in
+      let pair : r ≡ p = cc in
+      pair
+
+  pub slot_is : (a : Pool P) (s t : Slot P) (row row' : List P) (b : Pool P) (s' t' : Slot P) → IsSlotSet a s row b t → s' ≡ s → row' ≡ row → t' ≡ t → IsSlotSet a s' row' b t'
+  slot_is a s t row row' b s' t' h e f g =
+      subst (λ u. IsSlotSet a u row' b t') (sym e) (subst (λ ps. IsSlotSet a s ps b t') (sym f) (subst (λ u. IsSlotSet a s row b u) (sym g) h))
+
+  pub Slot-first : (a : Pool P) (l : ℕ) (p q : P) (ps : List P) (b : Pool P) (m : ℕ) → IsChainSet a l ps b m → IsSlotSet a (Filled l p) (q ∷ ps) b (Filled m q)
+  Slot-first a l p q ps b m h = record {
+    is = h.is;
+    pairs = ap (λ xs. q ∷ xs) h.pairs;
+    spares = λ t misses. h.spares t misses.1;
+    held = (let e = h.held in omega (arith, e));
+  }
+
+  -- the first pair in an empty slot
+  pub Slot-put : (a : Pool P) (p : P) → IsSlotSet a Empty (p ∷ []) a (Filled nowhere p)
+  Slot-put a p = record {
+    is = IsChain-none a.nodes;
+    pairs = ap (λ xs. p ∷ xs) (Chain-none a.nodes);
+    spares = λ t misses k n q passes is. is;
+    held = omega arith;
+  }
+
+  -- the only pair of a slot, changed
+  pub Slot-only : (a : Pool P) (l : ℕ) (p q : P) → IsChain a.nodes l → IsSlotSet a (Filled l p) (q ∷ chain_of a.nodes l) a (Filled l q)
+  Slot-only a l p q is = record { is = is; pairs = refl; spares = λ t misses k n r passes at. at; held = omega arith }
+
+  misses_left : (t : P → Bool) (xs ys : List P) → Misses t (xs ++ ys) → Misses t xs
+  misses_left t [] ys h = tt
+  misses_left t (x ∷ xs) ys h = (h.0, misses_left t xs ys h.1)
+
+  -- the last pair went to another place of the chain
+  pub Pop-swap : (a : Pool P) (l i : ℕ) (p : P) (b : Pool P) (m : ℕ) (h : IsPopped a l i p b m) (j : ℕ) (x : P) (d : Pool P) → IsChainSet b m (set (chain_of b.nodes m) j x) d m → IsChainSet a l (set h.left j x) d m
+  Pop-swap a l i p b m h j x d s =
+      let e : set (chain_of b.nodes m) j x ≡ set h.left j x = ap (λ ps. set ps j x) h.chain.pairs in
+      let left = ap length h.chain.pairs in
+      let len = length-set (chain_of b.nodes m) j x in
+      let len' = length-set h.left j x in
+      let one = h.chain.held in let two = s.held in
+      record {
+        is = s.is;
+        pairs = s.pairs ∙ e;
+        spares = λ t misses k n q passes is.
+            let rest : Misses t h.left = misses_left t h.left (p ∷ []) (subst (λ xs. Misses t xs) h.pairs misses) in
+            s.spares t (subst (λ xs. Misses t xs) (sym h.chain.pairs) rest) k n q passes (h.chain.spares t misses k n q passes is);
+        held = omega (arith, left, len, len', one, two);
+      }
+
+  take_all_but : (xs : List P) (x : P) (ys : List P) → ys ≡ xs ++ x ∷ [] → take (length ys - 1) ys ≡ xs
+  take_all_but xs x ys e =
+      let sum = length-append xs (x ∷ []) in
+      let l : length ys - 1 ≡ length xs = (let a = ap length e in omega (arith, a, sum)) in
+      ap (λ n. take n ys) l ∙ ap (take (length xs)) e ∙ take-append_seam xs (x ∷ [])
+
+  last_is : (xs : List P) (x d : P) (n : ℕ) → n ≡ length xs → get_or (xs ++ x ∷ []) n d ≡ x
+  last_is [] x d n e = ap (λ k. get_or (x ∷ []) k d) e
+  last_is (y ∷ xs) x d n e = ap (λ k. get_or (y ∷ (xs ++ x ∷ [])) k d) e ∙ last_is xs x d (length xs) refl
+
+  swap_take : (xs : List P) (x d : P) (i : ℕ) (ys : List P) → set (xs ++ x ∷ []) i x ≡ ys ++ x ∷ [] → length ys ≡ length xs → swap_remove (xs ++ x ∷ []) i d ≡ ys
+  swap_take xs x d i ys e l =
+      let sum = length-append xs (x ∷ []) in
+      let n : length (xs ++ x ∷ []) - 1 ≡ length xs = omega (arith, sum) in
+      let is : get_or (xs ++ x ∷ []) (length (xs ++ x ∷ []) - 1) d ≡ x = last_is xs x d (length (xs ++ x ∷ []) - 1) n in
+      ap (λ y. take (length (xs ++ x ∷ []) - 1) (set (xs ++ x ∷ []) i y)) is ∙ ap (take (length (xs ++ x ∷ []) - 1)) e
+      ∙ ap (λ k. take k (ys ++ x ∷ [])) (n ∙ sym l) ∙ take-append_seam ys (x ∷ [])
+
+  -- what is left once the last of these was moved to place i
+  pub swap_last : (xs : List P) (x d : P) (i : ℕ) → i ≡ length xs → swap_remove (xs ++ x ∷ []) i d ≡ xs
+  swap_last xs x d i e = swap_take xs x d i xs (ap (λ k. set (xs ++ x ∷ []) k x) e ∙ set-append_seam xs x [] x) refl
+
+  pub swap_other : (xs : List P) (x d : P) (i : ℕ) → i < length xs → swap_remove (xs ++ x ∷ []) i d ≡ set xs i x
+  swap_other xs x d i less = swap_take xs x d i (set xs i x) (set-append_left xs (x ∷ []) i x less) (length-set xs i x)
+
+  pub set-behind : (f : P) (xs : List P) (i : ℕ) (x : P) → 0 < i → set (f ∷ xs) i x ≡ f ∷ set xs (i - 1) x
+  set-behind f xs zero x some = absurd (omega arith)
+  set-behind f xs (suc n) x some = let e : n ≡ suc n - 1 = omega arith in ap (λ k. f ∷ set xs k x) e
+
+  pub get_or-behind : (f : P) (xs : List P) (i : ℕ) (d : P) → 0 < i → get_or (f ∷ xs) i d ≡ get_or xs (i - 1) d
+  get_or-behind f xs zero d some = absurd (omega arith)
+  get_or-behind f xs (suc n) d some = let e : n ≡ suc n - 1 = omega arith in ap (λ k. get_or xs k d) e
+
+  -- the pair at place i was r, and the last one took its place
+  pub Take-only : (a : Pool P) (l : ℕ) (p : P) (i : ℕ) → IsChain a.nodes l → node_limit ≤ l → i < length (row_in a.nodes (Filled l p)) → IsSlotSet a (Filled l p) (swap_remove (row_in a.nodes (Filled l p)) i p) a Empty
+  Take-only a l p i is last within =
+      let none : chain_of a.nodes l ≡ [] = Chain-beyond a.nodes l is last in
+      let len = ap length none in
+      let zero : i ≡ 0 = omega (arith, len, within) in
+      let row : p ∷ chain_of a.nodes l ≡ p ∷ [] = ap (λ ps. p ∷ ps) none in
+      let left : swap_remove (p ∷ chain_of a.nodes l) i p ≡ [] = ap (λ ps. swap_remove ps i p) row ∙ swap_last [] p p i zero in
+      let gone = ap length left in
+      record { is = tt; pairs = sym left; spares = λ t misses k n q passes at. at; held = omega (arith, len, gone) }
+
+  pub row_is : (a : Pool P) (l i : ℕ) (p x : P) (b : Pool P) (m : ℕ) (h : IsPopped a l i x b m) → row_in a.nodes (Filled l p) ≡ (p ∷ h.left) ++ x ∷ []
+  row_is a l i p x b m h = ap (λ ps. p ∷ ps) h.pairs
+
+  pub Take-first : (a : Pool P) (l i : ℕ) (p x : P) (b : Pool P) (m place : ℕ) → IsPopped a l i x b m → place ≡ 0 → IsSlotSet a (Filled l p) (swap_remove (row_in a.nodes (Filled l p)) place p) b (Filled m x)
+  Take-first a l i p x b m place h front =
+      subst (λ ps. IsSlotSet a (Filled l p) ps b (Filled m x))
+      (sym (ap (λ ps. swap_remove ps place p) (row_is a l i p x b m h) ∙ swap_other (p ∷ h.left) x p place (omega arith) ∙ ap (λ k. set (p ∷ h.left) k x) front))
+      (Slot-first a l p x h.left b m h.chain)
+
+  pub Take-last-value : (a : Pool P) (l i : ℕ) (p x : P) (b : Pool P) (m place : ℕ) → IsPopped a l i x b m → 0 < place → place - 1 ≡ i → x ≡ get_or (row_in a.nodes (Filled l p)) place x
+  Take-last-value a l i p x b m place h some last = sym (ap (λ ps. get_or ps place x) (row_is a l i p x b m h) ∙ last_is (p ∷ h.left) x x place (let n = h.len in omega (arith, n)))
+
+  pub Take-last : (a : Pool P) (l i : ℕ) (p x : P) (b : Pool P) (m place : ℕ) → IsPopped a l i x b m → 0 < place → place - 1 ≡ i → IsSlotSet a (Filled l p) (swap_remove (row_in a.nodes (Filled l p)) place x) b (Filled m p)
+  Take-last a l i p x b m place h some last =
+      subst (λ ps. IsSlotSet a (Filled l p) ps b (Filled m p))
+      (sym (ap (λ ps. swap_remove ps place x) (row_is a l i p x b m h) ∙ swap_last (p ∷ h.left) x x place (let n = h.len in omega (arith, n))))
+      (Slot-first a l p p h.left b m h.chain)
+
+  -- a place of the chain before the last one
+  pub within_left : (a : Pool P) (l i : ℕ) (p x : P) (b : Pool P) (m place : ℕ) (h : IsPopped a l i x b m) → 0 < place → place - 1 ≢ i → place < length (row_in a.nodes (Filled l p)) → place - 1 < length h.left
+  within_left a l i p x b m place h some apart within =
+      let sum = length-append h.left (x ∷ []) in
+      let all = ap length h.pairs in
+      let n = h.len in
+      omega (arith, sum, all, n, apart, within)
+
+  pub Take-behind-value : (a : Pool P) (l i : ℕ) (p x : P) (b : Pool P) (m place : ℕ) (r : P) → (h : IsPopped a l i x b m) → 0 < place → place - 1 < length h.left → r ≡ get_or (chain_of b.nodes m) (place - 1) r
+      → r ≡ get_or (row_in a.nodes (Filled l p)) place r
+  Take-behind-value a l i p x b m place r h some less value =
+      value ∙ ap (λ ps. get_or ps (place - 1) r) h.chain.pairs ∙ sym (ap (λ ps. get_or ps place r) (row_is a l i p x b m h)
+      ∙ get_or-behind p (h.left ++ x ∷ []) place r some ∙ get_or_append_left h.left (x ∷ []) r (place - 1) less)
+
+  pub Take-behind : (a : Pool P) (l i : ℕ) (p x : P) (b : Pool P) (m place : ℕ) (r : P) (d : Pool P) → (h : IsPopped a l i x b m) → 0 < place → place - 1 < length h.left
+      → IsChainSet b m (set (chain_of b.nodes m) (place - 1) x) d m → IsSlotSet a (Filled l p) (swap_remove (row_in a.nodes (Filled l p)) place r) d (Filled m p)
+  Take-behind a l i p x b m place r d h some less s =
+      subst (λ ps. IsSlotSet a (Filled l p) ps d (Filled m p))
+      (sym (ap (λ ps. swap_remove ps place r) (row_is a l i p x b m h) ∙ swap_other (p ∷ h.left) x r place (omega (arith, less)) ∙ set-behind p h.left place x some))
+      (Slot-first a l p p (set h.left (place - 1) x) d m (Pop-swap a l i x b m h (place - 1) x d s))
+
+  -- the pair at place i was r, the last one took its place, and a new one came behind
+  pub Replace-only : (a : Pool P) (l : ℕ) (p q : P) (i : ℕ) → IsChain a.nodes l → node_limit ≤ l → i < length (row_in a.nodes (Filled l p)) → IsSlotSet a (Filled l p) (swap_remove (row_in a.nodes (Filled l p)) i p ++ q ∷ []) a (Filled l q)
+  Replace-only a l p q i is last within =
+      let none : chain_of a.nodes l ≡ [] = Chain-beyond a.nodes l is last in
+      let len = ap length none in
+      let zero : i ≡ 0 = omega (arith, len, within) in
+      let row : p ∷ chain_of a.nodes l ≡ p ∷ [] = ap (λ ps. p ∷ ps) none in
+      let left : swap_remove (p ∷ chain_of a.nodes l) i p ≡ [] = ap (λ ps. swap_remove ps i p) row ∙ swap_last [] p p i zero in
+      subst (λ ps. IsSlotSet a (Filled l p) ps a (Filled l q)) (ap (λ ps. q ∷ ps) none ∙ sym (ap (λ ps. ps ++ q ∷ []) left)) (Slot-only a l p q is)
+
+  set_row : (a : Pool P) (l i : ℕ) (p r q : P) (b : Pool P) (h : IsLastSet a l i r q b) → row_in a.nodes (Filled l p) ≡ (p ∷ h.before) ++ r ∷ []
+  set_row a l i p r q b h = ap (λ ps. p ∷ ps) h.pairs
+
+  pub Replace-first : (a : Pool P) (l i : ℕ) (p r q : P) (b : Pool P) (place : ℕ) → IsLastSet a l i r q b → place ≡ 0 → IsSlotSet a (Filled l p) (swap_remove (row_in a.nodes (Filled l p)) place p ++ q ∷ []) b (Filled l r)
+  Replace-first a l i p r q b place h front =
+      let left : swap_remove (row_in a.nodes (Filled l p)) place p ≡ r ∷ h.before =
+      ap (λ ps. swap_remove ps place p) (set_row a l i p r q b h) ∙ swap_other (p ∷ h.before) r p place (omega arith) ∙ ap (λ k. set (p ∷ h.before) k r) front in
+      subst (λ ps. IsSlotSet a (Filled l p) ps b (Filled l r)) (sym (ap (λ ps. ps ++ q ∷ []) left)) (Slot-first a l p r (h.before ++ q ∷ []) b l h.chain)
+
+  pub Replace-last-value : (a : Pool P) (l i : ℕ) (p r q : P) (b : Pool P) (place : ℕ) → IsLastSet a l i r q b → 0 < place → place - 1 ≡ i → r ≡ get_or (row_in a.nodes (Filled l p)) place r
+  Replace-last-value a l i p r q b place h some last = sym (ap (λ ps. get_or ps place r) (set_row a l i p r q b h) ∙ last_is (p ∷ h.before) r r place (let n = h.len in omega (arith, n)))
+
+  pub Replace-last : (a : Pool P) (l i : ℕ) (p r q : P) (b : Pool P) (place : ℕ) → IsLastSet a l i r q b → 0 < place → place - 1 ≡ i → IsSlotSet a (Filled l p) (swap_remove (row_in a.nodes (Filled l p)) place r ++ q ∷ []) b (Filled l p)
+  Replace-last a l i p r q b place h some last =
+      let left : swap_remove (row_in a.nodes (Filled l p)) place r ≡ p ∷ h.before = ap (λ ps. swap_remove ps place r) (set_row a l i p r q b h) ∙ swap_last (p ∷ h.before) r r place (let n = h.len in omega (arith, n)) in
+      subst (λ ps. IsSlotSet a (Filled l p) ps b (Filled l p)) (sym (ap (λ ps. ps ++ q ∷ []) left)) (Slot-first a l p p (h.before ++ q ∷ []) b l h.chain)
+
+  pub within_before : (a : Pool P) (l i : ℕ) (p r q : P) (b : Pool P) (place : ℕ) (h : IsLastSet a l i r q b) → 0 < place → place - 1 ≢ i → place < length (row_in a.nodes (Filled l p)) → place - 1 < length h.before
+  within_before a l i p r q b place h some apart within =
+      let sum = length-append h.before (r ∷ []) in
+      let all = ap length h.pairs in
+      let n = h.len in
+      omega (arith, sum, all, n, apart, within)
+
+  pub Replace-behind-value : (a : Pool P) (l i : ℕ) (p r q : P) (b : Pool P) (place : ℕ) (x : P) → (h : IsLastSet a l i r q b) → 0 < place → place - 1 < length h.before → x ≡ get_or (chain_of b.nodes l) (place - 1) x
+      → x ≡ get_or (row_in a.nodes (Filled l p)) place x
+  Replace-behind-value a l i p r q b place x h some less value =
+      value ∙ ap (λ ps. get_or ps (place - 1) x) h.chain.pairs ∙ get_or_append_left h.before (q ∷ []) x (place - 1) less
+      ∙ sym (ap (λ ps. get_or ps place x) (set_row a l i p r q b h) ∙ get_or-behind p (h.before ++ r ∷ []) place x some ∙ get_or_append_left h.before (r ∷ []) x (place - 1) less)
+
+  misses_at : (t : P → Bool) (ps : List P) (i : ℕ) (d : P) → Misses t ps → i < length ps → t (get_or ps i d) ≡ false
+  misses_at t [] i d h less = absurd (omega arith)
+  misses_at t (p ∷ ps) zero d h less = h.0
+  misses_at t (p ∷ ps) (suc i) d h less = misses_at t ps i d h.1 (omega arith)
+
+  pub Replace-behind : (a : Pool P) (l i : ℕ) (p r q : P) (b : Pool P) (place : ℕ) (x : P) (d : Pool P) → (h : IsLastSet a l i r q b) → 0 < place → place - 1 < length h.before
+      → x ≡ get_or (chain_of b.nodes l) (place - 1) x → Spares b.nodes d.nodes (x ∷ []) → IsChainSet b l (set (chain_of b.nodes l) (place - 1) r) d l
+      → IsSlotSet a (Filled l p) (swap_remove (row_in a.nodes (Filled l p)) place x ++ q ∷ []) d (Filled l p)
+  Replace-behind a l i p r q b place x d h some less value alone s =
+      let j = place - 1 in
+      let list : set (chain_of b.nodes l) j r ≡ set h.before j r ++ q ∷ [] = ap (λ ps. set ps j r) h.chain.pairs ∙ set-append_left h.before (q ∷ []) j r less in
+      let here : x ≡ get_or h.before j x = value ∙ ap (λ ps. get_or ps j x) h.chain.pairs ∙ get_or_append_left h.before (q ∷ []) x j less in
+      let left : swap_remove (row_in a.nodes (Filled l p)) place x ≡ p ∷ set h.before j r =
+      ap (λ ps. swap_remove ps place x) (set_row a l i p r q b h) ∙ swap_other (p ∷ h.before) r x place (omega (arith, less)) ∙ set-behind p h.before place r some in
+      let len = length-set (chain_of b.nodes l) j r in
+      let e = ap length list in
+      let one = h.chain.held in let two = s.held in
+      let whole : IsChainSet a l (set h.before j r ++ q ∷ []) d l = record {
+        is = s.is;
+        pairs = s.pairs ∙ list;
+        spares = λ t misses k n y passes at.
+            let mine : Misses t (h.before ++ r ∷ []) = subst (λ xs. Misses t xs) h.pairs misses in
+            let fails : t x ≡ false = ap t here ∙ misses_at t h.before j x (misses_left t h.before (r ∷ []) mine) less in
+            alone t (fails, tt) k n y passes (h.chain.spares t misses k n y passes at);
+        held = (let f = ap length h.chain.pairs in omega (arith, len, e, f, one, two));
+      } in
+      subst (λ ps. IsSlotSet a (Filled l p) ps d (Filled l p)) (sym (ap (λ ps. ps ++ q ∷ []) left)) (Slot-first a l p p (set h.before j r ++ q ∷ []) d l whole)
+
+  -- the first pair was r
+  pub record IsFront (a : Pool P) (s : Slot P) (r : P) (b : Pool P) (t : Slot P) : Type 0 where
+    pub left : List P
+    pub pairs : row_in a.nodes s ≡ r ∷ left
+    pub row : IsSlotSet a s left b t
+
+  pub Front-only : (a : Pool P) (l : ℕ) (p : P) → IsChain a.nodes l → node_limit ≤ l → IsFront a (Filled l p) p a Empty
+  Front-only a l p is last =
+      let none = Chain-beyond a.nodes l is last in
+      let len = ap length none in
+      record {
+        left = [];
+        pairs = ap (λ ps. p ∷ ps) none;
+        row = record { is = tt; pairs = refl; spares = λ t misses k n q passes at. at; held = omega (arith, len) };
+      }
+
+  cut_front : (a : Pool P) (l : ℕ) (q : P) (b : Pool P) (m : ℕ) → (cut : IsCut a l 0 q b m) → cut.before ≡ []
+  cut_front a l q b m cut = nil cut.before cut.len
+    where
+      nil : (ps : List P) → length ps ≡ 0 → ps ≡ []
+      nil [] e = refl
+      nil (p ∷ ps) e = absurd (omega arith)
+
+  pub Front-rest : (a : Pool P) (l : ℕ) (p q : P) (b : Pool P) (m : ℕ) → IsCut a l 0 q b m → IsFront a (Filled l p) p b (Filled m q)
+  Front-rest a l p q b m cut =
+      let none = cut_front a l q b m cut in
+      record {
+        left = q ∷ cut.behind;
+        pairs = ap (λ ps. p ∷ ps) (cut.pairs ∙ ap (λ xs. xs ++ q ∷ cut.behind) none);
+        row = Slot-first a l p q cut.behind b m (subst (λ ps. IsChainSet a l ps b m) (ap (λ xs. xs ++ cut.behind) none) cut.chain);
+      }
+
+  -- the pair at place i was r, and those behind it moved up
+  pub Remove-front : (a : Pool P) (s : Slot P) (r : P) (b : Pool P) (t : Slot P) (left : List P) → row_in a.nodes s ≡ r ∷ left → IsSlotSet a s left b t → (i : ℕ) → i ≡ 0
+      → IsSlotSet a s (take i (row_in a.nodes s) ++ drop (i + 1) (row_in a.nodes s)) b t
+  Remove-front a s r b t left pairs h i first =
+      let e : take i (row_in a.nodes s) ++ drop (i + 1) (row_in a.nodes s) ≡ left = ap (λ k. take k (row_in a.nodes s) ++ drop (k + 1) (row_in a.nodes s)) first ∙ ap (λ ps. take 0 ps ++ drop 1 ps) pairs in
+      subst (λ ps. IsSlotSet a s ps b t) (sym e) h
+
+  take_drop : (p : P) (xs : List P) (r : P) (ys : List P) (i : ℕ) → 0 < i → length xs ≡ i - 1 → take i (p ∷ (xs ++ r ∷ ys)) ++ drop (i + 1) (p ∷ (xs ++ r ∷ ys)) ≡ p ∷ (xs ++ ys)
+  take_drop p xs r ys zero some e = absurd (omega arith)
+  take_drop p xs r ys (suc n) some e =
+      let len : length xs ≡ n = omega (arith, e) in
+      let same : suc n + 1 ≡ suc (suc n) = omega arith in
+      ap (λ k. take (suc n) (p ∷ (xs ++ r ∷ ys)) ++ drop k (p ∷ (xs ++ r ∷ ys))) same
+      ∙ ap (λ ps. p ∷ ps) (ap (λ k. take k (xs ++ r ∷ ys) ++ drop (suc k) (xs ++ r ∷ ys)) (sym len) ∙ halves xs)
+    where
+      halves : (zs : List P) → take (length zs) (zs ++ r ∷ ys) ++ drop (suc (length zs)) (zs ++ r ∷ ys) ≡ zs ++ ys
+      halves [] = refl
+      halves (z ∷ zs) = ap (λ ps. z ∷ ps) (halves zs)
+
+  pub Remove-value : (a : Pool P) (l i : ℕ) (p r : P) (b : Pool P) (m : ℕ) → 0 < i → IsCut a l (i - 1) r b m → r ≡ get_or (row_in a.nodes (Filled l p)) i r
+  Remove-value a l i p r b m some cut =
+      sym (get_or-behind p (chain_of a.nodes l) i r some ∙ ap (λ ps. get_or ps (i - 1) r) cut.pairs ∙ ap (λ k. get_or (cut.before ++ r ∷ cut.behind) k r) (sym cut.len) ∙ seam cut.before r cut.behind)
+    where
+      seam : (xs : List P) (y : P) (ys : List P) → get_or (xs ++ y ∷ ys) (length xs) y ≡ y
+      seam [] y ys = refl
+      seam (x ∷ xs) y ys = seam xs y ys
+
+  pub Remove-behind : (a : Pool P) (l i : ℕ) (p r : P) (b : Pool P) (m : ℕ) → 0 < i → IsCut a l (i - 1) r b m
+      → IsSlotSet a (Filled l p) (take i (row_in a.nodes (Filled l p)) ++ drop (i + 1) (row_in a.nodes (Filled l p))) b (Filled m p)
+  Remove-behind a l i p r b m some cut =
+      let e : take i (row_in a.nodes (Filled l p)) ++ drop (i + 1) (row_in a.nodes (Filled l p)) ≡ p ∷ (cut.before ++ cut.behind) =
+      ap (λ ps. take i (p ∷ ps) ++ drop (i + 1) (p ∷ ps)) cut.pairs ∙ take_drop p cut.before r cut.behind i some cut.len in
+      subst (λ ps. IsSlotSet a (Filled l p) ps b (Filled m p)) (sym e) (Slot-first a l p p (cut.before ++ cut.behind) b m cut.chain)
+
+  -- an empty slot as it is
+  pub Slot-none : (a : Pool P) → IsSlotSet a Empty [] a Empty
+  Slot-none a = record { is = tt; pairs = refl; spares = λ t misses k n q passes at. at; held = omega arith }

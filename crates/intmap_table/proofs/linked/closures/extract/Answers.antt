@@ -1,0 +1,109 @@
+use Rattle.std.proofs.Common.{◌≡◌, ◌∷◌, Some, refl, sym, ap, ◌∙◌, subst, drop, arith}
+use Rattle.intmap_table.specs.Picking.{AsksAt, ExtractsBehind, PicksAt}
+use Rattle.intmap_table.specs.Taking.{TakesEach}
+use Rattle.intmap_table.specs.Writes.{TakesPairMut}
+use Rattle.intmap_table.specs.Tables.Nodes.{Filled, chain_of, row_in}
+use Rattle.intmap_table.proofs.TakingLemmas.{TakesEach-first, TakesEach-next}
+use Rattle.intmap_table.proofs.Nodes.SlotLemmas.{Slot-first, slot_is}
+use Rattle.intmap_table.proofs.Nodes.PickedLemmas.{first_goes, first_stays}
+use Rattle.intmap_table.proofs.linked.closures.extract.Goals as goal
+use Rattle.intmap_table.proofs.linked.closures.extract.Goals.{Else-place-gt0, After-pick}
+
+pub returns-then-place-gt0-clause-step : goal.returns-then-place-gt0-clause-step
+returns-then-place-gt0-clause-step g c =
+    let pool = c.args.pool.now in
+    let run = c.extract_behind.ensures.step in
+    let row = ap (row_in pool.nodes) run.1 in (
+      run.0 ∷ run.4,
+      slot_is pool (Filled c.in-Some.link run.0) (Filled run.2 run.0) (run.0 ∷ run.4) (run.0 ∷ run.4) c.extract_behind.new.pool c.args.slot.now c.extract_behind.new.slot
+          (Slot-first pool c.in-Some.link run.0 run.0 run.4 c.extract_behind.new.pool run.2 run.5) run.1 refl run.3,
+      subst (λ L. ExtractsBehind (PicksAt g.F.FnMut) c.args.f.now L c.args.place.now c.extract_behind.result c.extract_behind.new.f (run.0 ∷ run.4) c.extract_behind.new.place) (sym row) run.6,
+      (let within = run.7 in omega (arith, within)),
+    )
+
+-- the place is that of the first pair
+module _ (g : _) (c : Else-place-gt0 g) where
+  front : c.args.place.now ≡ 0
+  front = omega (arith, c.if-place-gt0.false)
+
+  row : row_in c.args.pool.now.nodes c.args.slot.now ≡ c.in-Some.field-0-1.now ∷ chain_of c.args.pool.now.nodes c.in-Some.link
+  row = ap (row_in c.args.pool.now.nodes) c.in-Some.ensures.some
+
+  callable : TakesEach (AsksAt g.F.FnMut) (TakesPairMut g.F.FnMut) c.args.f.now (c.in-Some.field-0-1.now ∷ chain_of c.args.pool.now.nodes c.in-Some.link)
+  callable =
+      subst (TakesEach (AsksAt g.F.FnMut) (TakesPairMut g.F.FnMut) c.args.f.now) (ap (λ k. drop k (row_in c.args.pool.now.nodes c.args.slot.now)) front ∙ row) c.requires.callable
+
+pub pick-requires : goal.pick-requires
+pick-requires g c = (
+  c.in-Some.link,
+  c.in-Some.field-0-1.now,
+  c.in-Some.ensures.some,
+  TakesEach-first (AsksAt g.F.FnMut) (TakesPairMut g.F.FnMut) c.args.f.now c.in-Some.field-0-1.now (chain_of c.args.pool.now.nodes c.in-Some.link) (callable g (goal.at.pick-requires g c).Else-place-gt0),
+)
+
+-- what the slot has once its first pair was asked about
+module _ (g : _) (c : After-pick g) where
+  both : Filled c.pick.ensures.0 c.pick.ensures.1 ≡ Filled c.in-Some.link c.in-Some.field-0-1.now
+  both = sym c.pick.ensures.3 ∙ c.in-Some.ensures.some
+
+  link : c.pick.ensures.0 ≡ c.in-Some.link
+  link = let e = both in cc
+
+  pair : c.pick.ensures.1 ≡ c.in-Some.field-0-1.now
+  pair = let e = both in cc
+
+  call : PicksAt g.F.FnMut c.args.f.now c.in-Some.field-0-1.now c.pick.result c.pick.new.f c.pick.ensures.2
+  call = subst (λ p. PicksAt g.F.FnMut c.args.f.now p c.pick.result c.pick.new.f c.pick.ensures.2) pair c.pick.ensures.5
+
+  slot : c.pick.new.self ≡ Filled c.in-Some.link c.pick.ensures.2
+  slot = c.pick.ensures.4 ∙ ap (λ l. Filled l c.pick.ensures.2) link
+
+pub unlink_first-requires-clause-filled : goal.unlink_first-requires-clause-filled
+unlink_first-requires-clause-filled g c = (c.pick.ensures.2, slot g (goal.at.unlink_first-requires-clause-filled g c).After-pick)
+
+pub returns-then-pick-clause-step : goal.returns-then-pick-clause-step
+returns-then-pick-clause-step g c =
+    let at = (goal.at.returns-then-pick-clause-step g c).After-pick in
+    let first = (goal.at.returns-then-pick-clause-step g c).Else-place-gt0 in
+    let pool = c.args.pool.now in
+    let p = c.in-Some.field-0-1.now in
+    let chain = chain_of pool.nodes c.in-Some.link in
+    let two : Filled c.in-Some.link c.unlink_first.result ≡ Filled c.in-Some.link c.pick.ensures.2 = sym c.unlink_first.ensures.value ∙ slot g at in
+    let same : c.unlink_first.result ≡ c.pick.ensures.2 = cc in
+    let front = front g first in (
+      chain,
+      slot_is pool (Filled c.in-Some.link p) c.unlink_first.new.slot chain chain c.unlink_first.new.pool c.args.slot.now c.unlink_first.new.slot (c.unlink_first.ensures.row p) c.in-Some.ensures.some refl refl,
+      subst (λ L. ExtractsBehind (PicksAt g.F.FnMut) c.args.f.now L c.args.place.now (Some c.unlink_first.result) c.pick.new.f chain c.args.place.now) (sym (row g first))
+          (first_goes (PicksAt g.F.FnMut) (TakesPairMut g.F.FnMut) c.args.f.now c.pick.new.f p c.pick.ensures.2 chain c.unlink_first.result c.args.place.now front (rw c.if-pick.true at (call g at)) same),
+      omega (arith, front),
+    )
+
+pub extract_behind-requires-2-clause-filled : goal.extract_behind-requires-2-clause-filled
+extract_behind-requires-2-clause-filled g c = (c.pick.ensures.2, slot g (goal.at.extract_behind-requires-2-clause-filled g c).After-pick)
+
+pub extract_behind-requires-2-clause-callable : goal.extract_behind-requires-2-clause-callable
+extract_behind-requires-2-clause-callable g c =
+    let at = (goal.at.extract_behind-requires-2-clause-callable g c).After-pick in
+    let first = (goal.at.extract_behind-requires-2-clause-callable g c).Else-place-gt0 in
+    TakesEach-next (AsksAt g.F.FnMut) (TakesPairMut g.F.FnMut) c.args.f.now c.pick.new.f c.in-Some.field-0-1.now (c.pick.result, c.pick.ensures.2) (chain_of c.args.pool.now.nodes c.in-Some.link)
+    (callable g first) (call g at)
+
+pub returns-clause-step : goal.returns-clause-step
+returns-clause-step g c =
+    let at = (goal.at.returns-clause-step g c).After-pick in
+    let first = (goal.at.returns-clause-step g c).Else-place-gt0 in
+    let pool = c.args.pool.now in
+    let p = c.in-Some.field-0-1.now in
+    let chain = chain_of pool.nodes c.in-Some.link in
+    let run = c.extract_behind-2.ensures.step in
+    let two : Filled c.in-Some.link c.pick.ensures.2 ≡ Filled c.in-Some.link run.0 = sym (slot g at) ∙ run.1 in
+    let same : c.pick.ensures.2 ≡ run.0 = cc in
+    let asked = subst (λ q. PicksAt g.F.FnMut c.args.f.now p c.pick.result c.pick.new.f q) same (call g at) in (
+      run.0 ∷ run.4,
+      slot_is pool (Filled c.in-Some.link p) (Filled run.2 run.0) (run.0 ∷ run.4) (run.0 ∷ run.4) c.extract_behind-2.new.pool c.args.slot.now c.extract_behind-2.new.slot
+          (Slot-first pool c.in-Some.link p run.0 run.4 c.extract_behind-2.new.pool run.2 run.5) c.in-Some.ensures.some refl run.3,
+      subst (λ L. ExtractsBehind (PicksAt g.F.FnMut) c.args.f.now L c.args.place.now c.extract_behind-2.result c.extract_behind-2.new.f (run.0 ∷ run.4) c.extract_behind-2.new.place) (sym (row g first))
+          (first_stays (PicksAt g.F.FnMut) (TakesPairMut g.F.FnMut) c.args.f.now c.pick.new.f c.extract_behind-2.new.f p run.0 chain c.extract_behind-2.result (run.0 ∷ run.4) c.extract_behind-2.new.place c.args.place.now
+          (front g first) (rw c.if-pick.false at asked) run.6),
+      (let within = run.7 in omega (arith, within)),
+    )

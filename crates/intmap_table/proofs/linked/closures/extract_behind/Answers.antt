@@ -1,0 +1,99 @@
+use Rattle.std.proofs.Common.{◌≡◌, refl, sym, ap, ◌∙◌, subst, arith}
+use Rattle.intmap_table.specs.Picking.{PicksAt}
+use Rattle.intmap_table.specs.Writes.{TakesPairMut}
+use Rattle.intmap_table.specs.Tables.Nodes.{Held, node_at, IsChanged}
+use Rattle.intmap_table.proofs.Nodes.PickedLemmas.{node_changed, Picked-start, Picked-asks, Picked-few, Picked-walked, Picked-stays, Picked-smaller, Picked-goes, Picked-end}
+use Rattle.intmap_table.proofs.linked.closures.extract_behind.Goals as goal
+use Rattle.intmap_table.proofs.linked.closures.extract_behind.Goals.{After-pick}
+
+-- the node that was asked about is the one that was read
+module _ (g : _) (c : After-pick g) where
+  both : Held c.pick.ensures.0 c.pick.ensures.1 ≡ Held c.in-Some.next c.in-Some.field-0-1.now
+  both = sym c.pick.ensures.3 ∙ c.in-Some.ensures.some
+
+  link : c.pick.ensures.0 ≡ c.in-Some.next
+  link = let e = both in cc
+
+  held : node_at c.loop-next.pool.nodes c.loop-next.at ≡ Held c.in-Some.next c.pick.ensures.1
+  held = c.pick.ensures.3 ∙ ap (λ n. Held n c.pick.ensures.1) link
+
+  changed : IsChanged c.loop-next.pool c.loop-next.at c.in-Some.next c.pick.ensures.2 c.pick.new.self
+  changed = subst (λ n. IsChanged c.loop-next.pool c.loop-next.at n c.pick.ensures.2 c.pick.new.self) link c.pick.ensures.4
+
+pub loop-next-init : goal.loop-next-init
+loop-next-init g c = record {
+  walked = (
+    c.requires.filled.0,
+    c.requires.filled.1,
+    Picked-start (PicksAt g.F.FnMut) (TakesPairMut g.F.FnMut) c.args.pool.now c.args.link c.requires.filled.0 c.args.f.now c.args.place.now c.args.slot.now c.seek_behind-before.result.0 c.seek_behind-before.result.1
+        c.requires.filled.1 c.requires.behind c.seek_behind-before.ensures c.requires.callable,
+  );
+  room = refl;
+}
+
+pub pick-requires : goal.pick-requires
+pick-requires g c =
+    let w = c.loop-next.invariant.walked in (
+      c.in-Some.next,
+      c.in-Some.field-0-1.now,
+      c.in-Some.ensures.some,
+      Picked-asks (PicksAt g.F.FnMut) (TakesPairMut g.F.FnMut) c.args.pool.now c.args.link w.0 c.args.f.now c.args.place.now c.loop-next.f c.loop-next.place c.loop-next.pool c.loop-next.slot c.loop-next.before c.loop-next.at w.2 c.in-Some.next c.in-Some.field-0-1.now c.in-Some.ensures.some,
+    )
+
+pub unlink-requires-clause-walked : goal.unlink-requires-clause-walked
+unlink-requires-clause-walked g c =
+    let at = (goal.at.unlink-requires-clause-walked g c).After-pick in
+    let w = c.loop-next.invariant.walked in
+    Picked-walked (PicksAt g.F.FnMut) (TakesPairMut g.F.FnMut) c.args.pool.now c.args.link w.0 c.args.f.now c.args.place.now c.loop-next.f c.loop-next.place c.loop-next.pool c.loop-next.slot c.loop-next.before c.loop-next.at w.2 c.in-Some.next c.pick.ensures.1 c.pick.ensures.2 c.pick.new.self c.pick.new.f (held g at) (changed g at)
+
+pub unlink-requires-clause-held : goal.unlink-requires-clause-held
+unlink-requires-clause-held g c =
+    let at = (goal.at.unlink-requires-clause-held g c).After-pick in
+    (c.pick.ensures.2, node_changed c.loop-next.pool c.loop-next.at c.in-Some.next c.pick.ensures.1 c.pick.ensures.2 c.pick.new.self (held g at) (changed g at))
+
+pub returns-then-pick-clause-step : goal.returns-then-pick-clause-step
+returns-then-pick-clause-step g c =
+    let at = (goal.at.returns-then-pick-clause-step g c).After-pick in
+    let w = c.loop-next.invariant.walked in
+    let done = Picked-goes (PicksAt g.F.FnMut) (TakesPairMut g.F.FnMut) c.args.pool.now c.args.link w.0 c.args.f.now c.args.place.now c.loop-next.f c.loop-next.place c.loop-next.pool c.loop-next.slot c.loop-next.before c.loop-next.at w.2 c.in-Some.next c.pick.ensures.1 c.pick.ensures.2 c.pick.new.self c.pick.new.f (held g at) (changed g at) (rw c.if-pick.true at c.pick.ensures.5) c.unlink.result c.unlink.new.pool c.unlink.new.slot c.unlink.ensures.walks c.requires.behind in
+    (w.0, w.1, done.0, done.1, done.2, done.3, done.4, done.5)
+
+pub returns-then-pick-clause-on : goal.returns-then-pick-clause-on
+returns-then-pick-clause-on g c = c.loop-next.invariant.walked.2.on
+
+pub returns-then-pick-clause-room : goal.returns-then-pick-clause-room
+returns-then-pick-clause-room g c =
+    let room = c.loop-next.invariant.room in
+    let same = c.pick.ensures.4.room in
+    let more = c.unlink.ensures.room in
+    omega (arith, room, same, more)
+
+pub overflow_add-place : goal.overflow_add-place
+overflow_add-place g c =
+    let w = c.loop-next.invariant.walked in
+    let few = Picked-few (PicksAt g.F.FnMut) (TakesPairMut g.F.FnMut) c.args.pool.now c.args.link w.0 c.args.f.now c.args.place.now c.loop-next.f c.loop-next.place c.loop-next.pool c.loop-next.slot c.loop-next.before c.loop-next.at w.2 c.in-Some.next c.in-Some.field-0-1.now c.in-Some.ensures.some in
+    omega (arith, few)
+
+pub loop-next-smaller : goal.loop-next-smaller
+loop-next-smaller g c =
+    let at = (goal.at.loop-next-smaller g c).After-pick in
+    let w = c.loop-next.invariant.walked in
+    Picked-smaller (PicksAt g.F.FnMut) (TakesPairMut g.F.FnMut) c.args.pool.now c.args.link w.0 c.args.f.now c.args.place.now c.loop-next.f c.loop-next.place c.loop-next.pool c.loop-next.slot c.loop-next.before c.loop-next.at w.2 c.in-Some.next c.pick.ensures.1 c.pick.ensures.2 c.pick.new.self c.pick.new.f (held g at) (changed g at)
+
+pub loop-next-preserved : goal.loop-next-preserved
+loop-next-preserved g c =
+    let at = (goal.at.loop-next-preserved g c).After-pick in
+    let w = c.loop-next.invariant.walked in
+    record {
+      walked = (w.0, w.1, Picked-stays (PicksAt g.F.FnMut) (TakesPairMut g.F.FnMut) c.args.pool.now c.args.link w.0 c.args.f.now c.args.place.now c.loop-next.f c.loop-next.place c.loop-next.pool c.loop-next.slot c.loop-next.before c.loop-next.at w.2 c.in-Some.next c.pick.ensures.1 c.pick.ensures.2 c.pick.new.self c.pick.new.f (held g at) (changed g at) (rw c.if-pick.false at c.pick.ensures.5));
+      room = c.loop-next.invariant.room ∙ sym c.pick.ensures.4.room;
+    }
+
+pub returns-clause-step : goal.returns-clause-step
+returns-clause-step g c =
+    let w = c.loop-next.invariant.walked in
+    let done = Picked-end (PicksAt g.F.FnMut) (TakesPairMut g.F.FnMut) c.args.pool.now c.args.link w.0 c.args.f.now c.args.place.now c.loop-next.f c.loop-next.place c.loop-next.pool c.loop-next.slot c.loop-next.before c.loop-next.at w.2 c.in_default.ensures.none c.requires.behind in
+    (w.0, w.1, done.0, done.1, done.2, done.3, done.4, done.5)
+
+pub returns-clause-on : goal.returns-clause-on
+returns-clause-on g c = c.loop-next.invariant.walked.2.on

@@ -1,0 +1,16 @@
+use Rattle.std.proofs.Common.{◌≡◌, length}
+use Rattle.intmap_table.specs.Writes.{TakesPairMut, WritesAt}
+use Rattle.intmap_table.specs.Tables.Nodes.{Filled, chain_of}
+use Rattle.intmap_table.proofs.Nodes.PairsWrittenLemmas.{IsWritten}
+use Rattle.intmap_table.proofs.linked.closures.write_each.Given as goal
+
+-- the closure wrote the values that were passed, and it may be called at each pair that is left
+abbrev pub invariant-loop-next : goal.invariant-loop-next
+invariant-loop-next g l = record {
+  walked : (first : g.row.K.Denot × g.row.V.Denot) × (l.slot ≡ Filled l.link first)
+      × IsWritten (WritesAt g.F.FnMut) (TakesPairMut g.F.FnMut) l.initial.pool l.link first l.initial.f l.f l.pool l.slot l.at;
+  room : l.pool.room ≡ l.initial.pool.room;
+}
+
+abbrev pub decreases-loop-next : goal.decreases-loop-next
+decreases-loop-next g l = length (chain_of l.pool.nodes l.at)

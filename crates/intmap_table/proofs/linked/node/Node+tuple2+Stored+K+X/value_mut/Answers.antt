@@ -1,0 +1,6 @@
+use Rattle.std.proofs.Common.{refl}
+use Rattle.intmap_table.specs.Tables.Nodes.{link_of}
+use Rattle.intmap_table.proofs.linked.node.Node+tuple2+Stored+K+X.value_mut.Goals as goal
+
+pub returns : goal.returns
+returns g c = rw (← c.self.view_is, c.in-Held.is) ((refl, λ w. refl), record { writes_back = tt; value = (link_of c.in-Held.field-0 c.in-Held.field-1, c.in-Held.pair, refl, refl) })

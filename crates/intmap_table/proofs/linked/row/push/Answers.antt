@@ -1,0 +1,18 @@
+use Rattle.std.proofs.Common.{[], ◌∷◌, ◌++◌, ap}
+use Rattle.intmap_table.specs.Tables.Nodes.{Empty, Filled, nowhere, chain_of, row_in}
+use Rattle.intmap_table.proofs.Nodes.SlotLemmas.{relinked, slot_is, Slot-first, Slot-put}
+use Rattle.intmap_table.proofs.linked.row.push.Goals as goal
+
+pub returns-in_default-clause-ok : goal.returns-in_default-clause-ok
+returns-in_default-clause-ok g c =
+    slot_is c.args.pool.now Empty (Filled nowhere c.args.pair) (c.args.pair ∷ []) _ c.args.pool.now c.args.slot.now c.fill.new.self
+    (Slot-put c.args.pool.now c.args.pair) c.in_default.ensures.none (ap (λ s. row_in c.args.pool.now.nodes s ++ c.args.pair ∷ []) c.in_default.ensures.none) c.fill.ensures
+
+pub returns-clause-ok : goal.returns-clause-ok
+returns-clause-ok g c =
+    let is = c.in-Some.ensures.some in
+    slot_is c.args.pool.now (Filled c.in-Some.link c.in-Some.field-0-1.now) (Filled c.push_behind.new.link c.in-Some.field-0-1.now)
+    (c.in-Some.field-0-1.now ∷ (chain_of c.args.pool.now.nodes c.in-Some.link ++ c.args.pair ∷ [])) _ c.push_behind.new.pool c.args.slot.now c.set_link.new.self
+    (Slot-first c.args.pool.now c.in-Some.link c.in-Some.field-0-1.now c.in-Some.field-0-1.now (chain_of c.args.pool.now.nodes c.in-Some.link ++ c.args.pair ∷ []) c.push_behind.new.pool c.push_behind.new.link c.in_ok-place.ensures.ok)
+    is (ap (λ s. row_in c.args.pool.now.nodes s ++ c.args.pair ∷ []) is)
+    (relinked c.args.slot.now c.set_link.new.self c.in-Some.link c.in-Some.field-0-1.now c.push_behind.new.link c.set_link.ensures.0 c.set_link.ensures.1 is c.set_link.ensures.2 c.set_link.ensures.3)

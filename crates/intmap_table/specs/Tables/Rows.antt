@@ -1,0 +1,59 @@
+-- What contracts see of slots whose further pairs lie in nodes. No public clause cites this module.
+use Rattle.std.specs.Prelude.{◌≡◌, ℕ, zero, suc, ◌+◌, ◌<◌, Bool, List, [], ◌∷◌, length, get_or, reverse, slice_index_or}
+use Rattle.std.specs.List.{AllZip}
+use Rattle.intmap_table.specs.Classes.{IsCapacity, slot_number}
+use Rattle.intmap_table.specs.Cloning.{IsPairClone}
+use Rattle.intmap_table.specs.Walk.{slot_of}
+use Rattle.intmap_table.specs.Tables.Nodes.{Slot, Empty, Pool, nowhere, rows_in, AreLinked, IsChainSet, IsSlotSet}
+use Rattle.intmap_table.specs.Tables.Slots.{AreMarked, write_at}
+
+-- the pairs of each slot, and how many more pairs that share a slot need no allocation
+pub record Contents (K X : Type 0) : Type 0 where
+  pub rows : List (List (K × X))
+  pub room : ℕ
+
+-- the pairs of slot i
+abbrev pub row_at : {K X : Type 0} → Contents K X → ℕ → List (K × X)
+row_at c i = slice_index_or c.rows i []
+
+-- a row as growth leaves it until its slot is turned: behind the first pair the last ones come first
+abbrev pub turned : {P : Type 0} → List P → List P
+turned [] = []
+turned (p ∷ ps) = p ∷ reverse ps
+
+-- with a pair behind the first one
+abbrev pub put_second : {P : Type 0} → List P → P → List P
+put_second [] p = p ∷ []
+put_second (q ∷ ps) p = q ∷ p ∷ ps
+
+-- the rows with v as the value of the pair at place j of row i
+abbrev pub write_rows : {K X : Type 0} → List (List (K × X)) → ℕ → ℕ → X → List (List (K × X))
+write_rows [] i j v = []
+write_rows (row ∷ R) zero j v = write_at row j v ∷ R
+write_rows (row ∷ R) (suc i) j v = row ∷ write_rows R i j v
+
+module _ {K X : Type 0} (number : K → ℕ) where
+  -- the pairs of L are in C slots, each in its own, and no slot is turned yet
+  pub record IsPlaced (C : ℕ) (L : List (K × X)) (R : List (List (K × X))) : Type 0 where
+    pub len : length R ≡ C
+    pub rows : (j : ℕ) → j < C → get_or R j [] ≡ turned (slot_of number L C j)
+
+  -- slots, a power of two of them, in which each pair is at home; the marks of those that hold a pair; and their number less one
+  pub record AreRows (slots : List (Slot (K × X))) (pool : Pool (K × X)) (marks : List Bool) (mask : ℕ) : Type 0 where
+    pub linked : AreLinked (λ p. slot_number number p.0 (length slots)) slots pool
+    pub capacity : IsCapacity (length slots)
+    pub marked : AreMarked (rows_in slots pool.nodes) marks
+    pub count : mask + 1 ≡ length slots
+
+module _ {K X : Type 0} (clones : X → X → Type 0) where
+  -- link m leads through clones of these pairs, which lie in new nodes
+  pub record IsChainClone (ps : List (K × X)) (a b : Pool (K × X)) (m : ℕ) : Type 0 where
+    pub copies : List (K × X)
+    pub are : AllZip (IsPairClone clones) ps copies
+    pub chain : IsChainSet a nowhere copies b m
+
+  -- a new slot has clones of these pairs, and those behind the first one lie in new nodes
+  pub record IsRowClone (row : List (K × X)) (a b : Pool (K × X)) (t : Slot (K × X)) : Type 0 where
+    pub copies : List (K × X)
+    pub are : AllZip (IsPairClone clones) row copies
+    pub slot : IsSlotSet a Empty copies b t

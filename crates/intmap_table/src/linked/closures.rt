@@ -1,0 +1,229 @@
+//! Closures are called at the pairs of one slot.
+ghost use Rattle.std.specs.Prelude.{◌≡◌, ◌+◌, ◌-◌, ◌^◌, ◌<◌, ◌≤◌, ◌∷◌, ℕ, List, drop, length};
+ghost use Rattle.std.specs.Map.{keys_of};
+ghost use Rattle.intmap_table.specs.Picking.{AsksAt, ExtractsBehind, PicksAt};
+ghost use Rattle.intmap_table.specs.Retaining.{KeepsAt, Retains, TakesPair};
+ghost use Rattle.intmap_table.specs.Taking.{TakesEach};
+ghost use Rattle.intmap_table.specs.Writes.{TakesPairMut, Writes, WritesAt};
+ghost use Rattle.intmap_table.specs.Tables.Nodes.{Filled, Held, chain_of, node_at, row_in, IsChain, IsChainSet, IsSlot, IsSlotSet};
+ghost use Rattle.intmap_table.specs.Tables.Walked.{AreWalked, IsStarted, IsUnlinked};
+
+use crate::kept::Kept;
+use crate::key::IntKey;
+use crate::linked::chain::{seek, take_behind};
+use crate::linked::node::{NODE_LIMIT, NOWHERE};
+use crate::linked::pool::Pool;
+use crate::linked::slot::Slot;
+use crate::table::asked::keeps_pair;
+use crate::table::stored::Stored;
+use std::alloc::Allocator;
+
+/// Removes the pair of a node behind the first pair of a slot. The link to that node, which the node
+/// before it has, or the slot if that one is none, then leads to the next.
+#[inline(always)]
+fn unlink<P, A: Allocator>(
+    slot: &mut Slot<P>,
+    pool: &mut Pool<P, A>,
+    before: usize,
+    at: usize,
+    next: usize,
+) -> P
+    requires walked { AreWalked pool.old slot.old before at }
+    requires held { (p : P) × (node_at pool.old.nodes at ≡ Held next p) }
+    requires fits { next < 2 ^ 48 }
+    ensures walks { IsUnlinked pool.old slot.old before at next result pool.new slot.new }
+    ensures room { pool.new.room ≡ pool.old.room + 1 }
+{
+    let pair = pool.release(at);
+    if before >= NODE_LIMIT {
+        slot.set_link(next);
+        return pair;
+    }
+    pool.set_link(before, next);
+    pair
+}
+
+/// Removes the first pair of a slot. The others move up by one place.
+#[inline(always)]
+fn unlink_first<P, A: Allocator>(slot: &mut Slot<P>, link: usize, pool: &mut Pool<P, A>) -> P
+    requires filled { (p : P) × (slot.old ≡ Filled link p) }
+    requires leads { IsChain pool.old.nodes link }
+    ensures value { slot.old ≡ Filled link result }
+    ensures row { (first : P) → IsSlotSet pool.old (Filled link first)
+        (chain_of pool.old.nodes link) pool.new slot.new }
+    ensures room { pool.old.room ≤ pool.new.room }
+{
+    if link >= NODE_LIMIT {
+        return slot.take();
+    }
+    let mut link = link;
+    let second = take_behind(&mut link, pool);
+    slot.set_link(link);
+    slot.replace(second)
+}
+
+/// Keeps the pairs behind the first one of a slot for which the closure returns true, in their order,
+/// and returns their number.
+fn retain_behind<K: IntKey, V: Drop, A: Allocator, F: FnMut(K, &V) -> bool>(
+    slot: &mut Slot<(Stored<K>, Kept<V>)>,
+    link: usize,
+    pool: &mut Pool<(Stored<K>, Kept<V>), A>,
+    f: &mut F,
+) -> usize
+    requires filled { (p : K × V) × (slot.old ≡ Filled link p) }
+    requires leads { IsChain pool.old.nodes link }
+    requires callable { TakesEach (KeepsAt F.FnMut) (TakesPair F.FnMut) f.old
+        (chain_of pool.old.nodes link) }
+    ensures row { (p : K × V) × (slot.old ≡ Filled link p) × (now : ℕ) × (slot.new ≡ Filled now p)
+        × (row : List (K × V)) × IsChainSet pool.old link row pool.new now
+        × Retains (KeepsAt F.FnMut) f.old (chain_of pool.old.nodes link) row f.new
+        × (result ≡ length row) }
+    ensures room { pool.old.room ≤ pool.new.room }
+{
+    let mut before = NOWHERE;
+    let mut at = link;
+    let mut kept = 0;
+    while let Some((next, pair)) = pool.get(at) {
+        if keeps_pair(pair, f) {
+            before = at;
+            kept += 1;
+        } else {
+            unlink(slot, pool, before, at, next);
+        }
+        at = next;
+    }
+    kept
+}
+
+/// Keeps the pairs of a slot for which the closure returns true, in their order, and returns their
+/// number. The closure is called once at each pair, from the front, and a pair is unlinked at once
+/// when it returns false.
+pub(crate) fn retain<K: IntKey, V: Drop, A: Allocator, F: FnMut(K, &V) -> bool>(
+    slot: &mut Slot<(Stored<K>, Kept<V>)>,
+    pool: &mut Pool<(Stored<K>, Kept<V>), A>,
+    f: &mut F,
+) -> usize
+    requires leads { IsSlot pool.old.nodes slot.old }
+    requires callable { TakesEach (KeepsAt F.FnMut) (TakesPair F.FnMut) f.old
+        (row_in pool.old.nodes slot.old) }
+    ensures row { (row : List (K × V)) × IsSlotSet pool.old slot.old row pool.new slot.new
+        × Retains (KeepsAt F.FnMut) f.old (row_in pool.old.nodes slot.old) row f.new
+        × (result ≡ length row) }
+    ensures room { pool.old.room ≤ pool.new.room }
+{
+    while let Some((link, first)) = slot.get() {
+        if keeps_pair(first, f) {
+            return retain_behind(slot, link, pool, f) + 1;
+        }
+        unlink_first(slot, link, pool);
+    }
+    0
+}
+
+/// Calls the closure at each pair of a slot in turn, with a mutable reference to its value.
+pub(crate) fn write_each<K: IntKey, V, A: Allocator, F: FnMut(K, &mut V)>(
+    slot: &mut Slot<(Stored<K>, Kept<V>)>,
+    pool: &mut Pool<(Stored<K>, Kept<V>), A>,
+    f: &mut F,
+)
+    requires leads { IsSlot pool.old.nodes slot.old }
+    requires callable { TakesEach (WritesAt F.FnMut) (TakesPairMut F.FnMut) f.old
+        (row_in pool.old.nodes slot.old) }
+    ensures row { (row : List (K × V)) × IsSlotSet pool.old slot.old row pool.new slot.new
+        × Writes (WritesAt F.FnMut) f.old (row_in pool.old.nodes slot.old) row f.new }
+    ensures keys { keys_of (row_in pool.new.nodes slot.new)
+        ≡ keys_of (row_in pool.old.nodes slot.old) }
+    ensures room { pool.new.room ≡ pool.old.room }
+{
+    let Some((link, _)) = slot.get() else {
+        return;
+    };
+    slot.write(f);
+    let mut at = link;
+    while let Some((next, _)) = pool.get(at) {
+        pool.write(at, f);
+        at = next;
+    }
+}
+
+/// The node with the pair at a place behind the first one of a slot, and before it that with the pair
+/// at the place before, which is none at the front.
+#[inline(always)]
+fn seek_behind<P, A: Allocator>(pool: &Pool<P, A>, link: usize, place: usize) -> (usize, usize)
+    requires leads { IsChain pool.now.nodes link }
+    requires within { place ≤ length (chain_of pool.now.nodes link) }
+    ensures { IsStarted pool.now link place result.0 result.1 }
+{
+    if place == 0 {
+        return (NOWHERE, link);
+    }
+    let before = seek(pool, link, place - 1);
+    (before, pool.link(before))
+}
+
+/// Asks the closure about each pair behind the first one of a slot, from the place on, and removes
+/// the first one that it picks. Those behind it move up, and the place moves on to the first of them.
+fn extract_behind<K: IntKey, V, A: Allocator, F: FnMut(K, &mut V) -> bool>(
+    slot: &mut Slot<(Stored<K>, Kept<V>)>,
+    link: usize,
+    pool: &mut Pool<(Stored<K>, Kept<V>), A>,
+    place: &mut usize,
+    f: &mut F,
+) -> Option<(Stored<K>, Kept<V>)>
+    requires filled { (p : K × V) × (slot.old ≡ Filled link p) }
+    requires leads { IsChain pool.old.nodes link }
+    requires behind { 0 < place.old }
+    requires within { place.old ≤ length (chain_of pool.old.nodes link) + 1 }
+    requires callable { TakesEach (AsksAt F.FnMut) (TakesPairMut F.FnMut) f.old
+        (drop (place.old - 1) (chain_of pool.old.nodes link)) }
+    ensures step { (p : K × V) × (slot.old ≡ Filled link p) × (now : ℕ) × (slot.new ≡ Filled now p)
+        × (row : List (K × V)) × IsChainSet pool.old link row pool.new now
+        × ExtractsBehind (PicksAt F.FnMut) f.old (p ∷ chain_of pool.old.nodes link) place.old result
+        f.new (p ∷ row) place.new
+        × (place.new ≤ length row + 1) }
+    ensures on { place.old ≤ place.new }
+    ensures room { pool.old.room ≤ pool.new.room }
+{
+    let (mut before, mut at) = seek_behind(pool, link, *place - 1);
+    while let Some((next, _)) = pool.get(at) {
+        if pool.pick(at, f) {
+            return Some(unlink(slot, pool, before, at, next));
+        }
+        before = at;
+        at = next;
+        *place += 1;
+    }
+    None
+}
+
+/// Asks the closure about each pair of a slot, from the place on, and removes the first one that it
+/// picks. Those behind it move up, and the place moves on to the first of them.
+pub(crate) fn extract<K: IntKey, V, A: Allocator, F: FnMut(K, &mut V) -> bool>(
+    slot: &mut Slot<(Stored<K>, Kept<V>)>,
+    pool: &mut Pool<(Stored<K>, Kept<V>), A>,
+    place: &mut usize,
+    f: &mut F,
+) -> Option<(Stored<K>, Kept<V>)>
+    requires leads { IsSlot pool.old.nodes slot.old }
+    requires within { place.old ≤ length (row_in pool.old.nodes slot.old) }
+    requires callable { TakesEach (AsksAt F.FnMut) (TakesPairMut F.FnMut) f.old
+        (drop place.old (row_in pool.old.nodes slot.old)) }
+    ensures step { (row : List (K × V)) × IsSlotSet pool.old slot.old row pool.new slot.new
+        × ExtractsBehind (PicksAt F.FnMut) f.old (row_in pool.old.nodes slot.old) place.old result
+        f.new row place.new
+        × (place.new ≤ length row) }
+    ensures on { place.old ≤ place.new }
+    ensures room { pool.old.room ≤ pool.new.room }
+{
+    let Some((link, _)) = slot.get() else {
+        return None;
+    };
+    if *place > 0 {
+        return extract_behind(slot, link, pool, place, f);
+    }
+    if slot.pick(f) {
+        return Some(unlink_first(slot, link, pool));
+    }
+    *place = 1;
+    extract_behind(slot, link, pool, place, f)
+}

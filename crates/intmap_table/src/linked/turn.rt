@@ -1,0 +1,27 @@
+//! Turning a chain round, as where each pair was put in front of those that came before it.
+ghost use Rattle.std.specs.Prelude.{◌≡◌, ◌^◌, ◌<◌, reverse};
+ghost use Rattle.intmap_table.specs.Tables.Nodes.{chain_of, IsChain, IsChainSet};
+
+use crate::linked::node::{NODE_LIMIT, NOWHERE};
+use crate::linked::pool::Pool;
+use std::alloc::Allocator;
+
+/// Turns the chain of a link round: the new link leads through the same pairs, the last one first.
+/// Each node of the chain gets another link, once.
+pub(crate) fn turn<P, A: Allocator>(pool: &mut Pool<P, A>, link: usize) -> usize
+    requires leads { IsChain pool.old.nodes link }
+    requires fits { link < 2 ^ 48 }
+    ensures chain { IsChainSet pool.old link (reverse (chain_of pool.old.nodes link)) pool.new result }
+    ensures fits { result < 2 ^ 48 }
+    ensures room { pool.new.room ≡ pool.old.room }
+{
+    let mut turned = NOWHERE;
+    let mut left = link;
+    while left < NODE_LIMIT {
+        let next = pool.link(left);
+        pool.set_link(left, turned);
+        turned = left;
+        left = next;
+    }
+    turned
+}
