@@ -19,7 +19,7 @@
 //     grep -v '^// Compilers: ' intmap.c | sha256sum
 //
 // Compilers: rattle-kit-13b logic dac8208d650f15bf; clang version 22.1.8
-// Sources: 87ce8d20215297e0fcbae5f44d41e922354ad771fd031b15abb047ca63b01ef1
+// Sources: 96bc88d4ad112e6e83633127c03b615c2acc0191ff70996ca1c66774b0be5840
 //
 // SPDX-License-Identifier: MIT
 //

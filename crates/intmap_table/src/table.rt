@@ -8,6 +8,7 @@
 pub(crate) mod asked;
 mod closures;
 mod grow;
+mod linked;
 pub mod locate;
 pub mod owned;
 mod slots;

@@ -1,0 +1,15 @@
+use Rattle.std.proofs.Common.{ℕ, ◌≡◌, ◌-◌, ◌<◌, ◌≤◌, length}
+use Rattle.intmap_table.specs.Tables.Rows.{row_at, turned}
+use Rattle.intmap_table.proofs.table.linked.Slots.turn_each.Given as goal
+
+-- the slots before this one are turned, and the others are as they were
+abbrev pub invariant-loop-index : goal.invariant-loop-index
+invariant-loop-index g l = record {
+  len : length l.self.rows ≡ length l.fn.self.rows;
+  done : (j : ℕ) → j < l.from → row_at l.self j ≡ turned (row_at l.fn.self j);
+  left : (j : ℕ) → l.from ≤ j → row_at l.self j ≡ row_at l.fn.self j;
+  room : l.self.room ≡ l.fn.self.room;
+}
+
+abbrev pub decreases-loop-index : goal.decreases-loop-index
+decreases-loop-index g l = length l.self.rows - l.from

@@ -1,0 +1,234 @@
+//! The slots of a table, whose further pairs lie in the nodes of one pool. Contracts see the pairs
+//! of each slot, its row, and how many more pairs that share a slot need no allocation. Which slots
+//! hold a pair is known here alone.
+//!
+//! `pairs` has the calls on a pair of one slot, `writing` that which lends a value and that which drops
+//! all pairs, `walk` the pairs by reference, and `clone` copies the slots. Of growth, `place` puts a
+//! pair into its new slot, and `grow` goes over the old ones.
+
+mod clone;
+mod grow;
+mod pairs;
+mod place;
+pub mod walk;
+mod writing;
+
+ghost use Rattle.std.specs.Prelude.{◌≡◌, ◌+◌, ◌^◌, ◌<◌, ◌≤◌, ℕ, [], count_by, length, nat_lt, position, replicate, IfNone, IfOk, IfSome, slice_index_or, vec_capacity};
+ghost use Rattle.intmap_table.specs.Classes.{IsCapacity, same_key};
+ghost use Rattle.intmap_table.specs.Reach.{through_first};
+ghost use Rattle.intmap_table.specs.Tables.Bits.{IsHeldWord};
+ghost use Rattle.intmap_table.specs.Tables.Nodes.{Empty};
+ghost use Rattle.intmap_table.specs.Tables.Rows.{row_at};
+ghost use Rattle.intmap_table.specs.Tables.Slots.{joined, IsNextRow};
+
+use crate::bits::{Bits, HeldWord};
+use crate::key::IntKey;
+use crate::linked::node::NOWHERE;
+use crate::linked::pool::Pool;
+use crate::linked::row;
+use crate::linked::slot::Slot;
+use crate::steps::Steps;
+use crate::table::stored::Stored;
+use std::alloc::{AllocError, Allocator};
+use std::marker::Model;
+use walk::Pairs;
+
+/// Slots, the nodes of their further pairs, and one bit for each slot, which says whether it holds
+/// a pair.
+#[derive(Drop)]
+pub(crate) struct Slots<K: IntKey, X, A: Allocator> {
+    /// Their number less one: a mask with exactly the bits that the number of a slot may have.
+    mask: usize,
+    bits: Bits<A>,
+    slots: Vec<Slot<(Stored<K>, X)>, A>,
+    pool: Pool<(Stored<K>, X), A>,
+}
+
+// Invariant: each slot's link leads through pairs of its own, and the bits mark the slots that hold
+// some.
+impl<K: IntKey, X, A: Allocator> Model for Slots<K, X, A> {
+    ghost use Rattle.intmap_table.specs.Tables.Nodes.{rows_in};
+    ghost use Rattle.intmap_table.specs.Tables.Rows.{Contents, AreRows};
+
+    ghost Value = { Contents K X };
+
+    ghost view = { λ s. record { rows = rows_in s.slots.items s.pool.nodes; room = s.pool.room } };
+
+    ghost invariant = { λ s. AreRows K.number_of s.slots.items s.pool s.bits s.mask };
+}
+
+impl<K: IntKey, X, A: Allocator> Slots<K, X, A> {
+    /// Their number.
+    pub(crate) fn len(&self) -> usize
+        ensures { result ≡ length self.now.rows }
+    {
+        self.slots.len()
+    }
+
+    /// Their number less one.
+    #[inline(always)]
+    pub(crate) fn mask(&self) -> usize
+        ensures { result + 1 ≡ length self.now.rows }
+    {
+        self.mask
+    }
+
+    /// How many of them hold a pair.
+    pub(crate) fn count(&self) -> usize
+        ensures { result ≡ count_by (λ row. nat_lt 0 (length row)) self.now.rows }
+    {
+        self.bits.count()
+    }
+
+    /// Whether a slot holds a pair.
+    #[inline(always)]
+    pub(crate) fn is_filled(&self, index: usize) -> bool
+        requires { index < length self.now.rows }
+        ensures { result ≡ nat_lt 0 (length (row_at self.now index)) }
+    {
+        !self.slots[index].is_empty()
+    }
+
+    /// The number of pairs of a slot.
+    pub(crate) fn row_len(&self, index: usize) -> usize
+        requires { index < length self.now.rows }
+        ensures { result ≡ length (row_at self.now index) }
+    {
+        row::len(&self.slots[index], &self.pool)
+    }
+
+    /// The place of the key's pair in a slot. The keys are compared from the front, up to the one
+    /// sought. Each comparison is one step.
+    #[inline(always)]
+    pub(crate) fn find(&self, index: usize, key: &K, steps: &mut Steps) -> Option<usize>
+        requires { index < length self.now.rows }
+        ensures place { result
+            ≡ position (λ p. same_key K.number_of key.now p.0) (row_at self.now index) }
+        ensures counted { steps.new ≡ steps.old + length
+            (through_first (λ p. same_key K.number_of key.now p.0) (row_at self.now index)) }
+    {
+        row::find(&self.slots[index], &self.pool, key, steps)
+    }
+
+    /// The place of the last pair of a slot.
+    pub(crate) fn last_place(&self, index: usize) -> usize
+        requires { 0 < length (row_at self.now index) }
+        ensures { result + 1 ≡ length (row_at self.now index) }
+    {
+        row::len(&self.slots[index], &self.pool) - 1
+    }
+
+    /// The stored key of the pair at a place of a slot.
+    #[inline(always)]
+    pub(crate) fn key_at(&self, index: usize, place: usize) -> &Stored<K>
+        requires { place < length (row_at self.now index) }
+        ensures { (p : K × X) → result.now ≡ (slice_index_or (row_at self.now index) place p).0 }
+    {
+        let pair = row::pair_at(&self.slots[index], &self.pool, place);
+        &pair.0
+    }
+
+    /// The value of the pair at a place of a slot.
+    #[inline(always)]
+    pub(crate) fn value_at(&self, index: usize, place: usize) -> &X
+        requires { place < length (row_at self.now index) }
+        ensures { (p : K × X) → result.now ≡ (slice_index_or (row_at self.now index) place p).1 }
+    {
+        let pair = row::pair_at(&self.slots[index], &self.pool, place);
+        &pair.1
+    }
+
+    /// Whether a slot has a pair at this place. `index` may be past the last slot.
+    #[inline(always)]
+    pub(crate) fn has_pair(&self, index: usize, place: usize) -> bool
+        ensures { result ≡ nat_lt place (length (row_at self.now index)) }
+    {
+        index <= self.mask && place < self.row_len(index)
+    }
+
+    /// Which slots from an index on hold a pair, as far as the word of this index says.
+    #[inline(always)]
+    pub(crate) fn hold(&self, from: usize) -> HeldWord
+        ensures { IsHeldWord (λ i. nat_lt 0 (length (row_at self.now i))) from result.at
+            result.word }
+    {
+        self.bits.hold(from)
+    }
+
+    /// The first slot from an index on that holds a pair, for which a word is held. Slots before the
+    /// index may change between two calls.
+    #[inline(always)]
+    pub(crate) fn next_in(&self, held: &mut HeldWord, from: usize) -> Option<usize>
+        requires { IsHeldWord (λ i. nat_lt 0 (length (row_at self.now i))) from held.old.at
+            held.old.word }
+        ensures some { IfSome result (IsNextRow self.now.rows from) }
+        ensures held { IfSome result (λ i. IsHeldWord (λ j. nat_lt 0 (length (row_at self.now j)))
+            (i + 1) held.new.at held.new.word) }
+        ensures none { IfNone result ((j : ℕ) → from ≤ j → row_at self.now j ≡ []) }
+        ensures stays { IfNone result (IsHeldWord (λ i. nat_lt 0 (length (row_at self.now i))) from
+            held.new.at held.new.word) }
+    {
+        self.bits.next_in(held, from)
+    }
+
+    /// The first slot from an index on that holds a pair.
+    #[inline(always)]
+    pub(crate) fn next_filled(&self, from: usize) -> Option<usize>
+        ensures some { IfSome result (IsNextRow self.now.rows from) }
+        ensures none { IfNone result ((j : ℕ) → from ≤ j → row_at self.now j ≡ []) }
+    {
+        let mut held = self.hold(from);
+        self.next_in(&mut held, from)
+    }
+
+    /// The pairs, slot after slot.
+    #[inline(always)]
+    pub(crate) fn pairs(&self) -> Pairs<'_, K, X, A>
+        ensures { result ≡ joined self.now.rows }
+    {
+        Pairs {
+            link: NOWHERE,
+            filled: self.bits.iter(),
+            slots: &self.slots,
+            pool: &self.pool,
+        }
+    }
+}
+
+/// Adds `count` slots without a pair, for which there is room.
+fn add_empty<P, A: Allocator>(slots: &mut Vec<Slot<P>, A>, count: usize)
+    requires none { slots.old.items ≡ [] }
+    requires room { count ≤ vec_capacity slots.old }
+    ensures { slots.new.items ≡ replicate count Empty }
+{
+    for added in 0..count {
+        slots.push_reserved(Slot::empty());
+    }
+}
+
+impl<K: IntKey, X: Drop, A: Allocator + Copy> Slots<K, X, A> {
+    /// The allocator of the slots.
+    pub(crate) fn allocator(&self) -> A {
+        *self.slots.allocator()
+    }
+
+    /// `capacity` slots without a pair, and room for `room` pairs that share a slot with another. It
+    /// allocates the slots, then their bits, then the nodes if there is to be room, and writes
+    /// nothing before.
+    pub(crate) fn new(alloc: A, capacity: usize, room: usize) -> Result<Slots<K, X, A>, AllocError>
+        requires { IsCapacity capacity }
+        ensures rows { IfOk result (λ made. made.rows ≡ replicate capacity []) }
+        ensures room { IfOk result (λ made. made.room ≡ room) }
+    {
+        let mut slots = Vec::with_capacity(alloc, capacity)?;
+        let bits = Bits::new(alloc, capacity)?;
+        let pool = Pool::with_room(alloc, room)?;
+        add_empty(&mut slots, capacity);
+        Ok(Slots {
+            mask: capacity - 1,
+            bits,
+            slots,
+            pool,
+        })
+    }
+}
