@@ -18,7 +18,7 @@
 //
 //     grep -v '^// Compilers: ' intmap.c | sha256sum
 //
-// Compilers: rattle-kit-13b logic dac8208d650f15bf; clang version 22.1.8
+// Compilers: rattle-kit-13f logic dac8208d650f15bf; clang version 22.1.8
 // Sources: 96bc88d4ad112e6e83633127c03b615c2acc0191ff70996ca1c66774b0be5840
 //
 // SPDX-License-Identifier: MIT
@@ -385,17 +385,6 @@ enum {
     INT_MAP_FACTOR = 96,
     INT_MAP_SIZE = 104
 };
-// Pairs in order, with room for further ones.
-// Slot<u64, Kept<u64>, Global>, in crates/intmap_table/src/slot.rt
-enum {
-    SLOT_HAS_FIRST = 0,
-    SLOT_KEY = 8,
-    SLOT_VALUE = 16,
-    SLOT_REST = 24,
-    SLOT_REST_LEN = 32,
-    SLOT_REST_ROOM = 40,
-    SLOT_SIZE = 48
-};
 // One bit for each index: whether it is marked.
 // Bits<Global>, in crates/intmap_table/src/bits.rt
 enum {
@@ -452,12 +441,12 @@ static ALIGNED NOINLINE struct byte_address handle_make_first(void);
 static ALIGNED NOINLINE void intmap_add_growing(char *result, char *map, uint64_t len, uint64_t slot, uint64_t key, uint64_t value);
 static ALIGNED uint8_t slots_grow(char *map, uint64_t capacity, bool may_be_lone);
 static ALIGNED void grow_reserve_slots_2(char *result, char *slots, uint64_t capacity);
-static ALIGNED NOINLINE uint8_t slot_reserve_behind(char *slot, uint64_t count);
+static ALIGNED NOINLINE uint8_t slot_reserve_behind(char *a0, uint64_t count);
 static ALIGNED NOINLINE void place_move_several(char *bits, char *slots, uint64_t slots_len, uint64_t index, char *buffer);
-static COLD bool vec_grow_amortized(char *vec, uint64_t a1);
+static COLD bool vec_grow_amortized(char *a0, uint64_t a1);
 static ALIGNED NOINLINE void edits_mirror(char *pair, char *pair_2, uint64_t a5);
 static ALIGNED NOINLINE struct byte_word slots_push_second(char *map, uint64_t index, uint64_t key, uint64_t value);
-static ALIGNED NOINLINE struct byte_word slot_push(char *slot, uint64_t key, uint64_t value);
+static ALIGNED NOINLINE struct byte_word slot_push(char *a0, uint64_t key, uint64_t value);
 static ALWAYS_INLINE void do_intmap_place(char *word, uint64_t key, char *at);
 static ALWAYS_INLINE uint32_t do_intmap_version(void);
 static ALWAYS_INLINE uint64_t do_intmap_capacity(char *word);
@@ -484,8 +473,8 @@ static ALWAYS_INLINE uint32_t do_intmap_set_load_factor(char *handle, uint64_t t
 
 // core::mem::drop, in Rattle's library core
 static ALIGNED void mem_drop(uint8_t a0, char *map) {
-    char *words, *lone, *shared, *slot;
-    uint64_t lone_room, shared_len, shared_room, words_room, index, next_index;
+    char *words, *lone, *shared, *r9;
+    uint64_t lone_room, shared_len, shared_room, words_room, r0_06, r12;
     if ((a0 & 1) == 0) {
         return;
     }
@@ -504,17 +493,17 @@ static ALIGNED void mem_drop(uint8_t a0, char *map) {
         rattle_dealloc(lone);
     }
     if (shared_len != 0) {
-        index = 0;
+        r0_06 = 0;
         for (;;) {
-            slot = shared + (index * SLOT_SIZE);
-            if (load64(slot + SLOT_REST_ROOM) != 0) {
-                rattle_dealloc(load_address(slot + SLOT_REST));
+            r9 = shared + (r0_06 * 48);
+            if (load64(r9 + 40) != 0) {
+                rattle_dealloc(load_address(r9 + 24));
             }
-            next_index = index + 1;
-            if (next_index == shared_len) {
+            r12 = r0_06 + 1;
+            if (r12 == shared_len) {
                 break;
             }
-            index = next_index;
+            r0_06 = r12;
         }
     }
     if (shared_room == 0) {
@@ -886,20 +875,19 @@ static ALIGNED NOINLINE struct byte_address handle_make_first(void) {
 // Adds the pair of an absent key, if the new length exceeds the load factor, and returns where it is.
 // intmap::map::IntMap::add_growing, in crates/intmap/src/map/insert.rt
 static ALIGNED NOINLINE void intmap_add_growing(char *result, char *map, uint64_t len, uint64_t slot, uint64_t key, uint64_t value) {
-    uint64_t lone_len, r13, r0, r3_09, r31, r8_0, r2, hash, index, pair, rest_len, r1, r12, r12_2, rest_len_2,
-        lone_len_2, index_2, r8, r8_2, bits, r20, place, bits_2, value_2, value_3, rest_len_3, value_4, place_2,
-        value_5, value_6, value_7, value_8, rest_len_4, r12_3, shared_len, r22, shared_room, r10_014, index_3, r32,
-        shared_len_2, shared_room_2, index_4, next_index, shared_len_3, words_len, bits_3, r6_2, r2_2, rest_len_5,
-        r4_2, r5_3, r5_4, r5_7, r5_8, r5_9, r5_11, r5_12, r5_14, index_5, r16, r20_2, r4_4, rest_len_6, r4_6,
-        lone_room, words_room, r33, bits_4, r60, r5_15, r5_16, r5_18, r27, r40, key_2, value_9, index_6, r16_2,
-        r20_3, rest_len_7, rest_len_8, r4_8, r4_9, rest_len_9, r17_2;
+    uint64_t lone_len, r13, r0, r3_09, r31, r8_0, r2, hash, index, r3_3, r3_5, r1, r12, r12_2, r17_4, lone_len_2,
+        index_2, r8, r8_2, bits, r20, r0_2, bits_2, value_2, r0_3, r3_6, r0_4, r28, r2_2, r4, r2_3, r4_2, r2_4,
+        r12_3, shared_len, r22, shared_room, r10_014, r2_5, r32, shared_len_2, shared_room_2, r0_06, r12_4,
+        shared_len_3, words_len, bits_3, r6_3, r2_6, r4_4, r4_5, r5_3, r5_4, r5_7, r5_8, r5_9, r5_11, r5_12, r5_14,
+        index_3, r16, r20_3, r4_7, r9_4, r4_10, lone_room, words_room, r33, bits_4, r60, r5_15, r5_16, r5_18, r27,
+        r40, key_2, value_3, index_4, r16_2, r20_4, r4_12, r9_5, r4_14, r4_15, common_ret_op, r17_2;
     u128 r10, r13_2, r187, r15, r18, r17;
     bool r5, r1_0_in;
-    char *slot_2, *pair_2, *slot_3, *pair_3, *lone, *shared, *r11_2, *slot_4, *slot_5, *slot_6, *r11_3, *slot_7,
-        *slot_8, *pair_4, *rest, *pair_5, *pair_6, *slot_9, *r8_3, *r5_2, *shared_2, *slot_10, *shared_3, *slot_11,
-        *shared_4, *lone_2, *r6, *words, *r4, *r5_5, *r5_10, *r5_13, *r11_4, *shared_5, *slot_12, *r4_3, *rest_2,
-        *r10_2, *r4_5, *r15_2, *lone_3, *words_2, *r5_17, *slot_13, *r11_5, *slot_14, *rest_3, *r10_3, *r4_7, *r15_3;
-    uint8_t has_first, r3, has_pair, r24, r17_3, has_pair_2, r59, has_pair_3, has_first_2, has_pair_4;
+    char *r11_2, *r3_4, *slot_2, *r6, *lone, *shared, *r11_3, *slot_3, *r69, *r11_4, *r11_5, *slot_4, *r9, *r23,
+        *r18_2, *r23_2, *x15, *r9_2, *r8_3, *r5_2, *shared_2, *r20_2, *shared_3, *r9_3, *shared_4, *lone_2, *r6_2,
+        *words, *r4_3, *r5_5, *r5_10, *r5_13, *r11_7, *shared_5, *r69_2, *r4_6, *r4_8, *r10_2, *r4_9, *r15_2,
+        *lone_3, *words_2, *r5_17, *slot_5, *r11_8, *r69_3, *r4_11, *r10_3, *r4_13, *r15_3;
+    uint8_t r3, r3_2, has_pair, r24, r17_3, has_pair_2, r59, has_pair_3, r11_6, has_pair_4;
     struct byte_word r86;
     struct word_word block, block_2;
     char *dangling = (char *)no_bytes;
@@ -943,27 +931,27 @@ static ALIGNED NOINLINE void intmap_add_growing(char *result, char *map, uint64_
     index = r2 & hash;
     r5 = lone_len == 0;
     if (r5) {
-        slot_2 = load_address(map + INT_MAP_SHARED) + (slot * SLOT_SIZE);
-        has_first = load8(slot_2 + SLOT_HAS_FIRST);
-        r3 = has_first;
-        pair = (has_first == 1) ? ((uint64_t)(uintptr_t)(slot_2 + SLOT_KEY)) : 0;
-        pair_2 = load_address(slot_2 + SLOT_REST);
-        rest_len = load64(slot_2 + SLOT_REST_LEN);
+        r11_2 = load_address(map + INT_MAP_SHARED) + (slot * 48);
+        r3 = load8(r11_2);
+        r3_2 = r3;
+        r3_3 = (r3 == 1) ? ((uint64_t)(uintptr_t)(r11_2 + 8)) : 0;
+        r3_4 = load_address(r11_2 + 24);
+        r3_5 = load64(r11_2 + 32);
     } else {
-        slot_3 = load_address(map + INT_MAP_LONE) + (slot * LONE_SIZE);
-        has_pair = load8(slot_3 + LONE_HAS_PAIR);
-        r3 = has_pair;
-        pair = (has_pair == 1) ? ((uint64_t)(uintptr_t)(slot_3 + LONE_KEY)) : 0;
-        pair_2 = dangling;
-        rest_len = 0;
+        slot_2 = load_address(map + INT_MAP_LONE) + (slot * LONE_SIZE);
+        has_pair = load8(slot_2 + LONE_HAS_PAIR);
+        r3_2 = has_pair;
+        r3_3 = (has_pair == 1) ? ((uint64_t)(uintptr_t)(slot_2 + LONE_KEY)) : 0;
+        r3_4 = dangling;
+        r3_5 = 0;
     }
-    if (r3 == 1) {
-        if (((load64(((char *)(uintptr_t)pair) + PAIR_KEY) * MULTIPLIER) & r2) == index) {
+    if (r3_2 == 1) {
+        if (((load64((char *)(uintptr_t)r3_3) * MULTIPLIER) & r2) == index) {
             goto join_3_2;
         }
     }
-    pair_3 = pair_2;
-    r1 = rest_len;
+    r6 = r3_4;
+    r1 = r3_5;
     for (;;) {
         if (r1 == 0) {
             r24 = slots_grow(map, r0, true);
@@ -972,36 +960,36 @@ static ALIGNED NOINLINE void intmap_add_growing(char *result, char *map, uint64_
                 r12_2 = 1;
                 r17_2 = 0;
                 r17_3 = 0;
-                rest_len_2 = 0;
+                r17_4 = 0;
                 goto join_7_4;
             }
             lone = load_address(map + INT_MAP_LONE);
             lone_len_2 = load64(map + INT_MAP_LONE_LEN);
             shared = load_address(map + INT_MAP_SHARED);
             index_2 = ((lone_len_2 - 1) + load64(map + INT_MAP_SHARED_LEN)) & hash;
-            r11_2 = load_address(map + INT_MAP_WORDS) + ((index_2 >> 3) & UINT64_C(2305843009213693944));
-            store64(r11_2, ((uint64_t)1 << (index_2 & 63)) | load64(r11_2));
+            r11_3 = load_address(map + INT_MAP_WORDS) + ((index_2 >> 3) & UINT64_C(2305843009213693944));
+            store64(r11_3, ((uint64_t)1 << (index_2 & 63)) | load64(r11_3));
             if (index_2 >= lone_len_2) {
-                slot_5 = shared + (index_2 * SLOT_SIZE);
-                store64(slot_5 + SLOT_HAS_FIRST, 1);
-                store64(slot_5 + SLOT_KEY, key);
-                store64(slot_5 + SLOT_VALUE, value);
+                r69 = shared + (index_2 * 48);
+                store64(r69, 1);
+                store64(r69 + 8, key);
+                store64(r69 + 16, value);
                 goto arm_1_5;
             }
-            slot_4 = lone + (index_2 * LONE_SIZE);
-            has_pair_2 = load8(slot_4 + LONE_HAS_PAIR);
-            store64(slot_4 + LONE_HAS_PAIR, 1);
-            store64(slot_4 + LONE_KEY, key);
-            store64(slot_4 + LONE_VALUE, value);
+            slot_3 = lone + (index_2 * LONE_SIZE);
+            has_pair_2 = load8(slot_3 + LONE_HAS_PAIR);
+            store64(slot_3 + LONE_HAS_PAIR, 1);
+            store64(slot_3 + LONE_KEY, key);
+            store64(slot_3 + LONE_VALUE, value);
             if (has_pair_2 == 0) {
                 goto arm_1_5;
             }
             abort();
         }
-        if (((load64(pair_3 + PAIR_KEY) * MULTIPLIER) & r2) == index) {
+        if (((load64(r6) * MULTIPLIER) & r2) == index) {
             break;
         }
-        pair_3 = pair_3 + 16;
+        r6 = r6 + 16;
         r1 = r1 - 1;
     }
 join_3_2:;
@@ -1026,12 +1014,12 @@ join_3_2:;
                     store64(map + INT_MAP_SHARED_ROOM, shared_room);
                 } else {
                     r10_014 = 0;
-                    index_3 = shared_len;
+                    r2_5 = shared_len;
                     for (;;) {
-                        slot_10 = shared_2 + (index_3 * SLOT_SIZE);
-                        memset(slot_10, 0, 24);
-                        store_address(slot_10 + SLOT_REST, dangling);
-                        memset(slot_10 + SLOT_REST_LEN, 0, 16);
+                        r20_2 = shared_2 + (r2_5 * 48);
+                        memset(r20_2, 0, 24);
+                        store_address(r20_2 + 24, dangling);
+                        memset(r20_2 + 32, 0, 16);
                         r32 = r10_014 + 1;
                         if (r32 == r22) {
                             shared_3 = load_address(map + INT_MAP_SHARED);
@@ -1041,17 +1029,17 @@ join_3_2:;
                             store64(map + INT_MAP_SHARED_LEN, r0);
                             store64(map + INT_MAP_SHARED_ROOM, shared_room);
                             if (shared_len_2 != 0) {
-                                index_4 = 0;
+                                r0_06 = 0;
                                 for (;;) {
-                                    slot_11 = shared_3 + (index_4 * SLOT_SIZE);
-                                    if (load64(slot_11 + SLOT_REST_ROOM) != 0) {
-                                        rattle_dealloc(load_address(slot_11 + SLOT_REST));
+                                    r9_3 = shared_3 + (r0_06 * 48);
+                                    if (load64(r9_3 + 40) != 0) {
+                                        rattle_dealloc(load_address(r9_3 + 24));
                                     }
-                                    next_index = index_4 + 1;
-                                    if (next_index == shared_len_2) {
+                                    r12_4 = r0_06 + 1;
+                                    if (r12_4 == shared_len_2) {
                                         break;
                                     }
-                                    index_4 = next_index;
+                                    r0_06 = r12_4;
                                 }
                             }
                             if (shared_room_2 == 0) {
@@ -1061,7 +1049,7 @@ join_3_2:;
                             break;
                         }
                         r10_014 = r32;
-                        index_3 = index_3 + 1;
+                        r2_5 = r2_5 + 1;
                     }
                 }
                 shared_4 = load_address(map + INT_MAP_SHARED);
@@ -1070,22 +1058,22 @@ join_3_2:;
                 words_len = load64(map + INT_MAP_WORDS_LEN);
                 if (words_len == 0) {
                     bits_3 = 0;
-                    r6 = (char *)no_bytes;
-                    r6_2 = 0;
+                    r6_2 = (char *)no_bytes;
+                    r6_3 = 0;
                 } else {
                     words = load_address(map + INT_MAP_WORDS);
                     bits_3 = load64(words);
-                    r6 = words + 8;
-                    r6_2 = words_len - 1;
+                    r6_2 = words + 8;
+                    r6_3 = words_len - 1;
                 }
-                r2_2 = shared_len_3 - 1;
-                r4 = r8_3;
-                rest_len_5 = 0;
-                r4_2 = 1;
+                r2_6 = shared_len_3 - 1;
+                r4_3 = r8_3;
+                r4_4 = 0;
+                r4_5 = 1;
                 r5_3 = bits_3;
                 r5_4 = 0;
-                r5_5 = r6;
-                r5_7 = r6_2;
+                r5_5 = r6_2;
+                r5_7 = r6_3;
                 for (;;) {
                     r5_8 = r5_3;
                     r5_9 = r5_4;
@@ -1098,40 +1086,40 @@ join_3_2:;
                             r5_14 = r5_9;
                             for (;;) {
                                 if (r5_12 == 0) {
-                                    index_5 = (load64(map + INT_MAP_SHARED_LEN) - 1) & hash;
-                                    r11_4 = r5_2 + ((index_5 >> 3) & UINT64_C(2305843009213693944));
-                                    r16 = load64(r11_4);
-                                    r20_2 = (uint64_t)1 << (index_5 & 63);
+                                    index_3 = (load64(map + INT_MAP_SHARED_LEN) - 1) & hash;
+                                    r11_7 = r5_2 + ((index_3 >> 3) & UINT64_C(2305843009213693944));
+                                    r16 = load64(r11_7);
+                                    r20_3 = (uint64_t)1 << (index_3 & 63);
                                     shared_5 = load_address(map + INT_MAP_SHARED);
-                                    store64(r11_4, r20_2 | r16);
-                                    slot_12 = shared_5 + (index_5 * SLOT_SIZE);
-                                    if ((r20_2 & r16) == 0) {
-                                        store64(slot_12 + SLOT_HAS_FIRST, 1);
-                                        store64(slot_12 + SLOT_KEY, key);
-                                        store64(slot_12 + SLOT_VALUE, value);
-                                        r4_3 = r4;
-                                        r4_4 = r4_2;
+                                    store64(r11_7, r20_3 | r16);
+                                    r69_2 = shared_5 + (index_3 * 48);
+                                    if ((r20_3 & r16) == 0) {
+                                        store64(r69_2, 1);
+                                        store64(r69_2 + 8, key);
+                                        store64(r69_2 + 16, value);
+                                        r4_6 = r4_3;
+                                        r4_7 = r4_5;
                                     } else {
-                                        if (load64(slot_12 + SLOT_REST_ROOM) == 0) {
-                                            rest_2 = load_address(slot_12 + SLOT_REST);
-                                            store_address(slot_12 + SLOT_REST, r4);
-                                            store64(slot_12 + SLOT_REST_ROOM, r4_2);
-                                            r10_2 = r4;
-                                            rest_len_6 = rest_len_5;
-                                            r4_5 = rest_2;
-                                            r4_6 = 0;
+                                        if (load64(r69_2 + 40) == 0) {
+                                            r4_8 = load_address(r69_2 + 24);
+                                            store_address(r69_2 + 24, r4_3);
+                                            store64(r69_2 + 40, r4_5);
+                                            r10_2 = r4_3;
+                                            r9_4 = r4_4;
+                                            r4_9 = r4_8;
+                                            r4_10 = 0;
                                         } else {
-                                            r10_2 = load_address(slot_12 + SLOT_REST);
-                                            rest_len_6 = load64(slot_12 + SLOT_REST_LEN);
-                                            r4_5 = r4;
-                                            r4_6 = r4_2;
+                                            r10_2 = load_address(r69_2 + 24);
+                                            r9_4 = load64(r69_2 + 32);
+                                            r4_9 = r4_3;
+                                            r4_10 = r4_5;
                                         }
-                                        r15_2 = r10_2 + (rest_len_6 << 4);
+                                        r15_2 = r10_2 + (r9_4 << 4);
                                         store64(r15_2, key);
                                         store64(r15_2 + 8, value);
-                                        store64(slot_12 + SLOT_REST_LEN, rest_len_6 + 1);
-                                        r4_3 = r4_5;
-                                        r4_4 = r4_6;
+                                        store64(r69_2 + 32, r9_4 + 1);
+                                        r4_6 = r4_9;
+                                        r4_7 = r4_10;
                                     }
                                     lone_3 = load_address(map + INT_MAP_LONE);
                                     lone_room = load64(map + INT_MAP_LONE_ROOM);
@@ -1148,8 +1136,8 @@ join_3_2:;
                                     if (words_room != 0) {
                                         rattle_dealloc(words_2);
                                     }
-                                    if (r4_4 != 0) {
-                                        rattle_dealloc(r4_3);
+                                    if (r4_7 != 0) {
+                                        rattle_dealloc(r4_6);
                                     }
                                     goto arm_1_5;
                                 }
@@ -1175,54 +1163,54 @@ join_3_2:;
                         }
                         r27 = low_zeros(r5_15);
                         r40 = (r5_15 - 1) & r5_15;
-                        slot_13 = lone_2 + ((r5_16 + r27) * LONE_SIZE);
-                        key_2 = load_key(slot_13 + LONE_KEY);
-                        value_9 = load64(slot_13 + LONE_VALUE);
-                        has_pair_4 = load8(slot_13 + LONE_HAS_PAIR);
-                        memset(slot_13, 0, 24);
+                        slot_5 = lone_2 + ((r5_16 + r27) * LONE_SIZE);
+                        key_2 = load_key(slot_5 + LONE_KEY);
+                        value_3 = load64(slot_5 + LONE_VALUE);
+                        has_pair_4 = load8(slot_5 + LONE_HAS_PAIR);
+                        memset(slot_5, 0, 24);
                         if (has_pair_4 != 1) {
                             abort();
                         }
-                        index_6 = (key_2 * MULTIPLIER) & r2_2;
-                        r11_5 = r5_2 + ((index_6 >> 3) & UINT64_C(2305843009213693944));
-                        r16_2 = load64(r11_5);
-                        r20_3 = (uint64_t)1 << (index_6 & 63);
-                        store64(r11_5, r16_2 | r20_3);
-                        slot_14 = shared_4 + (index_6 * SLOT_SIZE);
-                        if ((r16_2 & r20_3) != 0) {
-                            if (load64(slot_14 + SLOT_REST_ROOM) == 0) {
-                                rest_3 = load_address(slot_14 + SLOT_REST);
-                                rest_len_7 = load64(slot_14 + SLOT_REST_LEN);
-                                store_address(slot_14 + SLOT_REST, r4);
-                                store64(slot_14 + SLOT_REST_ROOM, r4_2);
-                                r10_3 = r4;
-                                rest_len_8 = rest_len_5;
-                                r4_7 = rest_3;
-                                r4_8 = rest_len_7;
-                                r4_9 = 0;
+                        index_4 = (key_2 * MULTIPLIER) & r2_6;
+                        r11_8 = r5_2 + ((index_4 >> 3) & UINT64_C(2305843009213693944));
+                        r16_2 = load64(r11_8);
+                        r20_4 = (uint64_t)1 << (index_4 & 63);
+                        store64(r11_8, r16_2 | r20_4);
+                        r69_3 = shared_4 + (index_4 * 48);
+                        if ((r16_2 & r20_4) != 0) {
+                            if (load64(r69_3 + 40) == 0) {
+                                r4_11 = load_address(r69_3 + 24);
+                                r4_12 = load64(r69_3 + 32);
+                                store_address(r69_3 + 24, r4_3);
+                                store64(r69_3 + 40, r4_5);
+                                r10_3 = r4_3;
+                                r9_5 = r4_4;
+                                r4_13 = r4_11;
+                                r4_14 = r4_12;
+                                r4_15 = 0;
                             } else {
-                                r10_3 = load_address(slot_14 + SLOT_REST);
-                                rest_len_8 = load64(slot_14 + SLOT_REST_LEN);
-                                r4_7 = r4;
-                                r4_8 = rest_len_5;
-                                r4_9 = r4_2;
+                                r10_3 = load_address(r69_3 + 24);
+                                r9_5 = load64(r69_3 + 32);
+                                r4_13 = r4_3;
+                                r4_14 = r4_4;
+                                r4_15 = r4_5;
                             }
-                            r15_3 = r10_3 + (rest_len_8 << 4);
+                            r15_3 = r10_3 + (r9_5 << 4);
                             store64(r15_3, key_2);
-                            store64(r15_3 + 8, value_9);
-                            store64(slot_14 + SLOT_REST_LEN, rest_len_8 + 1);
-                            r4 = r4_7;
-                            rest_len_5 = r4_8;
-                            r4_2 = r4_9;
+                            store64(r15_3 + 8, value_3);
+                            store64(r69_3 + 32, r9_5 + 1);
+                            r4_3 = r4_13;
+                            r4_4 = r4_14;
+                            r4_5 = r4_15;
                             r5_3 = r40;
                             r5_4 = r5_16;
                             r5_5 = r5_17;
                             r5_7 = r5_18;
                             break;
                         }
-                        store64(slot_14 + SLOT_HAS_FIRST, 1);
-                        store64(slot_14 + SLOT_KEY, key_2);
-                        store64(slot_14 + SLOT_VALUE, value_9);
+                        store64(r69_3, 1);
+                        store64(r69_3 + 8, key_2);
+                        store64(r69_3 + 16, value_3);
                         r5_8 = r40;
                         r5_9 = r5_16;
                         r5_10 = r5_17;
@@ -1236,146 +1224,146 @@ join_3_2:;
         r12_2 = 1;
         r17_2 = 0;
         r17_3 = 0;
-        rest_len_2 = 0;
+        r17_4 = 0;
         goto join_7_4;
     }
-    r8 = slot * SLOT_SIZE;
-    slot_6 = load_address(map + INT_MAP_SHARED) + r8;
-    if ((load8(slot_6 + SLOT_HAS_FIRST) & 1) != 0) {
-        r1_0_in = load64(slot_6 + SLOT_REST_LEN) == load64(slot_6 + SLOT_REST_ROOM);
+    r8 = slot * 48;
+    r11_4 = load_address(map + INT_MAP_SHARED) + r8;
+    if ((load8(r11_4) & 1) != 0) {
+        r1_0_in = load64(r11_4 + 32) == load64(r11_4 + 40);
     } else {
         r1_0_in = false;
     }
     r8_2 = (slot >> 3) & UINT64_C(2305843009213693944);
-    r11_3 = load_address(map + INT_MAP_WORDS) + r8_2;
-    bits = load64(r11_3);
+    r11_5 = load_address(map + INT_MAP_WORDS) + r8_2;
+    bits = load64(r11_5);
     r20 = (uint64_t)1 << (slot & 63);
-    store64(r11_3, bits | r20);
+    store64(r11_5, bits | r20);
     if ((bits & r20) == 0) {
-        store64(slot_6 + SLOT_HAS_FIRST, 1);
-        store64(slot_6 + SLOT_KEY, key);
-        store64(slot_6 + SLOT_VALUE, value);
-        place = 0;
+        store64(r11_4, 1);
+        store64(r11_4 + 8, key);
+        store64(r11_4 + 16, value);
+        r0_2 = 0;
     } else {
-        r86 = slot_push(slot_6, key, value);
+        r86 = slot_push(r11_4, key, value);
         if (r86.first != 0) {
             r12 = r86.second;
             r12_2 = 1;
             r17_2 = 0;
             r17_3 = 0;
-            rest_len_2 = 0;
+            r17_4 = 0;
             goto join_7_4;
         }
-        place = r86.second;
+        r0_2 = r86.second;
     }
     r59 = slots_grow(map, r0, false);
     if ((r59 & 1) != 0) {
         bits_2 = load64(load_address(map + INT_MAP_WORDS) + r8_2);
         if (slot < load64(map + INT_MAP_LONE_LEN)) {
-            slot_7 = load_address(map + INT_MAP_LONE) + (slot * LONE_SIZE);
-            value_2 = load64(slot_7 + LONE_VALUE);
-            has_pair_3 = load8(slot_7 + LONE_HAS_PAIR);
-            memset(slot_7, 0, 24);
+            slot_4 = load_address(map + INT_MAP_LONE) + (slot * LONE_SIZE);
+            value_2 = load64(slot_4 + LONE_VALUE);
+            has_pair_3 = load8(slot_4 + LONE_HAS_PAIR);
+            memset(slot_4, 0, 24);
             if (has_pair_3 != 1) {
                 abort();
             }
             store64(load_address(map + INT_MAP_WORDS) + r8_2, bits_2 & (r20 ^ UINT64_C(18446744073709551615)));
-            value_3 = value_2;
+            r0_3 = value_2;
         } else {
-            slot_8 = load_address(map + INT_MAP_SHARED) + r8;
-            rest_len_3 = load64(slot_8 + SLOT_REST_LEN);
-            if (rest_len_3 == 0) {
-                value_4 = load64(slot_8 + SLOT_VALUE);
-                has_first_2 = load8(slot_8 + SLOT_HAS_FIRST);
-                memset(slot_8, 0, 24);
-                if (has_first_2 == 1) {
+            r9 = load_address(map + INT_MAP_SHARED) + r8;
+            r3_6 = load64(r9 + 32);
+            if (r3_6 == 0) {
+                r0_4 = load64(r9 + 16);
+                r11_6 = load8(r9);
+                memset(r9, 0, 24);
+                if (r11_6 == 1) {
                     store64(load_address(map + INT_MAP_WORDS) + r8_2, bits_2 & (r20 ^ UINT64_C(18446744073709551615)));
-                    value_3 = value_4;
+                    r0_3 = r0_4;
                     goto after_Slots_take_at;
                 }
             }
-            place_2 = rest_len_3 - 1;
-            store64(slot_8 + SLOT_REST_LEN, place_2);
-            if (place == 0) {
-                if (load8(slot_8 + SLOT_HAS_FIRST) != 1) {
+            r28 = r3_6 - 1;
+            store64(r9 + 32, r28);
+            if (r0_2 == 0) {
+                if (load8(r9) != 1) {
                     abort();
                 }
-                pair_4 = load_address(slot_8 + SLOT_REST) + (place_2 << 4);
-                value_5 = load64(pair_4 + PAIR_VALUE);
-                value_6 = load64(slot_8 + SLOT_VALUE);
-                store64(slot_8 + SLOT_KEY, load64(pair_4 + PAIR_KEY));
-                store64(slot_8 + SLOT_VALUE, value_5);
-                value_3 = value_6;
+                r23 = load_address(r9 + 24) + (r28 << 4);
+                r2_2 = load64(r23 + 8);
+                r4 = load64(r9 + 16);
+                store64(r9 + 8, load64(r23));
+                store64(r9 + 16, r2_2);
+                r0_3 = r4;
             } else {
-                rest = load_address(slot_8 + SLOT_REST);
-                pair_5 = rest + (place_2 << 4);
-                value_7 = load64(pair_5 + PAIR_VALUE);
-                if (place == rest_len_3) {
-                    value_3 = value_7;
+                r18_2 = load_address(r9 + 24);
+                r23_2 = r18_2 + (r28 << 4);
+                r2_3 = load64(r23_2 + 8);
+                if (r0_2 == r3_6) {
+                    r0_3 = r2_3;
                 } else {
-                    pair_6 = rest + (place << 4);
-                    value_8 = load64(pair_6 - 8);
-                    store64(pair_6 - 16, load64(pair_5 + PAIR_KEY));
-                    store64(pair_6 - 8, value_7);
-                    value_3 = value_8;
+                    x15 = r18_2 + (r0_2 << 4);
+                    r4_2 = load64(x15 - 8);
+                    store64(x15 - 16, load64(r23_2));
+                    store64(x15 - 8, r2_3);
+                    r0_3 = r4_2;
                 }
             }
         }
     after_Slots_take_at:;
         if (!r1_0_in) {
-            r12 = value_3;
+            r12 = r0_3;
             r12_2 = 1;
             r17_2 = 0;
             r17_3 = 0;
-            rest_len_2 = 0;
+            r17_4 = 0;
             goto join_7_4;
         }
         if (load64(map + INT_MAP_LONE_LEN) > slot) {
-            r12 = value_3;
+            r12 = r0_3;
             r12_2 = 1;
             r17_2 = 0;
             r17_3 = 0;
-            rest_len_2 = 0;
+            r17_4 = 0;
             goto join_7_4;
         }
-        slot_9 = load_address(map + INT_MAP_SHARED) + r8;
-        rest_len_4 = load64(slot_9 + SLOT_REST_LEN);
-        if (load64(slot_9 + SLOT_REST_ROOM) <= rest_len_4) {
-            r12 = value_3;
+        r9_2 = load_address(map + INT_MAP_SHARED) + r8;
+        r2_4 = load64(r9_2 + 32);
+        if (load64(r9_2 + 40) <= r2_4) {
+            r12 = r0_3;
             r12_2 = 1;
             r17_2 = 0;
             r17_3 = 0;
-            rest_len_2 = 0;
+            r17_4 = 0;
             goto join_7_4;
         }
-        if (rest_len_4 == 0) {
-            rattle_dealloc(load_address(slot_9 + SLOT_REST));
-            store_address(slot_9 + SLOT_REST, dangling);
-            memset(slot_9 + SLOT_REST_LEN, 0, 16);
-            r12 = value_3;
+        if (r2_4 == 0) {
+            rattle_dealloc(load_address(r9_2 + 24));
+            store_address(r9_2 + 24, dangling);
+            memset(r9_2 + 32, 0, 16);
+            r12 = r0_3;
             r12_2 = 1;
             r17_2 = 0;
             r17_3 = 0;
-            rest_len_2 = 0;
+            r17_4 = 0;
             goto join_7_4;
         }
-        r12_3 = rest_len_4 << 4;
-        block = rattle_realloc(load_address(slot_9 + SLOT_REST), r12_3, r12_3, 8);
+        r12_3 = r2_4 << 4;
+        block = rattle_realloc(load_address(r9_2 + 24), r12_3, r12_3, 8);
         if ((block.first & 1) == 0) {
-            r12 = value_3;
+            r12 = r0_3;
             r12_2 = 1;
             r17_2 = 0;
             r17_3 = 0;
-            rest_len_2 = 0;
+            r17_4 = 0;
             goto join_7_4;
         }
-        store_address(slot_9 + SLOT_REST, (char *)(uintptr_t)block.second);
-        store64(slot_9 + SLOT_REST_ROOM, rest_len_4);
-        r12 = value_3;
+        store_address(r9_2 + 24, (char *)(uintptr_t)block.second);
+        store64(r9_2 + 40, r2_4);
+        r12 = r0_3;
         r12_2 = 1;
         r17_2 = 0;
         r17_3 = 0;
-        rest_len_2 = 0;
+        r17_4 = 0;
         goto join_7_4;
     }
 arm_1_5:;
@@ -1383,9 +1371,9 @@ arm_1_5:;
         if (load8((load_address(map + INT_MAP_LONE) + (index * LONE_SIZE)) + LONE_HAS_PAIR) != 1) {
             abort();
         }
-        rest_len_9 = 0;
+        common_ret_op = 0;
     } else {
-        rest_len_9 = load64((load_address(map + INT_MAP_SHARED) + (index * SLOT_SIZE)) + SLOT_REST_LEN);
+        common_ret_op = load64((load_address(map + INT_MAP_SHARED) + (index * 48)) + 32);
     }
     store64(map + INT_MAP_LEN, len);
     store64(map + INT_MAP_THRESHOLD, r8_0);
@@ -1393,41 +1381,39 @@ arm_1_5:;
     r12_2 = 0;
     r17_2 = (uint64_t)((index >> 8) & UINT64_C(72057594037927935));
     r17_3 = (uint8_t)index;
-    rest_len_2 = rest_len_9;
+    r17_4 = common_ret_op;
 join_7_4:;
     store64(result, r12_2);
     store64(result + 8, r12);
     store8(result + 16, r17_3);
     store_bytes(result + 17, r17_2, 7);
-    store64(result + 24, rest_len_2);
+    store64(result + 24, r17_4);
 }
 
 // Moves all pairs, in the order of the walk, to their slots among `capacity` slots.
 // intmap_table::table::slots::Slots::grow, in crates/intmap_table/src/table/slots/grow.rt
 static ALIGNED uint8_t slots_grow(char *map, uint64_t capacity, bool may_be_lone) {
     char *shared, *r6, *words, *r4_4, *r4_7, *r6_3, *lone, *lone_2, *lone_3, *shared_2, *r6_5, *words_2, *r6_9,
-        *r6_12, *shared_3, *slot, *words_3, *r6_16, *slot_2, *rest, *pair, *pair_2, *r11, *r69, *r10, *r15, *slot_3,
-        *r4_11, *slot_4, *rest_2, *r1_2, *r8_4, *r8_6, *shared_4, *slot_5, *shared_5, *slot_6, *shared_6, *r6_18,
-        *words_4, *r56, *r8_9, *r8_12, *r13_2, *shared_7, *r6_20, *words_5, *r3_4, *r3_7, *words_6, *r3_11, *slot_7,
-        *r11_2, *slot_8, *r8_16, *slot_9, *rest_3, *r20_4, *r20_5, *shared_8, *slot_10, *r6_22, *lone_4, *lone_5,
-        *lone_6, *r6_24, *words_7, *r4_15, *r4_18, *words_8, *r4_22, *slot_11, *r11_3, *r69_2, *r10_2, *r15_2,
-        *slot_12;
+        *r6_12, *shared_3, *r9, *words_3, *r6_16, *r45, *r13, *x15, *x16, *r11, *r69, *r10, *r15, *slot, *r4_13,
+        *r41, *r4_15, *r1_4, *r8_4, *r8_6, *shared_4, *r20_4, *shared_5, *r9_3, *shared_6, *r6_19, *words_4, *r56,
+        *r8_9, *r8_12, *r13_3, *shared_7, *r6_21, *words_5, *r3_5, *r3_8, *words_6, *r3_12, *r30, *r11_3, *r69_2,
+        *r8_16, *r54, *r4_16, *r20_5, *r20_6, *shared_8, *r9_4, *r6_24, *lone_4, *lone_5, *lone_6, *r6_26, *words_7,
+        *r4_19, *r4_22, *words_8, *r4_26, *slot_2, *r11_4, *r69_3, *r10_2, *r15_2, *slot_3;
     uint64_t words_len, bits, r6_2, r2, r4_2, r4_3, r4_5, r4_6, r4_8, lone_len, lone_room, r6_4, lone_room_2,
-        words_len_2, bits_2, r6_6, r2_2, r6_7, r6_8, r6_10, r6_11, r6_13, shared_len, shared_room, index, next_index,
-        words_room, r33, bits_3, r60, r6_14, r6_15, r6_17, r27, r40, rest_len, key, value, key_2, value_2, rest_room,
-        key_3, value_3, r28, place, place_2, r13, next_place, r36, r20, place_3, r20_2, key_4, value_4, index_2, r16,
-        r20_3, r9, r33_2, bits_4, r60_2, r4_9, r4_10, r4_12, r27_2, r40_2, rest_len_2, r1_3, shared_len_2, r32,
-        shared_len_3, r8_5, r19, r3, shared_len_4, r12_2, r22, shared_room_2, r10_014, index_3, r32_2, shared_len_5,
-        shared_room_3, index_4, next_index_2, words_len_3, bits_5, r6_19, r28_2, x26, r8_7, r8_8, r8_10, r6_0, r8_11,
-        r8_13, shared_len_6, words_len_4, bits_6, r6_21, r2_3, r3_2, r3_3, r3_5, r3_6, r3_8, words_room_2, r33_3,
-        bits_7, r60_3, r3_9, r3_10, r3_12, r27_3, index_5, r40_3, key_5, value_5, index_6, r33_4, bits_8, r60_4,
-        r8_14, r8_15, r8_17, r27_4, index_7, r40_4, rest_len_3, r76, rest_len_4, r2_4, place_4, next_place_2, r89,
-        r6_07, r38, r73, spec_select, shared_len_7, shared_room_4, index_8, next_index_3, shared_len_8, r12_3,
-        lone_len_2, lone_room_3, r6_23, lone_room_4, words_len_5, bits_9, r6_25, r2_5, r4_13, r4_14, r4_16, r4_17,
-        r4_19, words_room_3, r33_5, bits_10, r60_5, r4_20, r4_21, r4_23, r27_5, r40_5, key_6, value_6, index_9,
-        r16_2, r20_6, r9_2;
-    uint8_t r1, has_pair, r0, has_first, r64, r1_4, has_pair_2, has_pair_3;
-    bool r51, r12, r21, r317, r5_08, r41, r5_1, r51_2;
+        words_len_2, bits_2, r6_6, r2_2, r6_7, r6_8, r6_10, r6_11, r6_13, shared_len, shared_room, r0_06, r12,
+        words_room, r33, bits_3, r60, r6_14, r6_15, r6_17, r27, r40, r3, r0, r0_2, r0_3, r0_4, r16, r1_2, r1_3, r28,
+        r3_0, r0_05, r13_2, r23, r36, r20, r3_0_2, r20_2, r4_9, r4_10, index, r16_2, r20_3, r9_2, r33_2, bits_4,
+        r60_2, r4_11, r4_12, r4_14, r27_2, r40_2, r6_18, r1_5, shared_len_2, r32, shared_len_3, r8_5, r19, r3_2,
+        shared_len_4, r12_3, r22, shared_room_2, r10_014, r2_3, r32_2, shared_len_5, shared_room_3, r0_06_2, r12_4,
+        words_len_3, bits_5, r6_20, r28_2, x26, r8_7, r8_8, r8_10, r6_0, r8_11, r8_13, shared_len_6, words_len_4,
+        bits_6, r6_22, r2_4, r3_3, r3_4, r3_6, r3_7, r3_9, words_room_2, r33_3, bits_7, r60_3, r3_10, r3_11, r3_13,
+        r27_3, r33_4, r40_3, r0_6, r0_7, index_2, r33_5, bits_8, r60_4, r8_14, r8_15, r8_17, r27_4, r33_6, r40_4,
+        r2_5, r76, r6_23, r2_6, r4_04, r41_2, r89, r6_07, r38, r73, spec_select, shared_len_7, shared_room_4,
+        r0_06_3, r12_5, shared_len_8, r12_6, lone_len_2, lone_room_3, r6_25, lone_room_4, words_len_5, bits_9, r6_27,
+        r2_7, r4_17, r4_18, r4_20, r4_21, r4_23, words_room_3, r33_7, bits_10, r60_5, r4_24, r4_25, r4_27, r27_5,
+        r40_5, key, value, index_3, r16_3, r20_7, r9_5;
+    uint8_t r1, has_pair, r0_5, r11_2, r64, r1_6, has_pair_2, has_pair_3;
+    bool r51, r12_2, r21, r317, r5_08, r41_3, r5_1, r51_2;
     struct word_word block, block_2, block_3, block_4;
     char *dangling = (char *)no_bytes;
     uint64_t r4_room[3];
@@ -1441,9 +1427,9 @@ static ALIGNED uint8_t slots_grow(char *map, uint64_t capacity, bool may_be_lone
     if (load64(map + INT_MAP_LONE_LEN) != 0) {
         memset(r8_3, 0, 32);
         grow_reserve_slots_2(r8_3, map + INT_MAP_LONE, capacity);
-        r1_4 = load8(r8_3);
-        if (r1_4 == 0) {
-            r6_22 = load_address(r8_3 + 8);
+        r1_6 = load8(r8_3);
+        if (r1_6 == 0) {
+            r6_24 = load_address(r8_3 + 8);
             lone_len_2 = load64(map + INT_MAP_LONE_LEN);
             lone_4 = load_address(map + INT_MAP_LONE);
             lone_room_3 = load64(map + INT_MAP_LONE_ROOM);
@@ -1454,7 +1440,7 @@ static ALIGNED uint8_t slots_grow(char *map, uint64_t capacity, bool may_be_lone
                 store64(map + INT_MAP_LONE_LEN, capacity);
                 store64(map + INT_MAP_LONE_ROOM, lone_room_3);
                 lone_5 = lone_4;
-                r6_23 = capacity;
+                r6_25 = capacity;
             } else {
                 memset(lone_4 + (lone_len_2 * LONE_SIZE), 0, (capacity - lone_len_2) * 24);
                 lone_6 = load_address(map + INT_MAP_LONE);
@@ -1464,41 +1450,41 @@ static ALIGNED uint8_t slots_grow(char *map, uint64_t capacity, bool may_be_lone
                 store64(map + INT_MAP_LONE_ROOM, lone_room_3);
                 if (lone_room_4 == 0) {
                     lone_5 = lone_4;
-                    r6_23 = capacity;
+                    r6_25 = capacity;
                 } else {
                     rattle_dealloc(lone_6);
                     lone_5 = load_address(map + INT_MAP_LONE);
-                    r6_23 = load64(map + INT_MAP_LONE_LEN);
+                    r6_25 = load64(map + INT_MAP_LONE_LEN);
                 }
             }
             words_len_5 = load64(map + INT_MAP_WORDS_LEN);
             if (words_len_5 == 0) {
                 bits_9 = 0;
-                r6_24 = (char *)no_bytes;
-                r6_25 = 0;
+                r6_26 = (char *)no_bytes;
+                r6_27 = 0;
             } else {
                 words_7 = load_address(map + INT_MAP_WORDS);
                 bits_9 = load64(words_7);
-                r6_24 = words_7 + 8;
-                r6_25 = words_len_5 - 1;
+                r6_26 = words_7 + 8;
+                r6_27 = words_len_5 - 1;
             }
-            r2_5 = r6_23 - 1;
-            r51_2 = r6_23 == 0;
-            r4_13 = bits_9;
-            r4_14 = 0;
-            r4_15 = r6_24;
-            r4_16 = r6_25;
+            r2_7 = r6_25 - 1;
+            r51_2 = r6_25 == 0;
+            r4_17 = bits_9;
+            r4_18 = 0;
+            r4_19 = r6_26;
+            r4_20 = r6_27;
             for (;;) {
-                if (r4_13 == 0) {
-                    r4_17 = r4_16;
-                    r4_18 = r4_15;
-                    r4_19 = r4_14;
+                if (r4_17 == 0) {
+                    r4_21 = r4_20;
+                    r4_22 = r4_19;
+                    r4_23 = r4_18;
                     for (;;) {
-                        if (r4_17 == 0) {
+                        if (r4_21 == 0) {
                             words_8 = load_address(map + INT_MAP_WORDS);
                             words_room_3 = load64(map + INT_MAP_WORDS_ROOM);
                             store64(map + INT_MAP_MASK, capacity - 1);
-                            store_address(map + INT_MAP_WORDS, r6_22);
+                            store_address(map + INT_MAP_WORDS, r6_24);
                             memcpy(map + INT_MAP_WORDS_LEN, r8_3 + 16, 16);
                             if (words_room_3 == 0) {
                                 goto after_grow_lone_grow_lone;
@@ -1506,77 +1492,77 @@ static ALIGNED uint8_t slots_grow(char *map, uint64_t capacity, bool may_be_lone
                             rattle_dealloc(words_8);
                             goto after_grow_lone_grow_lone;
                         }
-                        r33_5 = r4_17 - 1;
-                        bits_10 = load64(r4_18);
-                        r60_5 = r4_19 + 64;
+                        r33_7 = r4_21 - 1;
+                        bits_10 = load64(r4_22);
+                        r60_5 = r4_23 + 64;
                         if (bits_10 != 0) {
-                            r4_20 = bits_10;
-                            r4_21 = r60_5;
-                            r4_22 = r4_18 + 8;
-                            r4_23 = r33_5;
+                            r4_24 = bits_10;
+                            r4_25 = r60_5;
+                            r4_26 = r4_22 + 8;
+                            r4_27 = r33_7;
                             break;
                         }
-                        r4_17 = r33_5;
-                        r4_18 = r4_18 + 8;
-                        r4_19 = r60_5;
+                        r4_21 = r33_7;
+                        r4_22 = r4_22 + 8;
+                        r4_23 = r60_5;
                     }
                 } else {
-                    r4_20 = r4_13;
-                    r4_21 = r4_14;
-                    r4_22 = r4_15;
-                    r4_23 = r4_16;
+                    r4_24 = r4_17;
+                    r4_25 = r4_18;
+                    r4_26 = r4_19;
+                    r4_27 = r4_20;
                 }
-                r27_5 = low_zeros(r4_20);
-                r40_5 = (r4_20 - 1) & r4_20;
-                slot_11 = lone_5 + ((r4_21 + r27_5) * LONE_SIZE);
-                key_6 = load_key(slot_11 + LONE_KEY);
-                value_6 = load64(slot_11 + LONE_VALUE);
-                has_pair_2 = load8(slot_11 + LONE_HAS_PAIR);
-                memset(slot_11, 0, 24);
+                r27_5 = low_zeros(r4_24);
+                r40_5 = (r4_24 - 1) & r4_24;
+                slot_2 = lone_5 + ((r4_25 + r27_5) * LONE_SIZE);
+                key = load_key(slot_2 + LONE_KEY);
+                value = load64(slot_2 + LONE_VALUE);
+                has_pair_2 = load8(slot_2 + LONE_HAS_PAIR);
+                memset(slot_2, 0, 24);
                 if (has_pair_2 != 1) {
                     abort();
                 }
-                index_9 = (key_6 * MULTIPLIER) & r2_5;
-                r11_3 = r6_22 + ((index_9 >> 3) & UINT64_C(2305843009213693944));
-                r16_2 = load64(r11_3);
-                r20_6 = (uint64_t)1 << (index_9 & 63);
-                store64(r11_3, r16_2 | r20_6);
+                index_3 = (key * MULTIPLIER) & r2_7;
+                r11_4 = r6_24 + ((index_3 >> 3) & UINT64_C(2305843009213693944));
+                r16_3 = load64(r11_4);
+                r20_7 = (uint64_t)1 << (index_3 & 63);
+                store64(r11_4, r16_3 | r20_7);
                 if (r51_2) {
-                    r69_2 = dangling + (index_9 * 48);
-                    if ((r16_2 & r20_6) == 0) {
-                        store64(r69_2 + 8, key_6);
-                        store64(r69_2 + 16, value_6);
+                    r69_3 = dangling + (index_3 * 48);
+                    if ((r16_3 & r20_7) == 0) {
+                        store64(r69_3 + 8, key);
+                        store64(r69_3 + 16, value);
                     } else {
-                        if (load64(r69_2 + 40) == 0) {
-                            store_address(r69_2 + 24, dangling);
+                        if (load64(r69_3 + 40) == 0) {
+                            store_address(r69_3 + 24, dangling);
                             r10_2 = dangling;
                         } else {
-                            r10_2 = load_address(r69_2 + 24);
+                            r10_2 = load_address(r69_3 + 24);
                         }
-                        r9_2 = load64(r69_2 + 32);
-                        r15_2 = r10_2 + (r9_2 << 4);
-                        store64(r15_2, key_6);
-                        store64(r15_2 + 8, value_6);
-                        store64(r69_2 + 32, r9_2 + 1);
+                        r9_5 = load64(r69_3 + 32);
+                        r15_2 = r10_2 + (r9_5 << 4);
+                        store64(r15_2, key);
+                        store64(r15_2 + 8, value);
+                        store64(r69_3 + 32, r9_5 + 1);
                     }
                 } else {
-                    slot_12 = lone_5 + (index_9 * LONE_SIZE);
-                    has_pair_3 = load8(slot_12 + LONE_HAS_PAIR);
-                    store64(slot_12 + LONE_HAS_PAIR, 1);
-                    store64(slot_12 + LONE_KEY, key_6);
-                    store64(slot_12 + LONE_VALUE, value_6);
+                    slot_3 = lone_5 + (index_3 * LONE_SIZE);
+                    has_pair_3 = load8(slot_3 + LONE_HAS_PAIR);
+                    store64(slot_3 + LONE_HAS_PAIR, 1);
+                    store64(slot_3 + LONE_KEY, key);
+                    store64(slot_3 + LONE_VALUE, value);
                     if (has_pair_3 != 0) {
                         abort();
                     }
                 }
-                r4_13 = r40_5;
-                r4_14 = r4_21;
-                r4_15 = r4_22;
-                r4_16 = r4_23;
+                r4_17 = r40_5;
+                r4_18 = r4_25;
+                r4_19 = r4_26;
+                r4_20 = r4_27;
             }
         }
     after_grow_lone_grow_lone:;
-        return r1_4;
+        return r1_6;
     }
     if (may_be_lone) {
         shared = load_address(map + INT_MAP_SHARED);
@@ -1667,17 +1653,17 @@ static ALIGNED uint8_t slots_grow(char *map, uint64_t capacity, bool may_be_lone
                                                 store_address(map + INT_MAP_SHARED, dangling);
                                                 memset(map + INT_MAP_SHARED_LEN, 0, 16);
                                                 if (shared_len != 0) {
-                                                    index = 0;
+                                                    r0_06 = 0;
                                                     for (;;) {
-                                                        slot = shared_3 + (index * SLOT_SIZE);
-                                                        if (load64(slot + SLOT_REST_ROOM) != 0) {
-                                                            rattle_dealloc(load_address(slot + SLOT_REST));
+                                                        r9 = shared_3 + (r0_06 * 48);
+                                                        if (load64(r9 + 40) != 0) {
+                                                            rattle_dealloc(load_address(r9 + 24));
                                                         }
-                                                        next_index = index + 1;
-                                                        if (next_index == shared_len) {
+                                                        r12 = r0_06 + 1;
+                                                        if (r12 == shared_len) {
                                                             break;
                                                         }
-                                                        index = next_index;
+                                                        r0_06 = r12;
                                                     }
                                                 }
                                                 if (shared_room != 0) {
@@ -1716,78 +1702,78 @@ static ALIGNED uint8_t slots_grow(char *map, uint64_t capacity, bool may_be_lone
                                     }
                                     r27 = low_zeros(r6_14);
                                     r40 = (r6_14 - 1) & r6_14;
-                                    slot_2 = shared_2 + ((r6_15 + r27) * SLOT_SIZE);
-                                    if ((load8(slot_2 + SLOT_HAS_FIRST) & 1) != 0) {
+                                    r45 = shared_2 + ((r6_15 + r27) * 48);
+                                    if ((load8(r45) & 1) != 0) {
                                         for (;;) {
-                                            rest_len = load64(slot_2 + SLOT_REST_LEN);
-                                            if (rest_len == 0) {
-                                                key = load64(slot_2 + SLOT_KEY);
-                                                value = load64(slot_2 + SLOT_VALUE);
-                                                memset(slot_2, 0, 24);
-                                                key_2 = key;
-                                                value_2 = value;
+                                            r3 = load64(r45 + 32);
+                                            if (r3 == 0) {
+                                                r0 = load64(r45 + 8);
+                                                r0_2 = load64(r45 + 16);
+                                                memset(r45, 0, 24);
+                                                r0_3 = r0;
+                                                r0_4 = r0_2;
                                             } else {
-                                                rest = load_address(slot_2 + SLOT_REST);
-                                                rest_room = load64(slot_2 + SLOT_REST_ROOM);
-                                                memset(slot_2 + SLOT_REST_LEN, 0, 16);
-                                                key_3 = load64(rest + PAIR_KEY);
-                                                value_3 = load64(rest + PAIR_VALUE);
-                                                r28 = rest_len - 1;
+                                                r13 = load_address(r45 + 24);
+                                                r16 = load64(r45 + 40);
+                                                memset(r45 + 32, 0, 16);
+                                                r1_2 = load64(r13);
+                                                r1_3 = load64(r13 + 8);
+                                                r28 = r3 - 1;
                                                 if (r28 > 128) {
-                                                    place = 0;
+                                                    r3_0 = 0;
                                                     for (;;) {
-                                                        pair = rest + (place << 4);
-                                                        place_2 = 0;
+                                                        x15 = r13 + (r3_0 << 4);
+                                                        r0_05 = 0;
                                                         for (;;) {
-                                                            r13 = place_2 << 4;
-                                                            memcpy(pair + r13, (pair + 16) + r13, 16);
-                                                            next_place = place_2 + 1;
-                                                            if (next_place == 128) {
-                                                                r36 = place + 128;
+                                                            r13_2 = r0_05 << 4;
+                                                            memcpy(x15 + r13_2, (x15 + 16) + r13_2, 16);
+                                                            r23 = r0_05 + 1;
+                                                            if (r23 == 128) {
+                                                                r36 = r3_0 + 128;
                                                                 r20 = r28 - r36;
                                                                 if (r20 > 128) {
-                                                                    place = r36;
+                                                                    r3_0 = r36;
                                                                     break;
                                                                 }
-                                                                place_3 = r36;
+                                                                r3_0_2 = r36;
                                                                 r20_2 = r20;
                                                                 goto after_Slots_move_back;
                                                             }
-                                                            place_2 = next_place;
+                                                            r0_05 = r23;
                                                         }
                                                     }
                                                 }
-                                                place_3 = 0;
+                                                r3_0_2 = 0;
                                                 r20_2 = r28;
                                             after_Slots_move_back:;
-                                                if (r28 != place_3) {
-                                                    pair_2 = rest + (place_3 << 4);
-                                                    memmove(pair_2, pair_2 + 16, r20_2 << 4);
+                                                if (r28 != r3_0_2) {
+                                                    x16 = r13 + (r3_0_2 << 4);
+                                                    memmove(x16, x16 + 16, r20_2 << 4);
                                                 }
-                                                store_address(slot_2 + SLOT_REST, rest);
-                                                store64(slot_2 + SLOT_REST_LEN, r28);
-                                                store64(slot_2 + SLOT_REST_ROOM, rest_room);
-                                                if (load8(slot_2 + SLOT_HAS_FIRST) != 1) {
+                                                store_address(r45 + 24, r13);
+                                                store64(r45 + 32, r28);
+                                                store64(r45 + 40, r16);
+                                                if (load8(r45) != 1) {
                                                     abort();
                                                 }
-                                                key_4 = load64(slot_2 + SLOT_KEY);
-                                                value_4 = load64(slot_2 + SLOT_VALUE);
-                                                store64(slot_2 + SLOT_KEY, key_3);
-                                                store64(slot_2 + SLOT_VALUE, value_3);
-                                                key_2 = key_4;
-                                                value_2 = value_4;
+                                                r4_9 = load64(r45 + 8);
+                                                r4_10 = load64(r45 + 16);
+                                                store64(r45 + 8, r1_2);
+                                                store64(r45 + 16, r1_3);
+                                                r0_3 = r4_9;
+                                                r0_4 = r4_10;
                                             }
-                                            index_2 = (key_2 * MULTIPLIER) & r2_2;
-                                            r11 = r6_3 + ((index_2 >> 3) & UINT64_C(2305843009213693944));
-                                            r16 = load64(r11);
-                                            r20_3 = (uint64_t)1 << (index_2 & 63);
-                                            store64(r11, r20_3 | r16);
+                                            index = (r0_3 * MULTIPLIER) & r2_2;
+                                            r11 = r6_3 + ((index >> 3) & UINT64_C(2305843009213693944));
+                                            r16_2 = load64(r11);
+                                            r20_3 = (uint64_t)1 << (index & 63);
+                                            store64(r11, r20_3 | r16_2);
                                             if (r51) {
-                                                r69 = dangling + (index_2 * 48);
-                                                if ((r20_3 & r16) == 0) {
+                                                r69 = dangling + (index * 48);
+                                                if ((r20_3 & r16_2) == 0) {
                                                     store64(dangling, 1);
-                                                    store64(r69 + 8, key_2);
-                                                    store64(r69 + 16, value_2);
+                                                    store64(r69 + 8, r0_3);
+                                                    store64(r69 + 16, r0_4);
                                                 } else {
                                                     if (load64(r69 + 40) == 0) {
                                                         store_address(r69 + 24, dangling);
@@ -1795,23 +1781,23 @@ static ALIGNED uint8_t slots_grow(char *map, uint64_t capacity, bool may_be_lone
                                                     } else {
                                                         r10 = load_address(r69 + 24);
                                                     }
-                                                    r9 = load64(r69 + 32);
-                                                    r15 = r10 + (r9 << 4);
-                                                    store64(r15, key_2);
-                                                    store64(r15 + 8, value_2);
-                                                    store64(r69 + 32, r9 + 1);
+                                                    r9_2 = load64(r69 + 32);
+                                                    r15 = r10 + (r9_2 << 4);
+                                                    store64(r15, r0_3);
+                                                    store64(r15 + 8, r0_4);
+                                                    store64(r69 + 32, r9_2 + 1);
                                                 }
                                             } else {
-                                                slot_3 = lone_2 + (index_2 * LONE_SIZE);
-                                                has_pair = load8(slot_3 + LONE_HAS_PAIR);
-                                                store64(slot_3 + LONE_HAS_PAIR, 1);
-                                                store64(slot_3 + LONE_KEY, key_2);
-                                                store64(slot_3 + LONE_VALUE, value_2);
+                                                slot = lone_2 + (index * LONE_SIZE);
+                                                has_pair = load8(slot + LONE_HAS_PAIR);
+                                                store64(slot + LONE_HAS_PAIR, 1);
+                                                store64(slot + LONE_KEY, r0_3);
+                                                store64(slot + LONE_VALUE, r0_4);
                                                 if (has_pair != 0) {
                                                     abort();
                                                 }
                                             }
-                                            if ((load8(slot_2 + SLOT_HAS_FIRST) & 1) == 0) {
+                                            if ((load8(r45) & 1) == 0) {
                                                 break;
                                             }
                                         }
@@ -1829,10 +1815,10 @@ static ALIGNED uint8_t slots_grow(char *map, uint64_t capacity, bool may_be_lone
                         bits_4 = load64(r4_7);
                         r60_2 = r4_8 + 64;
                         if (bits_4 != 0) {
-                            r4_9 = bits_4;
-                            r4_10 = r60_2;
-                            r4_11 = r4_7 + 8;
-                            r4_12 = r33_2;
+                            r4_11 = bits_4;
+                            r4_12 = r60_2;
+                            r4_13 = r4_7 + 8;
+                            r4_14 = r33_2;
                             break;
                         }
                         r4_6 = r33_2;
@@ -1840,28 +1826,28 @@ static ALIGNED uint8_t slots_grow(char *map, uint64_t capacity, bool may_be_lone
                         r4_8 = r60_2;
                     }
                 } else {
-                    r4_9 = r4_2;
-                    r4_10 = r4_3;
-                    r4_11 = r4_4;
-                    r4_12 = r4_5;
+                    r4_11 = r4_2;
+                    r4_12 = r4_3;
+                    r4_13 = r4_4;
+                    r4_14 = r4_5;
                 }
-                r27_2 = low_zeros(r4_9);
-                r40_2 = (r4_9 - 1) & r4_9;
-                slot_4 = shared + ((r4_10 + r27_2) * SLOT_SIZE);
-                rest_2 = load_address(slot_4 + SLOT_REST);
-                rest_len_2 = load64(slot_4 + SLOT_REST_LEN);
-                if (rest_len_2 != 0) {
-                    if (!((rest_len_2 == 1) & (load8(slot_4 + SLOT_HAS_FIRST) == 1))) {
+                r27_2 = low_zeros(r4_11);
+                r40_2 = (r4_11 - 1) & r4_11;
+                r41 = shared + ((r4_12 + r27_2) * 48);
+                r4_15 = load_address(r41 + 24);
+                r6_18 = load64(r41 + 32);
+                if (r6_18 != 0) {
+                    if (!((r6_18 == 1) & (load8(r41) == 1))) {
                         break;
                     }
-                    if ((((load64(rest_2 + PAIR_KEY) * MULTIPLIER) ^ (load64(slot_4 + SLOT_KEY) * MULTIPLIER)) & r2) == 0) {
+                    if ((((load64(r4_15) * MULTIPLIER) ^ (load64(r41 + 8) * MULTIPLIER)) & r2) == 0) {
                         break;
                     }
                 }
                 r4_2 = r40_2;
-                r4_3 = r4_10;
-                r4_4 = r4_11;
-                r4_5 = r4_12;
+                r4_3 = r4_12;
+                r4_4 = r4_13;
+                r4_5 = r4_14;
             }
         }
     }
@@ -1869,30 +1855,30 @@ static ALIGNED uint8_t slots_grow(char *map, uint64_t capacity, bool may_be_lone
     memset(r8, 0, 32);
     grow_reserve_slots(r8, map + INT_MAP_SHARED, capacity);
     if (load8(r8) == 0) {
-        r1_2 = load_address(r8 + 8);
-        r1_3 = load64(r8 + 24);
+        r1_4 = load_address(r8 + 8);
+        r1_5 = load64(r8 + 24);
         shared_len_2 = load64(map + INT_MAP_SHARED_LEN);
         if (shared_len_2 == 0) {
             abort();
         }
         r32 = capacity / shared_len_2;
-        r12 = shared_len_2 > capacity;
-        if (!r12) {
+        r12_2 = shared_len_2 > capacity;
+        if (!r12_2) {
             if (r32 < UINT64_C(1152921504606846976)) {
                 r19 = r32 << 3;
                 block = rattle_alloc(r19, 8);
                 if ((block.first & 1) != 0) {
                     r8_6 = (char *)(uintptr_t)block.second;
                     if (r32 == 1) {
-                        r3 = 0;
+                        r3_2 = 0;
                     } else {
                         memset(r8_6, 0, r19 - 8);
-                        r3 = r32 - 1;
+                        r3_2 = r32 - 1;
                     }
-                    store64(r8_6 + (r3 << 3), 0);
+                    store64(r8_6 + (r3_2 << 3), 0);
                     shared_len_3 = load64(map + INT_MAP_SHARED_LEN);
                     r8_4 = r8_6;
-                    r8_5 = r3 + 1;
+                    r8_5 = r3_2 + 1;
                     goto arm_3_3;
                 }
                 shared_len_4 = load64(map + INT_MAP_SHARED_LEN);
@@ -1908,8 +1894,8 @@ static ALIGNED uint8_t slots_grow(char *map, uint64_t capacity, bool may_be_lone
                 memset(map + INT_MAP_SHARED_LEN, 0, 16);
                 goto arm_7_5;
             }
-            r12_2 = shared_len_4 * 48;
-            block_2 = rattle_realloc(load_address(map + INT_MAP_SHARED), r12_2, r12_2, 8);
+            r12_3 = shared_len_4 * 48;
+            block_2 = rattle_realloc(load_address(map + INT_MAP_SHARED), r12_3, r12_3, 8);
             if ((block_2.first & 1) == 0) {
                 goto arm_7_5;
             }
@@ -1932,12 +1918,12 @@ static ALIGNED uint8_t slots_grow(char *map, uint64_t capacity, bool may_be_lone
             store64(map + INT_MAP_SHARED_ROOM, shared_room_2);
         } else {
             r10_014 = 0;
-            index_3 = shared_len_3;
+            r2_3 = shared_len_3;
             for (;;) {
-                slot_5 = shared_4 + (index_3 * SLOT_SIZE);
-                memset(slot_5, 0, 24);
-                store_address(slot_5 + SLOT_REST, dangling);
-                memset(slot_5 + SLOT_REST_LEN, 0, 16);
+                r20_4 = shared_4 + (r2_3 * 48);
+                memset(r20_4, 0, 24);
+                store_address(r20_4 + 24, dangling);
+                memset(r20_4 + 32, 0, 16);
                 r32_2 = r10_014 + 1;
                 if (r32_2 == r22) {
                     shared_5 = load_address(map + INT_MAP_SHARED);
@@ -1947,17 +1933,17 @@ static ALIGNED uint8_t slots_grow(char *map, uint64_t capacity, bool may_be_lone
                     store64(map + INT_MAP_SHARED_LEN, capacity);
                     store64(map + INT_MAP_SHARED_ROOM, shared_room_2);
                     if (shared_len_5 != 0) {
-                        index_4 = 0;
+                        r0_06_2 = 0;
                         for (;;) {
-                            slot_6 = shared_5 + (index_4 * SLOT_SIZE);
-                            if (load64(slot_6 + SLOT_REST_ROOM) != 0) {
-                                rattle_dealloc(load_address(slot_6 + SLOT_REST));
+                            r9_3 = shared_5 + (r0_06_2 * 48);
+                            if (load64(r9_3 + 40) != 0) {
+                                rattle_dealloc(load_address(r9_3 + 24));
                             }
-                            next_index_2 = index_4 + 1;
-                            if (next_index_2 == shared_len_5) {
+                            r12_4 = r0_06_2 + 1;
+                            if (r12_4 == shared_len_5) {
                                 break;
                             }
-                            index_4 = next_index_2;
+                            r0_06_2 = r12_4;
                         }
                     }
                     if (shared_room_3 == 0) {
@@ -1967,20 +1953,20 @@ static ALIGNED uint8_t slots_grow(char *map, uint64_t capacity, bool may_be_lone
                     break;
                 }
                 r10_014 = r32_2;
-                index_3 = index_3 + 1;
+                r2_3 = r2_3 + 1;
             }
         }
         shared_6 = load_address(map + INT_MAP_SHARED);
         words_len_3 = load64(map + INT_MAP_WORDS_LEN);
         if (words_len_3 == 0) {
             bits_5 = 0;
-            r6_18 = (char *)no_bytes;
-            r6_19 = 0;
+            r6_19 = (char *)no_bytes;
+            r6_20 = 0;
         } else {
             words_4 = load_address(map + INT_MAP_WORDS);
             bits_5 = load64(words_4);
-            r6_18 = words_4 + 8;
-            r6_19 = words_len_3 - 1;
+            r6_19 = words_4 + 8;
+            r6_20 = words_len_3 - 1;
         }
         r21 = r8_5 == 0;
         r28_2 = r8_5 - 1;
@@ -1989,8 +1975,8 @@ static ALIGNED uint8_t slots_grow(char *map, uint64_t capacity, bool may_be_lone
         r56 = r8_4 + (r28_2 << 3);
         r8_7 = bits_5;
         r8_8 = 0;
-        r8_9 = r6_18;
-        r8_10 = r6_19;
+        r8_9 = r6_19;
+        r8_10 = r6_20;
         r6_0 = 0;
         for (;;) {
             if (r8_7 == 0) {
@@ -2000,7 +1986,7 @@ static ALIGNED uint8_t slots_grow(char *map, uint64_t capacity, bool may_be_lone
                 for (;;) {
                     if (r8_11 == 0) {
                         if (r6_0 == 0) {
-                            r13_2 = dangling;
+                            r13_3 = dangling;
                         } else {
                             if (r6_0 >= UINT64_C(576460752303423488)) {
                                 goto arm_8_2;
@@ -2009,12 +1995,12 @@ static ALIGNED uint8_t slots_grow(char *map, uint64_t capacity, bool may_be_lone
                             if ((block_3.first & 1) == 0) {
                                 goto arm_8_2;
                             }
-                            r13_2 = (char *)(uintptr_t)block_3.second;
+                            r13_3 = (char *)(uintptr_t)block_3.second;
                         }
-                        if (!r12) {
+                        if (!r12_2) {
                             rattle_dealloc(r8_4);
                         }
-                        store_address(r4, r13_2);
+                        store_address(r4, r13_3);
                         store64(r4 + 8, 0);
                         store64(r4 + 16, r6_0);
                         shared_7 = load_address(map + INT_MAP_SHARED);
@@ -2022,26 +2008,26 @@ static ALIGNED uint8_t slots_grow(char *map, uint64_t capacity, bool may_be_lone
                         words_len_4 = load64(map + INT_MAP_WORDS_LEN);
                         if (words_len_4 == 0) {
                             bits_6 = 0;
-                            r6_20 = (char *)no_bytes;
-                            r6_21 = 0;
+                            r6_21 = (char *)no_bytes;
+                            r6_22 = 0;
                         } else {
                             words_5 = load_address(map + INT_MAP_WORDS);
                             bits_6 = load64(words_5);
-                            r6_20 = words_5 + 8;
-                            r6_21 = words_len_4 - 1;
+                            r6_21 = words_5 + 8;
+                            r6_22 = words_len_4 - 1;
                         }
-                        r2_3 = shared_len_6 - 1;
-                        r3_2 = bits_6;
-                        r3_3 = 0;
-                        r3_4 = r6_20;
+                        r2_4 = shared_len_6 - 1;
+                        r3_3 = bits_6;
+                        r3_4 = 0;
                         r3_5 = r6_21;
+                        r3_6 = r6_22;
                         for (;;) {
-                            if (r3_2 == 0) {
-                                r3_6 = r3_5;
-                                r3_7 = r3_4;
-                                r3_8 = r3_3;
+                            if (r3_3 == 0) {
+                                r3_7 = r3_6;
+                                r3_8 = r3_5;
+                                r3_9 = r3_4;
                                 for (;;) {
-                                    if (r3_6 == 0) {
+                                    if (r3_7 == 0) {
                                         words_6 = load_address(map + INT_MAP_WORDS);
                                         words_room_2 = load64(map + INT_MAP_WORDS_ROOM);
                                         store64(map + INT_MAP_MASK, capacity - 1);
@@ -2050,72 +2036,72 @@ static ALIGNED uint8_t slots_grow(char *map, uint64_t capacity, bool may_be_lone
                                             rattle_dealloc(words_6);
                                         }
                                         if (load64(r4 + 16) == 0) {
-                                            r0 = 0;
+                                            r0_5 = 0;
                                             goto after_grow_grow_shared;
                                         }
                                         rattle_dealloc(load_address(r4));
-                                        r0 = 0;
+                                        r0_5 = 0;
                                         goto after_grow_grow_shared;
                                     }
-                                    r33_3 = r3_6 - 1;
-                                    bits_7 = load64(r3_7);
-                                    r60_3 = r3_8 + 64;
+                                    r33_3 = r3_7 - 1;
+                                    bits_7 = load64(r3_8);
+                                    r60_3 = r3_9 + 64;
                                     if (bits_7 != 0) {
-                                        r3_9 = bits_7;
-                                        r3_10 = r60_3;
-                                        r3_11 = r3_7 + 8;
-                                        r3_12 = r33_3;
+                                        r3_10 = bits_7;
+                                        r3_11 = r60_3;
+                                        r3_12 = r3_8 + 8;
+                                        r3_13 = r33_3;
                                         break;
                                     }
-                                    r3_6 = r33_3;
-                                    r3_7 = r3_7 + 8;
-                                    r3_8 = r60_3;
+                                    r3_7 = r33_3;
+                                    r3_8 = r3_8 + 8;
+                                    r3_9 = r60_3;
                                 }
                             } else {
-                                r3_9 = r3_2;
                                 r3_10 = r3_3;
                                 r3_11 = r3_4;
                                 r3_12 = r3_5;
+                                r3_13 = r3_6;
                             }
-                            r27_3 = low_zeros(r3_9);
-                            index_5 = r3_10 + r27_3;
-                            r40_3 = (r3_9 - 1) & r3_9;
-                            slot_7 = shared_7 + (index_5 * SLOT_SIZE);
-                            if (load64(slot_7 + SLOT_REST_LEN) == 0) {
-                                key_5 = load_key(slot_7 + SLOT_KEY);
-                                value_5 = load64(slot_7 + SLOT_VALUE);
-                                has_first = load8(slot_7 + SLOT_HAS_FIRST);
-                                memset(slot_7, 0, 24);
-                                if (has_first == 1) {
-                                    index_6 = (key_5 * MULTIPLIER) & r2_3;
-                                    r11_2 = r1_2 + ((index_6 >> 3) & UINT64_C(2305843009213693944));
-                                    store64(r11_2, load64(r11_2) | ((uint64_t)1 << (index_6 & 63)));
-                                    slot_8 = shared_7 + (index_6 * SLOT_SIZE);
-                                    store64(slot_8 + SLOT_HAS_FIRST, 1);
-                                    store64(slot_8 + SLOT_KEY, key_5);
-                                    store64(slot_8 + SLOT_VALUE, value_5);
+                            r27_3 = low_zeros(r3_10);
+                            r33_4 = r3_11 + r27_3;
+                            r40_3 = (r3_10 - 1) & r3_10;
+                            r30 = shared_7 + (r33_4 * 48);
+                            if (load64(r30 + 32) == 0) {
+                                r0_6 = load_key(r30 + 8);
+                                r0_7 = load64(r30 + 16);
+                                r11_2 = load8(r30);
+                                memset(r30, 0, 24);
+                                if (r11_2 == 1) {
+                                    index_2 = (r0_6 * MULTIPLIER) & r2_4;
+                                    r11_3 = r1_4 + ((index_2 >> 3) & UINT64_C(2305843009213693944));
+                                    store64(r11_3, load64(r11_3) | ((uint64_t)1 << (index_2 & 63)));
+                                    r69_2 = shared_7 + (index_2 * 48);
+                                    store64(r69_2, 1);
+                                    store64(r69_2 + 8, r0_6);
+                                    store64(r69_2 + 16, r0_7);
                                     goto loop_2_backedge_3;
                                 }
                             }
-                            place_move_several(r8 + 8, shared_7, shared_len_6, index_5, r4);
+                            place_move_several(r8 + 8, shared_7, shared_len_6, r33_4, r4);
                         loop_2_backedge_3:;
-                            r3_2 = r40_3;
-                            r3_3 = r3_10;
+                            r3_3 = r40_3;
                             r3_4 = r3_11;
                             r3_5 = r3_12;
+                            r3_6 = r3_13;
                         }
                     }
-                    r33_4 = r8_11 - 1;
+                    r33_5 = r8_11 - 1;
                     bits_8 = load64(r8_12);
                     r60_4 = r8_13 + 64;
                     if (bits_8 != 0) {
                         r8_14 = bits_8;
                         r8_15 = r60_4;
                         r8_16 = r8_12 + 8;
-                        r8_17 = r33_4;
+                        r8_17 = r33_5;
                         break;
                     }
-                    r8_11 = r33_4;
+                    r8_11 = r33_5;
                     r8_12 = r8_12 + 8;
                     r8_13 = r60_4;
                 }
@@ -2126,43 +2112,43 @@ static ALIGNED uint8_t slots_grow(char *map, uint64_t capacity, bool may_be_lone
                 r8_17 = r8_10;
             }
             r27_4 = low_zeros(r8_14);
-            index_7 = r8_15 + r27_4;
+            r33_6 = r8_15 + r27_4;
             r40_4 = (r8_14 - 1) & r8_14;
-            slot_9 = shared_6 + (index_7 * SLOT_SIZE);
-            rest_len_3 = load64(slot_9 + SLOT_REST_LEN);
-            if (rest_len_3 > 2) {
+            r54 = shared_6 + (r33_6 * 48);
+            r2_5 = load64(r54 + 32);
+            if (r2_5 > 2) {
                 r76 = load64(map + INT_MAP_MASK) + 1;
                 if (r21) {
-                    rest_len_4 = rest_len_3;
+                    r6_23 = r2_5;
                 } else {
                     if (!r317) {
                         memset(r8_4, 0, x26);
                     }
                     store64(r56, 0);
-                    rest_len_4 = load64(slot_9 + SLOT_REST_LEN);
+                    r6_23 = load64(r54 + 32);
                 }
-                rest_3 = load_address(slot_9 + SLOT_REST);
-                if (load8(slot_9 + SLOT_HAS_FIRST) == 1) {
+                r4_16 = load_address(r54 + 24);
+                if (load8(r54) == 1) {
                     if (r76 == 0) {
                         abort();
                     }
-                    r20_4 = r8_4 + ((((load64(slot_9 + SLOT_KEY) * MULTIPLIER) & ((r76 * r8_5) - 1)) / r76) << 3);
-                    store64(r20_4, load64(r20_4) + 1);
+                    r20_5 = r8_4 + ((((load64(r54 + 8) * MULTIPLIER) & ((r76 * r8_5) - 1)) / r76) << 3);
+                    store64(r20_5, load64(r20_5) + 1);
                 }
-                if (rest_len_4 != 0) {
-                    r2_4 = (r76 * r8_5) - 1;
+                if (r6_23 != 0) {
+                    r2_6 = (r76 * r8_5) - 1;
                     if (r76 == 0) {
                         abort();
                     }
-                    place_4 = 0;
+                    r4_04 = 0;
                     for (;;) {
-                        r20_5 = r8_4 + ((((load64((rest_3 + (place_4 << 4)) + PAIR_KEY) * MULTIPLIER) & r2_4) / r76) << 3);
-                        store64(r20_5, load64(r20_5) + 1);
-                        next_place_2 = place_4 + 1;
-                        if (next_place_2 == rest_len_4) {
+                        r20_6 = r8_4 + ((((load64(r4_16 + (r4_04 << 4)) * MULTIPLIER) & r2_6) / r76) << 3);
+                        store64(r20_6, load64(r20_6) + 1);
+                        r41_2 = r4_04 + 1;
+                        if (r41_2 == r6_23) {
                             break;
                         }
-                        place_4 = next_place_2;
+                        r4_04 = r41_2;
                     }
                 }
                 r89 = load64(map + INT_MAP_MASK) + 1;
@@ -2171,15 +2157,15 @@ static ALIGNED uint8_t slots_grow(char *map, uint64_t capacity, bool may_be_lone
                     r6_07 = 0;
                     for (;;) {
                         r38 = load64(r8_4 + (r6_07 << 3));
-                        r41 = r38 > 1;
-                        if (r41 ? r5_08 : false) {
-                            r64 = slot_reserve_behind(shared_6 + (((r6_07 * r89) + index_7) * SLOT_SIZE), r38 - 1);
+                        r41_3 = r38 > 1;
+                        if (r41_3 ? r5_08 : false) {
+                            r64 = slot_reserve_behind(shared_6 + (((r6_07 * r89) + r33_6) * 48), r38 - 1);
                             if ((r64 & 1) != 0) {
                                 goto arm_8_2;
                             }
                             r5_1 = true;
                         } else {
-                            r5_1 = r41 ? true : r5_08;
+                            r5_1 = r41_3 ? true : r5_08;
                         }
                         r73 = r6_07 + 1;
                         if (r73 == r8_5) {
@@ -2190,7 +2176,7 @@ static ALIGNED uint8_t slots_grow(char *map, uint64_t capacity, bool may_be_lone
                     }
                 }
             }
-            spec_select = greater(r6_0, rest_len_3);
+            spec_select = greater(r6_0, r2_5);
             r8_7 = r40_4;
             r8_8 = r8_15;
             r8_9 = r8_16;
@@ -2203,21 +2189,21 @@ static ALIGNED uint8_t slots_grow(char *map, uint64_t capacity, bool may_be_lone
         if (shared_len_7 > shared_len_2) {
             shared_8 = load_address(map + INT_MAP_SHARED);
             memset(map + INT_MAP_SHARED_LEN, 0, 16);
-            index_8 = shared_len_2;
+            r0_06_3 = shared_len_2;
             for (;;) {
-                slot_10 = shared_8 + (index_8 * SLOT_SIZE);
-                if (load64(slot_10 + SLOT_REST_ROOM) != 0) {
-                    rattle_dealloc(load_address(slot_10 + SLOT_REST));
+                r9_4 = shared_8 + (r0_06_3 * 48);
+                if (load64(r9_4 + 40) != 0) {
+                    rattle_dealloc(load_address(r9_4 + 24));
                 }
-                next_index_3 = index_8 + 1;
-                if (next_index_3 == shared_len_7) {
+                r12_5 = r0_06_3 + 1;
+                if (r12_5 == shared_len_7) {
                     store_address(map + INT_MAP_SHARED, shared_8);
                     store64(map + INT_MAP_SHARED_LEN, shared_len_2);
                     store64(map + INT_MAP_SHARED_ROOM, shared_room_4);
                     shared_len_8 = shared_len_2;
                     break;
                 }
-                index_8 = next_index_3;
+                r0_06_3 = r12_5;
             }
         } else {
             shared_len_8 = shared_len_7;
@@ -2228,29 +2214,29 @@ static ALIGNED uint8_t slots_grow(char *map, uint64_t capacity, bool may_be_lone
                 store_address(map + INT_MAP_SHARED, dangling);
                 memset(map + INT_MAP_SHARED_LEN, 0, 16);
             } else {
-                r12_3 = shared_len_8 * 48;
-                block_4 = rattle_realloc(load_address(map + INT_MAP_SHARED), r12_3, r12_3, 8);
+                r12_6 = shared_len_8 * 48;
+                block_4 = rattle_realloc(load_address(map + INT_MAP_SHARED), r12_6, r12_6, 8);
                 if ((block_4.first & 1) != 0) {
                     store_address(map + INT_MAP_SHARED, (char *)(uintptr_t)block_4.second);
                     store64(map + INT_MAP_SHARED_ROOM, shared_len_8);
                 }
             }
         }
-        if (!r12) {
+        if (!r12_2) {
             rattle_dealloc(r8_4);
         }
     arm_7_5:;
-        if (r1_3 == 0) {
-            r0 = 1;
+        if (r1_5 == 0) {
+            r0_5 = 1;
         } else {
-            rattle_dealloc(r1_2);
-            r0 = 1;
+            rattle_dealloc(r1_4);
+            r0_5 = 1;
         }
     } else {
-        r0 = 1;
+        r0_5 = 1;
     }
 after_grow_grow_shared:;
-    return r0;
+    return r0_5;
 }
 
 // Allocates room for `capacity` slots, the largest block by far, and then the bits of all of them.
@@ -2334,99 +2320,98 @@ arm_1:;
 
 // Makes room for `count` pairs behind the first one, and allocates for exactly those.
 // intmap_table::slot::Slot::reserve_behind, in crates/intmap_table/src/slot/room.rt
-static ALIGNED NOINLINE uint8_t slot_reserve_behind(char *slot, uint64_t count) {
-    uint64_t rest_len, rest_room, r33;
+static ALIGNED NOINLINE uint8_t slot_reserve_behind(char *a0, uint64_t count) {
+    uint64_t r2, r2_2, r33;
     struct word_word block, r0, block_2;
-    rest_len = load64(slot + SLOT_REST_LEN);
-    rest_room = load64(slot + SLOT_REST_ROOM);
-    if (count <= (rest_room - rest_len)) {
+    r2 = load64(a0 + 32);
+    r2_2 = load64(a0 + 40);
+    if (count <= (r2_2 - r2)) {
         return 0;
     }
-    if (count > (rest_len ^ UINT64_C(18446744073709551615))) {
+    if (count > (r2 ^ UINT64_C(18446744073709551615))) {
         return 1;
     }
-    r33 = rest_len + count;
+    r33 = r2 + count;
     if (r33 >= UINT64_C(576460752303423488)) {
         return 1;
     }
-    if (rest_room == 0) {
+    if (r2_2 == 0) {
         block = rattle_alloc(r33 << 4, 8);
         if ((block.first & 1) == 0) {
             return 1;
         }
         r0 = block;
     } else {
-        block_2 = rattle_realloc(load_address(slot + SLOT_REST), rest_len << 4, r33 << 4, 8);
+        block_2 = rattle_realloc(load_address(a0 + 24), r2 << 4, r33 << 4, 8);
         if ((block_2.first & 1) == 0) {
             return 1;
         }
         r0 = block_2;
     }
-    store_address(slot + SLOT_REST, (char *)(uintptr_t)r0.second);
-    store64(slot + SLOT_REST_ROOM, r33);
+    store_address(a0 + 24, (char *)(uintptr_t)r0.second);
+    store64(a0 + 40, r33);
     return 0;
 }
 
 // Moves the pairs of an old slot that holds several, in order, to the ends of their slots.
 // intmap_table::table::slots::place::move_several, in crates/intmap_table/src/table/slots/place.rt
 static ALIGNED NOINLINE void place_move_several(char *bits, char *slots, uint64_t slots_len, uint64_t index, char *buffer) {
-    char *slot, *rest, *pair, *address, *pair_2, *pair_3, *pair_4, *pair_5, *r11, *slot_2, *rest_2, *rest_3, *rest_4,
-        *rest_5, *pair_6, *rest_6, *rest_7, *pair_7, *r11_2, *slot_3, *rest_8, *rest_9, *rest_10, *pair_8, *pair_9;
-    uint64_t rest_len, rest_room, len, len_2, place, r6, rest_len_2, r7, place_2, r18, next_place, r31, r298, x1,
-        place_3, r6_010, place_4, key, value, r2, index_2, bits_2, r20, rest_len_3, rest_room_2, rest_len_4, place_5,
-        rest_len_5, rest_room_3, len_3, rest_room_4, rest_len_6, r3, len_4, place_6, key_2, value_2, index_3, bits_3,
-        r20_2, rest_len_7, rest_room_5, rest_len_8, place_7, r3_2, r3_3, len_5;
+    char *r28, *r0, *pair, *address, *pair_2, *pair_3, *pair_4, *pair_5, *r11_2, *r69, *r3, *r4, *r10, *r3_4, *r15,
+        *r3_7, *r3_9, *pair_6, *r11_3, *r69_2, *r3_12, *r4_3, *r10_2, *r3_15, *r15_2;
+    uint64_t r0_2, r0_3, len, len_2, place, r6, r2, r7, place_2, r18, next_place, r31, r298, x1, place_3, r6_010,
+        place_4, r0_4, r0_5, r2_2, index_2, bits_2, r20, r3_2, r3_3, r4_2, r9, r3_5, r3_6, len_3, r3_8, r3_10, r3_11,
+        len_4, place_5, key, value, index_3, bits_3, r20_2, r3_13, r3_14, r4_4, r9_2, r3_16, r3_17, len_5;
     bool r24;
-    uint8_t has_first;
+    uint8_t r11;
     char *dangling = (char *)no_bytes;
     uint64_t r8_room[2];
     char *r8 = (char *)r8_room;
     uint64_t r8_2_room[2];
     char *r8_2 = (char *)r8_2_room;
-    slot = slots + (index * SLOT_SIZE);
-    rest = load_address(slot + SLOT_REST);
-    rest_len = load64(slot + SLOT_REST_LEN);
-    rest_room = load64(slot + SLOT_REST_ROOM);
-    store_address(slot + SLOT_REST, dangling);
-    memset(slot + SLOT_REST_LEN, 0, 16);
+    r28 = slots + (index * 48);
+    r0 = load_address(r28 + 24);
+    r0_2 = load64(r28 + 32);
+    r0_3 = load64(r28 + 40);
+    store_address(r28 + 24, dangling);
+    memset(r28 + 32, 0, 16);
     len = load64(buffer + VEC_LEN);
-    if (rest_len > (load64(buffer + VEC_ROOM) - len)) {
-        r24 = vec_grow_amortized(buffer, rest_len);
+    if (r0_2 > (load64(buffer + VEC_ROOM) - len)) {
+        r24 = vec_grow_amortized(buffer, r0_2);
         len_2 = load64(buffer + VEC_LEN);
         if (!r24) {
             r6 = len_2;
-            rest_len_2 = rest_len;
+            r2 = r0_2;
             goto after_Vec_append;
         }
         place = len_2;
     } else {
-        if (rest_len == 0) {
+        if (r0_2 == 0) {
             r6 = len;
-            rest_len_2 = 0;
+            r2 = 0;
             goto after_Vec_append;
         }
         place = len;
     }
     pair = load_address(buffer + VEC_ADDRESS) + (place << 4);
-    r7 = rest_len << 4;
-    if ((((uint64_t)(uintptr_t)pair) - ((uint64_t)(uintptr_t)rest)) < r7) {
+    r7 = r0_2 << 4;
+    if ((((uint64_t)(uintptr_t)pair) - ((uint64_t)(uintptr_t)r0)) < r7) {
         place_2 = 0;
         for (;;) {
             r18 = place_2 << 4;
-            memmove(pair + r18, rest + r18, 16);
+            memmove(pair + r18, r0 + r18, 16);
             next_place = place_2 + 1;
-            if (next_place == rest_len) {
+            if (next_place == r0_2) {
                 break;
             }
             place_2 = next_place;
         }
     } else {
-        memmove(pair, rest, r7);
+        memmove(pair, r0, r7);
     }
-    r31 = load64(buffer + VEC_LEN) + rest_len;
+    r31 = load64(buffer + VEC_LEN) + r0_2;
     store64(buffer + VEC_LEN, r31);
     r6 = r31;
-    rest_len_2 = 0;
+    r2 = 0;
 after_Vec_append:;
     address = load_address(buffer + VEC_ADDRESS);
     if (r6 > 15) {
@@ -2462,155 +2447,155 @@ after_Vec_append:;
             }
         }
     }
-    key = load_key(slot + SLOT_KEY);
-    value = load64(slot + SLOT_VALUE);
-    has_first = load8(slot + SLOT_HAS_FIRST);
-    memset(slot, 0, 24);
-    if (has_first != 1) {
+    r0_4 = load_key(r28 + 8);
+    r0_5 = load64(r28 + 16);
+    r11 = load8(r28);
+    memset(r28, 0, 24);
+    if (r11 != 1) {
         abort();
     }
-    r2 = slots_len - 1;
-    index_2 = (key * MULTIPLIER) & r2;
-    r11 = load_address(bits + BITS_WORDS) + ((index_2 >> 3) & UINT64_C(2305843009213693944));
-    bits_2 = load64(r11);
+    r2_2 = slots_len - 1;
+    index_2 = (r0_4 * MULTIPLIER) & r2_2;
+    r11_2 = load_address(bits + BITS_WORDS) + ((index_2 >> 3) & UINT64_C(2305843009213693944));
+    bits_2 = load64(r11_2);
     r20 = (uint64_t)1 << (index_2 & 63);
-    store64(r11, bits_2 | r20);
-    slot_2 = slots + (index_2 * SLOT_SIZE);
+    store64(r11_2, bits_2 | r20);
+    r69 = slots + (index_2 * 48);
     if ((bits_2 & r20) == 0) {
-        store64(slot_2 + SLOT_HAS_FIRST, 1);
-        store64(slot_2 + SLOT_KEY, key);
-        store64(slot_2 + SLOT_VALUE, value);
-        rest_2 = rest;
-        rest_len_3 = rest_len_2;
-        rest_room_2 = rest_room;
+        store64(r69, 1);
+        store64(r69 + 8, r0_4);
+        store64(r69 + 16, r0_5);
+        r3 = r0;
+        r3_2 = r2;
+        r3_3 = r0_3;
     } else {
-        if (load64(slot_2 + SLOT_REST_ROOM) == 0) {
-            rest_3 = load_address(slot_2 + SLOT_REST);
-            rest_len_4 = load64(slot_2 + SLOT_REST_LEN);
-            store_address(slot_2 + SLOT_REST, rest);
-            store64(slot_2 + SLOT_REST_ROOM, rest_room);
-            rest_4 = rest;
-            place_5 = rest_len_2;
-            rest_5 = rest_3;
-            rest_len_5 = rest_len_4;
-            rest_room_3 = 0;
+        if (load64(r69 + 40) == 0) {
+            r4 = load_address(r69 + 24);
+            r4_2 = load64(r69 + 32);
+            store_address(r69 + 24, r0);
+            store64(r69 + 40, r0_3);
+            r10 = r0;
+            r9 = r2;
+            r3_4 = r4;
+            r3_5 = r4_2;
+            r3_6 = 0;
         } else {
-            rest_4 = load_address(slot_2 + SLOT_REST);
-            place_5 = load64(slot_2 + SLOT_REST_LEN);
-            rest_5 = rest;
-            rest_len_5 = rest_len_2;
-            rest_room_3 = rest_room;
+            r10 = load_address(r69 + 24);
+            r9 = load64(r69 + 32);
+            r3_4 = r0;
+            r3_5 = r2;
+            r3_6 = r0_3;
         }
-        pair_6 = rest_4 + (place_5 << 4);
-        store64(pair_6 + PAIR_KEY, key);
-        store64(pair_6 + PAIR_VALUE, value);
-        store64(slot_2 + SLOT_REST_LEN, place_5 + 1);
-        rest_2 = rest_5;
-        rest_len_3 = rest_len_5;
-        rest_room_2 = rest_room_3;
+        r15 = r10 + (r9 << 4);
+        store64(r15, r0_4);
+        store64(r15 + 8, r0_5);
+        store64(r69 + 32, r9 + 1);
+        r3 = r3_4;
+        r3_2 = r3_5;
+        r3_3 = r3_6;
     }
     len_3 = load64(buffer + VEC_LEN);
     if (len_3 == 0) {
-        rest_6 = rest_2;
-        rest_room_4 = rest_room_2;
+        r3_7 = r3;
+        r3_8 = r3_3;
     } else {
-        rest_7 = rest_2;
-        rest_len_6 = rest_len_3;
-        r3 = rest_room_2;
+        r3_9 = r3;
+        r3_10 = r3_2;
+        r3_11 = r3_3;
         len_4 = len_3;
         for (;;) {
-            place_6 = len_4 - 1;
-            store64(buffer + VEC_LEN, place_6);
-            pair_7 = load_address(buffer + VEC_ADDRESS) + (place_6 << 4);
-            key_2 = load_key(pair_7 + PAIR_KEY);
-            value_2 = load64(pair_7 + PAIR_VALUE);
-            index_3 = (key_2 * MULTIPLIER) & r2;
-            r11_2 = load_address(bits + BITS_WORDS) + ((index_3 >> 3) & UINT64_C(2305843009213693944));
-            bits_3 = load64(r11_2);
+            place_5 = len_4 - 1;
+            store64(buffer + VEC_LEN, place_5);
+            pair_6 = load_address(buffer + VEC_ADDRESS) + (place_5 << 4);
+            key = load_key(pair_6 + PAIR_KEY);
+            value = load64(pair_6 + PAIR_VALUE);
+            index_3 = (key * MULTIPLIER) & r2_2;
+            r11_3 = load_address(bits + BITS_WORDS) + ((index_3 >> 3) & UINT64_C(2305843009213693944));
+            bits_3 = load64(r11_3);
             r20_2 = (uint64_t)1 << (index_3 & 63);
-            store64(r11_2, r20_2 | bits_3);
-            slot_3 = slots + (index_3 * SLOT_SIZE);
+            store64(r11_3, r20_2 | bits_3);
+            r69_2 = slots + (index_3 * 48);
             if ((r20_2 & bits_3) == 0) {
-                store64(slot_3 + SLOT_HAS_FIRST, 1);
-                store64(slot_3 + SLOT_KEY, key_2);
-                store64(slot_3 + SLOT_VALUE, value_2);
-                rest_8 = rest_7;
-                rest_len_7 = rest_len_6;
-                rest_room_5 = r3;
+                store64(r69_2, 1);
+                store64(r69_2 + 8, key);
+                store64(r69_2 + 16, value);
+                r3_12 = r3_9;
+                r3_13 = r3_10;
+                r3_14 = r3_11;
             } else {
-                if (load64(slot_3 + SLOT_REST_ROOM) == 0) {
-                    rest_9 = load_address(slot_3 + SLOT_REST);
-                    rest_len_8 = load64(slot_3 + SLOT_REST_LEN);
-                    store_address(slot_3 + SLOT_REST, rest_7);
-                    store64(slot_3 + SLOT_REST_ROOM, r3);
-                    rest_10 = rest_7;
-                    place_7 = rest_len_6;
-                    pair_8 = rest_9;
-                    r3_2 = rest_len_8;
-                    r3_3 = 0;
+                if (load64(r69_2 + 40) == 0) {
+                    r4_3 = load_address(r69_2 + 24);
+                    r4_4 = load64(r69_2 + 32);
+                    store_address(r69_2 + 24, r3_9);
+                    store64(r69_2 + 40, r3_11);
+                    r10_2 = r3_9;
+                    r9_2 = r3_10;
+                    r3_15 = r4_3;
+                    r3_16 = r4_4;
+                    r3_17 = 0;
                 } else {
-                    rest_10 = load_address(slot_3 + SLOT_REST);
-                    place_7 = load64(slot_3 + SLOT_REST_LEN);
-                    pair_8 = rest_7;
-                    r3_2 = rest_len_6;
-                    r3_3 = r3;
+                    r10_2 = load_address(r69_2 + 24);
+                    r9_2 = load64(r69_2 + 32);
+                    r3_15 = r3_9;
+                    r3_16 = r3_10;
+                    r3_17 = r3_11;
                 }
-                pair_9 = rest_10 + (place_7 << 4);
-                store64(pair_9 + PAIR_KEY, key_2);
-                store64(pair_9 + PAIR_VALUE, value_2);
-                store64(slot_3 + SLOT_REST_LEN, place_7 + 1);
-                rest_8 = pair_8;
-                rest_len_7 = r3_2;
-                rest_room_5 = r3_3;
+                r15_2 = r10_2 + (r9_2 << 4);
+                store64(r15_2, key);
+                store64(r15_2 + 8, value);
+                store64(r69_2 + 32, r9_2 + 1);
+                r3_12 = r3_15;
+                r3_13 = r3_16;
+                r3_14 = r3_17;
             }
             len_5 = load64(buffer + VEC_LEN);
             if (len_5 == 0) {
-                rest_6 = rest_8;
-                rest_room_4 = rest_room_5;
+                r3_7 = r3_12;
+                r3_8 = r3_14;
                 break;
             }
-            rest_7 = rest_8;
-            rest_len_6 = rest_len_7;
-            r3 = rest_room_5;
+            r3_9 = r3_12;
+            r3_10 = r3_13;
+            r3_11 = r3_14;
             len_4 = len_5;
         }
     }
-    if (rest_room_4 == 0) {
+    if (r3_8 == 0) {
         return;
     }
-    rattle_dealloc(rest_6);
+    rattle_dealloc(r3_7);
 }
 
 // std_alloc::vec::Vec::grow_amortized, in Rattle's library std_alloc
-static COLD bool vec_grow_amortized(char *vec, uint64_t a1) {
-    uint64_t len, room, a2_a1, x0, common_ret_op;
+static COLD bool vec_grow_amortized(char *a0, uint64_t a1) {
+    uint64_t r2, r2_2, a2_a1, x0, common_ret_op;
     struct word_word block, r0, block_2;
-    len = load64(vec + VEC_LEN);
-    if (a1 > (len ^ UINT64_C(18446744073709551615))) {
+    r2 = load64(a0 + 8);
+    if (a1 > (r2 ^ UINT64_C(18446744073709551615))) {
         return false;
     }
-    room = load64(vec + VEC_ROOM);
-    a2_a1 = greater(len + a1, 4);
-    x0 = greater(a2_a1, room << 1);
-    common_ret_op = (room < UINT64_C(4611686018427387904)) ? x0 : a2_a1;
+    r2_2 = load64(a0 + 16);
+    a2_a1 = greater(r2 + a1, 4);
+    x0 = greater(a2_a1, r2_2 << 1);
+    common_ret_op = (r2_2 < UINT64_C(4611686018427387904)) ? x0 : a2_a1;
     if (common_ret_op >= UINT64_C(576460752303423488)) {
         return false;
     }
-    if (room == 0) {
+    if (r2_2 == 0) {
         block = rattle_alloc(x0 << 4, 8);
         if ((block.first & 1) == 0) {
             return false;
         }
         r0 = block;
     } else {
-        block_2 = rattle_realloc(load_address(vec + VEC_ADDRESS), len << 4, common_ret_op << 4, 8);
+        block_2 = rattle_realloc(load_address(a0), r2 << 4, common_ret_op << 4, 8);
         if ((block_2.first & 1) == 0) {
             return false;
         }
         r0 = block_2;
     }
-    store_address(vec + VEC_ADDRESS, (char *)(uintptr_t)r0.second);
-    store64(vec + VEC_ROOM, common_ret_op);
+    store_address(a0, (char *)(uintptr_t)r0.second);
+    store64(a0 + 16, common_ret_op);
     return true;
 }
 
@@ -2639,9 +2624,8 @@ static ALIGNED NOINLINE void edits_mirror(char *pair, char *pair_2, uint64_t a5)
 // intmap_table::table::slots::Slots::push_second, in crates/intmap_table/src/table/slots/forms.rt
 static ALIGNED NOINLINE struct byte_word slots_push_second(char *map, uint64_t index, uint64_t key, uint64_t value) {
     struct word_word block, block_2;
-    char *r8, *r8_2, *lone, *slot, *r20, *shared, *slot_2, *slot_3, *pair;
-    uint64_t lone_len, lone_len_2, lone_room, index_2, r2, r17, r27, shared_len, shared_room, index_3, next_index,
-        rest_len;
+    char *r8, *r8_2, *lone, *slot, *r20, *shared, *r9, *r9_2, *r15;
+    uint64_t lone_len, lone_len_2, lone_room, index_2, r2, r17, r27, shared_len, shared_room, r0_06, r12, r9_3;
     char *dangling = (char *)no_bytes;
     uint64_t r11_3_room[2];
     char *r11_3 = (char *)r11_3_room;
@@ -2691,17 +2675,17 @@ static ALIGNED NOINLINE struct byte_word slots_push_second(char *map, uint64_t i
                 store64(map + INT_MAP_SHARED_LEN, lone_len_2);
                 store64(map + INT_MAP_SHARED_ROOM, lone_len);
                 if (shared_len != 0) {
-                    index_3 = 0;
+                    r0_06 = 0;
                     for (;;) {
-                        slot_2 = shared + (index_3 * SLOT_SIZE);
-                        if (load64(slot_2 + SLOT_REST_ROOM) != 0) {
-                            rattle_dealloc(load_address(slot_2 + SLOT_REST));
+                        r9 = shared + (r0_06 * 48);
+                        if (load64(r9 + 40) != 0) {
+                            rattle_dealloc(load_address(r9 + 24));
                         }
-                        next_index = index_3 + 1;
-                        if (next_index == shared_len) {
+                        r12 = r0_06 + 1;
+                        if (r12 == shared_len) {
                             break;
                         }
-                        index_3 = next_index;
+                        r0_06 = r12;
                     }
                 }
                 if (shared_room == 0) {
@@ -2715,64 +2699,64 @@ static ALIGNED NOINLINE struct byte_word slots_push_second(char *map, uint64_t i
         return made_byte_word(1, value);
     }
 join_8:;
-    slot_3 = load_address(map + INT_MAP_SHARED) + (index * SLOT_SIZE);
-    if (load64(slot_3 + SLOT_REST_ROOM) == 0) {
-        store_address(slot_3 + SLOT_REST, r8);
-        store64(slot_3 + SLOT_REST_ROOM, 1);
+    r9_2 = load_address(map + INT_MAP_SHARED) + (index * 48);
+    if (load64(r9_2 + 40) == 0) {
+        store_address(r9_2 + 24, r8);
+        store64(r9_2 + 40, 1);
         store64(r8, key);
         store64(r8 + 8, value);
-        store64(slot_3 + SLOT_REST_LEN, 1);
+        store64(r9_2 + 32, 1);
         return made_byte_word(0, 1);
     }
-    rest_len = load64(slot_3 + SLOT_REST_LEN);
-    pair = load_address(slot_3 + SLOT_REST) + (rest_len << 4);
-    store64(pair + PAIR_KEY, key);
-    store64(pair + PAIR_VALUE, value);
-    store64(slot_3 + SLOT_REST_LEN, rest_len + 1);
+    r9_3 = load64(r9_2 + 32);
+    r15 = load_address(r9_2 + 24) + (r9_3 << 4);
+    store64(r15, key);
+    store64(r15 + 8, value);
+    store64(r9_2 + 32, r9_3 + 1);
     rattle_dealloc(r8);
     return made_byte_word(0, 1);
 }
 
 // Adds a pair behind others, and returns its place.
 // intmap_table::slot::Slot::push, in crates/intmap_table/src/slot/pairs.rt
-static ALIGNED NOINLINE struct byte_word slot_push(char *slot, uint64_t key, uint64_t value) {
-    uint64_t rest_len, rest_room, rest_len_2, next_place;
+static ALIGNED NOINLINE struct byte_word slot_push(char *a0, uint64_t key, uint64_t value) {
+    uint64_t r3, r2, r9, r18;
     struct word_word block;
     bool r24;
-    char *pair;
-    rest_len = load64(slot + SLOT_REST_LEN);
-    rest_room = load64(slot + SLOT_REST_ROOM);
-    if (rest_len == 0) {
-        if (rest_room == 0) {
+    char *r15;
+    r3 = load64(a0 + 32);
+    r2 = load64(a0 + 40);
+    if (r3 == 0) {
+        if (r2 == 0) {
             block = rattle_alloc(16, 8);
             if ((block.first & 1) == 0) {
                 return made_byte_word(1, value);
             }
-            store_address(slot + SLOT_REST, (char *)(uintptr_t)block.second);
-            store64(slot + SLOT_REST_ROOM, 1);
+            store_address(a0 + 24, (char *)(uintptr_t)block.second);
+            store64(a0 + 40, 1);
         }
     } else {
-        if (rest_room == rest_len) {
-            r24 = vec_grow_amortized(slot + SLOT_REST, 1);
+        if (r2 == r3) {
+            r24 = vec_grow_amortized(a0 + 24, 1);
             if (!r24) {
                 return made_byte_word(1, value);
             }
         }
     }
-    rest_len_2 = load64(slot + SLOT_REST_LEN);
-    pair = load_address(slot + SLOT_REST) + (rest_len_2 << 4);
-    store64(pair + PAIR_KEY, key);
-    store64(pair + PAIR_VALUE, value);
-    next_place = rest_len_2 + 1;
-    store64(slot + SLOT_REST_LEN, next_place);
-    return made_byte_word(0, next_place);
+    r9 = load64(a0 + 32);
+    r15 = load_address(a0 + 24) + (r9 << 4);
+    store64(r15, key);
+    store64(r15 + 8, value);
+    r18 = r9 + 1;
+    store64(a0 + 32, r18);
+    return made_byte_word(0, r18);
 }
 
 // Writes the address of the value of the key, or null if the key is absent.
 // intmap_place, in crates/intmap_c/src/place.rt
 static ALWAYS_INLINE void do_intmap_place(char *word, uint64_t key, char *at) {
-    char *map, *slot, *value_at, *slot_2, *rest;
-    uint64_t index, rest_len, place, r21, next_place;
+    char *map, *slot, *r4, *r11, *r4_2;
+    uint64_t index, r6, r3_0, r21, r36;
     store_address(at, NULL);
     map = load_address(word);
     if (map == NULL) {
@@ -2787,36 +2771,36 @@ static ALWAYS_INLINE void do_intmap_place(char *word, uint64_t key, char *at) {
         if (load64(slot + LONE_KEY) != key) {
             return;
         }
-        value_at = slot + LONE_VALUE;
+        r4 = slot + LONE_VALUE;
     } else {
-        slot_2 = load_address(map + INT_MAP_SHARED) + (index * SLOT_SIZE);
-        if (load8(slot_2 + SLOT_HAS_FIRST) != 1) {
+        r11 = load_address(map + INT_MAP_SHARED) + (index * 48);
+        if (load8(r11) != 1) {
             return;
         }
-        if (load64(slot_2 + SLOT_KEY) == key) {
-            value_at = slot_2 + SLOT_VALUE;
+        if (load64(r11 + 8) == key) {
+            r4 = r11 + 16;
         } else {
-            rest = load_address(slot_2 + SLOT_REST);
-            rest_len = load64(slot_2 + SLOT_REST_LEN);
-            if (rest_len == 0) {
+            r4_2 = load_address(r11 + 24);
+            r6 = load64(r11 + 32);
+            if (r6 == 0) {
                 return;
             }
-            place = 0;
+            r3_0 = 0;
             for (;;) {
-                r21 = place << 4;
-                if (load64((rest + r21) + PAIR_KEY) == key) {
-                    value_at = (rest + r21) + PAIR_VALUE;
+                r21 = r3_0 << 4;
+                if (load64(r4_2 + r21) == key) {
+                    r4 = (r4_2 + r21) + 8;
                     break;
                 }
-                next_place = place + 1;
-                if (next_place == rest_len) {
+                r36 = r3_0 + 1;
+                if (r36 == r6) {
                     return;
                 }
-                place = next_place;
+                r3_0 = r36;
             }
         }
     }
-    store_address(at, value_at);
+    store_address(at, r4);
 }
 
 // The version of the code, which is 1.0.0: 10000 times the first number, 100 times the second, and the third.
@@ -2839,9 +2823,9 @@ static ALWAYS_INLINE uint64_t do_intmap_capacity(char *word) {
 // Whether the key is present.
 // intmap_contains_key, in crates/intmap_c/src/read.rt
 static ALWAYS_INLINE bool do_intmap_contains_key(char *word, uint64_t key) {
-    char *map, *slot, *slot_2, *rest;
-    uint64_t index, rest_len, place, next_place;
-    bool r11;
+    char *map, *slot, *r11, *r4;
+    uint64_t index, r6, r3_0, r36;
+    bool r11_2;
     map = load_address(word);
     if (map == NULL) {
         return false;
@@ -2854,39 +2838,39 @@ static ALWAYS_INLINE bool do_intmap_contains_key(char *word, uint64_t key) {
         }
         return false;
     }
-    slot_2 = load_address(map + INT_MAP_SHARED) + (index * SLOT_SIZE);
-    if (load8(slot_2 + SLOT_HAS_FIRST) != 1) {
+    r11 = load_address(map + INT_MAP_SHARED) + (index * 48);
+    if (load8(r11) != 1) {
         return false;
     }
-    if (load64(slot_2 + SLOT_KEY) == key) {
+    if (load64(r11 + 8) == key) {
         return true;
     }
-    rest = load_address(slot_2 + SLOT_REST);
-    rest_len = load64(slot_2 + SLOT_REST_LEN);
-    if (rest_len == 0) {
+    r4 = load_address(r11 + 24);
+    r6 = load64(r11 + 32);
+    if (r6 == 0) {
         return false;
     }
-    place = 0;
+    r3_0 = 0;
     for (;;) {
-        r11 = load64((rest + (place << 4)) + PAIR_KEY) == key;
-        next_place = place + 1;
-        if (r11 ? true : (next_place == rest_len)) {
-            return r11;
+        r11_2 = load64(r4 + (r3_0 << 4)) == key;
+        r36 = r3_0 + 1;
+        if (r11_2 ? true : (r36 == r6)) {
+            return r11_2;
         }
-        place = next_place;
+        r3_0 = r36;
     }
 }
 
 // Whether the same keys have the same values in both maps.
 // intmap_equal, in crates/intmap_c/src/read.rt
 static ALWAYS_INLINE bool do_intmap_equal(char *word, char *other) {
-    char *map, *map_2, *r6, *words, *pair, *r1_4, *r1_7, *r1_11, *r1_14, *slot, *pair_2, *slot_2, *pair_4, *r1_19,
-        *pair_5, *pair_6, *r1_23, *slot_3, *value_at, *slot_4, *pair_7, *rest;
+    char *map, *map_2, *r6, *words, *r1, *r1_5, *r1_8, *r1_12, *r1_15, *r11, *r11_2, *slot, *r1_17, *r1_21, *r0,
+        *r1_23, *r1_26, *slot_2, *r0_2, *r11_7, *common_ret_op, *r4;
     bool r12;
-    uint64_t len, words_len, bits, r6_2, r1, r1_2, r1_3, r1_5, r1_6, r1_8, r1_9, r1_10, r1_12, r33, bits_2, r60,
-        r1_13, r1_15, r17, r27, index, r40, rest_len, pair_3, r1_16, r1_17, r1_18, r1_20, r1_21, r1_22, r1_24, r11_2,
-        key, index_2, rest_len_2, place, r21, next_place;
-    uint8_t has_first, r11, has_pair;
+    uint64_t len, words_len, bits, r6_2, r1_2, r1_3, r1_4, r1_6, r1_7, r1_9, r1_10, r1_11, r1_13, r33, bits_2, r60,
+        r1_14, r1_16, r17, r27, index, r40, r11_3, r11_5, r1_18, r1_19, r1_20, r1_22, r1_24, r1_25, r1_27, r11_6,
+        r37, index_2, r6_3, r3_0, r21, r36;
+    uint8_t r3, r11_4, has_pair;
     char *dangling = (char *)no_bytes;
     map = load_address(word);
     map_2 = load_address(other);
@@ -2915,154 +2899,154 @@ static ALWAYS_INLINE bool do_intmap_equal(char *word, char *other) {
         r6 = words + 8;
         r6_2 = words_len - 1;
     }
-    pair = dangling;
-    r1 = 0;
-    r1_2 = bits;
-    r1_3 = 0;
-    r1_4 = r6;
-    r1_5 = r6_2;
+    r1 = dangling;
+    r1_2 = 0;
+    r1_3 = bits;
+    r1_4 = 0;
+    r1_5 = r6;
+    r1_6 = r6_2;
     for (;;) {
-        if (r1 == 0) {
-            r1_6 = r1_5;
-            r1_7 = r1_4;
-            r1_8 = r1_3;
-            r1_9 = r1_2;
+        if (r1_2 == 0) {
+            r1_7 = r1_6;
+            r1_8 = r1_5;
+            r1_9 = r1_4;
+            r1_10 = r1_3;
             for (;;) {
-                if (r1_9 == 0) {
-                    r1_10 = r1_8;
-                    r1_11 = r1_7;
-                    r1_12 = r1_6;
+                if (r1_10 == 0) {
+                    r1_11 = r1_9;
+                    r1_12 = r1_8;
+                    r1_13 = r1_7;
                     for (;;) {
-                        if (r1_12 == 0) {
+                        if (r1_13 == 0) {
                             return true;
                         }
-                        r33 = r1_12 - 1;
-                        bits_2 = load64(r1_11);
-                        r60 = r1_10 + 64;
+                        r33 = r1_13 - 1;
+                        bits_2 = load64(r1_12);
+                        r60 = r1_11 + 64;
                         if (bits_2 != 0) {
-                            r1_13 = r60;
-                            r1_14 = r1_11 + 8;
-                            r1_15 = r33;
+                            r1_14 = r60;
+                            r1_15 = r1_12 + 8;
+                            r1_16 = r33;
                             r17 = bits_2;
                             break;
                         }
-                        r1_10 = r60;
-                        r1_11 = r1_11 + 8;
-                        r1_12 = r33;
+                        r1_11 = r60;
+                        r1_12 = r1_12 + 8;
+                        r1_13 = r33;
                     }
                 } else {
-                    r1_13 = r1_8;
-                    r1_14 = r1_7;
-                    r1_15 = r1_6;
-                    r17 = r1_9;
+                    r1_14 = r1_9;
+                    r1_15 = r1_8;
+                    r1_16 = r1_7;
+                    r17 = r1_10;
                 }
                 r27 = low_zeros(r17);
-                index = r27 + r1_13;
+                index = r27 + r1_14;
                 r40 = (r17 - 1) & r17;
                 if (load64(map + INT_MAP_LONE_LEN) == 0) {
-                    slot = load_address(map + INT_MAP_SHARED) + (index * SLOT_SIZE);
-                    has_first = load8(slot + SLOT_HAS_FIRST);
-                    pair_2 = load_address(slot + SLOT_REST);
-                    rest_len = load64(slot + SLOT_REST_LEN);
-                    r11 = has_first;
-                    pair_3 = (has_first == 1) ? ((uint64_t)(uintptr_t)(slot + SLOT_KEY)) : 0;
+                    r11 = load_address(map + INT_MAP_SHARED) + (index * 48);
+                    r3 = load8(r11);
+                    r11_2 = load_address(r11 + 24);
+                    r11_3 = load64(r11 + 32);
+                    r11_4 = r3;
+                    r11_5 = (r3 == 1) ? ((uint64_t)(uintptr_t)(r11 + 8)) : 0;
                 } else {
-                    slot_2 = load_address(map + INT_MAP_LONE) + (index * LONE_SIZE);
-                    has_pair = load8(slot_2 + LONE_HAS_PAIR);
-                    pair_2 = dangling;
-                    rest_len = 0;
-                    r11 = has_pair;
-                    pair_3 = (has_pair == 1) ? ((uint64_t)(uintptr_t)(slot_2 + LONE_KEY)) : 0;
+                    slot = load_address(map + INT_MAP_LONE) + (index * LONE_SIZE);
+                    has_pair = load8(slot + LONE_HAS_PAIR);
+                    r11_2 = dangling;
+                    r11_3 = 0;
+                    r11_4 = has_pair;
+                    r11_5 = (has_pair == 1) ? ((uint64_t)(uintptr_t)(slot + LONE_KEY)) : 0;
                 }
-                if (r11 == 1) {
-                    pair_4 = pair_2;
-                    r1_16 = rest_len;
-                    r1_17 = r40;
-                    r1_18 = r1_13;
-                    r1_19 = r1_14;
-                    r1_20 = r1_15;
-                    pair_5 = (char *)(uintptr_t)pair_3;
+                if (r11_4 == 1) {
+                    r1_17 = r11_2;
+                    r1_18 = r11_3;
+                    r1_19 = r40;
+                    r1_20 = r1_14;
+                    r1_21 = r1_15;
+                    r1_22 = r1_16;
+                    r0 = (char *)(uintptr_t)r11_5;
                     goto arm_6;
                 }
-                if (rest_len != 0) {
-                    pair_6 = pair_2;
-                    r1_21 = r40;
-                    r1_22 = r1_13;
-                    r1_23 = r1_14;
-                    r1_24 = r1_15;
-                    r11_2 = rest_len;
+                if (r11_3 != 0) {
+                    r1_23 = r11_2;
+                    r1_24 = r40;
+                    r1_25 = r1_14;
+                    r1_26 = r1_15;
+                    r1_27 = r1_16;
+                    r11_6 = r11_3;
                     break;
                 }
-                r1_6 = r1_15;
-                r1_7 = r1_14;
-                r1_8 = r1_13;
-                r1_9 = r40;
+                r1_7 = r1_16;
+                r1_8 = r1_15;
+                r1_9 = r1_14;
+                r1_10 = r40;
             }
         } else {
-            pair_6 = pair;
-            r1_21 = r1_2;
-            r1_22 = r1_3;
-            r1_23 = r1_4;
-            r1_24 = r1_5;
-            r11_2 = r1;
+            r1_23 = r1;
+            r1_24 = r1_3;
+            r1_25 = r1_4;
+            r1_26 = r1_5;
+            r1_27 = r1_6;
+            r11_6 = r1_2;
         }
-        pair_4 = pair_6 + 16;
-        r1_16 = r11_2 - 1;
-        r1_17 = r1_21;
-        r1_18 = r1_22;
-        r1_19 = r1_23;
-        r1_20 = r1_24;
-        pair_5 = pair_6;
+        r1_17 = r1_23 + 16;
+        r1_18 = r11_6 - 1;
+        r1_19 = r1_24;
+        r1_20 = r1_25;
+        r1_21 = r1_26;
+        r1_22 = r1_27;
+        r0 = r1_23;
     arm_6:;
-        key = load_key(pair_5 + PAIR_KEY);
-        index_2 = load64(map_2 + INT_MAP_MASK) & (key * MULTIPLIER);
+        r37 = load_key(r0);
+        index_2 = load64(map_2 + INT_MAP_MASK) & (r37 * MULTIPLIER);
         if (index_2 < load64(map_2 + INT_MAP_LONE_LEN)) {
-            slot_3 = load_address(map_2 + INT_MAP_LONE) + (index_2 * LONE_SIZE);
-            if (load8(slot_3 + LONE_HAS_PAIR) != 1) {
+            slot_2 = load_address(map_2 + INT_MAP_LONE) + (index_2 * LONE_SIZE);
+            if (load8(slot_2 + LONE_HAS_PAIR) != 1) {
                 return false;
             }
-            if (load64(slot_3 + LONE_KEY) != key) {
+            if (load64(slot_2 + LONE_KEY) != r37) {
                 return false;
             }
-            value_at = slot_3 + LONE_VALUE;
+            r0_2 = slot_2 + LONE_VALUE;
         } else {
-            slot_4 = load_address(map_2 + INT_MAP_SHARED) + (index_2 * SLOT_SIZE);
-            if (load8(slot_4 + SLOT_HAS_FIRST) != 1) {
+            r11_7 = load_address(map_2 + INT_MAP_SHARED) + (index_2 * 48);
+            if (load8(r11_7) != 1) {
                 return false;
             }
-            if (load64(slot_4 + SLOT_KEY) == key) {
-                pair_7 = slot_4 + SLOT_KEY;
+            if (load64(r11_7 + 8) == r37) {
+                common_ret_op = r11_7 + 8;
             } else {
-                rest = load_address(slot_4 + SLOT_REST);
-                rest_len_2 = load64(slot_4 + SLOT_REST_LEN);
-                if (rest_len_2 == 0) {
+                r4 = load_address(r11_7 + 24);
+                r6_3 = load64(r11_7 + 32);
+                if (r6_3 == 0) {
                     return false;
                 }
-                place = 0;
+                r3_0 = 0;
                 for (;;) {
-                    r21 = place << 4;
-                    if (load64((rest + r21) + PAIR_KEY) == key) {
-                        pair_7 = rest + r21;
+                    r21 = r3_0 << 4;
+                    if (load64(r4 + r21) == r37) {
+                        common_ret_op = r4 + r21;
                         break;
                     }
-                    next_place = place + 1;
-                    if (next_place == rest_len_2) {
+                    r36 = r3_0 + 1;
+                    if (r36 == r6_3) {
                         return false;
                     }
-                    place = next_place;
+                    r3_0 = r36;
                 }
             }
-            value_at = pair_7 + PAIR_VALUE;
+            r0_2 = common_ret_op + 8;
         }
-        if (load64(pair_5 + PAIR_VALUE) != load64(value_at)) {
+        if (load64(r0 + 8) != load64(r0_2)) {
             return false;
         }
-        pair = pair_4;
-        r1 = r1_16;
-        r1_2 = r1_17;
-        r1_3 = r1_18;
-        r1_4 = r1_19;
-        r1_5 = r1_20;
+        r1 = r1_17;
+        r1_2 = r1_18;
+        r1_3 = r1_19;
+        r1_4 = r1_20;
+        r1_5 = r1_21;
+        r1_6 = r1_22;
     }
 }
 
@@ -3119,9 +3103,9 @@ static ALWAYS_INLINE uint64_t do_intmap_load_factor(char *word) {
 // The value of the key.
 // intmap_get, in crates/intmap_c/src/read.rt
 static ALWAYS_INLINE struct word_word do_intmap_get(char *word, uint64_t key) {
-    char *map, *slot, *value_at, *slot_2, *pair, *rest;
+    char *map, *slot, *r0, *r11, *common_ret_op, *r4;
     struct word_half r18;
-    uint64_t index, value, rest_len, place, r21, next_place, r0_2_8_ext;
+    uint64_t index, x3, r6, r3_0, r21, r36, r0_2_8_ext;
     uint32_t spec_select1;
     map = load_address(word);
     if (map == NULL) {
@@ -3132,54 +3116,54 @@ static ALWAYS_INLINE struct word_word do_intmap_get(char *word, uint64_t key) {
             slot = load_address(map + INT_MAP_LONE) + (index * LONE_SIZE);
             if (load8(slot + LONE_HAS_PAIR) != 1) {
                 spec_select1 = 0;
-                value = 0;
+                x3 = 0;
                 goto after_Option_ref_T_copied;
             }
             if (load64(slot + LONE_KEY) != key) {
                 spec_select1 = 0;
-                value = 0;
+                x3 = 0;
                 goto after_Option_ref_T_copied;
             }
-            value_at = slot + LONE_VALUE;
+            r0 = slot + LONE_VALUE;
         } else {
-            slot_2 = load_address(map + INT_MAP_SHARED) + (index * SLOT_SIZE);
-            if (load8(slot_2 + SLOT_HAS_FIRST) != 1) {
+            r11 = load_address(map + INT_MAP_SHARED) + (index * 48);
+            if (load8(r11) != 1) {
                 spec_select1 = 0;
-                value = 0;
+                x3 = 0;
                 goto after_Option_ref_T_copied;
             }
-            if (load64(slot_2 + SLOT_KEY) == key) {
-                pair = slot_2 + SLOT_KEY;
+            if (load64(r11 + 8) == key) {
+                common_ret_op = r11 + 8;
             } else {
-                rest = load_address(slot_2 + SLOT_REST);
-                rest_len = load64(slot_2 + SLOT_REST_LEN);
-                if (rest_len == 0) {
+                r4 = load_address(r11 + 24);
+                r6 = load64(r11 + 32);
+                if (r6 == 0) {
                     spec_select1 = 0;
-                    value = 0;
+                    x3 = 0;
                     goto after_Option_ref_T_copied;
                 }
-                place = 0;
+                r3_0 = 0;
                 for (;;) {
-                    r21 = place << 4;
-                    if (load64((rest + r21) + PAIR_KEY) == key) {
-                        pair = rest + r21;
+                    r21 = r3_0 << 4;
+                    if (load64(r4 + r21) == key) {
+                        common_ret_op = r4 + r21;
                         break;
                     }
-                    next_place = place + 1;
-                    if (next_place == rest_len) {
+                    r36 = r3_0 + 1;
+                    if (r36 == r6) {
                         spec_select1 = 0;
-                        value = 0;
+                        x3 = 0;
                         goto after_Option_ref_T_copied;
                     }
-                    place = next_place;
+                    r3_0 = r36;
                 }
             }
-            value_at = pair + PAIR_VALUE;
+            r0 = common_ret_op + 8;
         }
         spec_select1 = 1;
-        value = load64(value_at);
+        x3 = load64(r0);
     after_Option_ref_T_copied:;
-        r18 = made_word_half(value, spec_select1);
+        r18 = made_word_half(x3, spec_select1);
     }
     r0_2_8_ext = (uint64_t)r18.second;
     return made_word_word(r18.first, r0_2_8_ext);
@@ -3188,15 +3172,15 @@ static ALWAYS_INLINE struct word_word do_intmap_get(char *word, uint64_t key) {
 // The first pair of the walk from the cursor on, behind which the cursor moves.
 // intmap_step, in crates/intmap_c/src/read.rt
 static ALWAYS_INLINE char *do_intmap_step(char *result, char *word, char *at) {
-    char *map, *slot_2, *slot_3, *pair, *value_at, *slot_4, *pair_2;
-    uint64_t key, value, slot, place, common_ret_op, index, place_2, r3_0, r115, words_len, r33, r1, r1_2, r1_3, r26,
+    char *map, *r11, *slot_2, *r8, *r8_2, *r11_2, *common_ret_op_ph107;
+    uint64_t r6, r6_2, slot, place, common_ret_op, index, place_2, r3_0, r115, words_len, r33, r1, r1_2, r1_3, r26,
         bits, r49, r55;
-    uint32_t r6;
+    uint32_t r6_3;
     map = load_address(word);
     if (map == NULL) {
-        key = 0;
-        value = 0;
         r6 = 0;
+        r6_2 = 0;
+        r6_3 = 0;
     } else {
         slot = load64(at + CURSOR_SLOT);
         place = load64(at + CURSOR_PLACE);
@@ -3204,11 +3188,11 @@ static ALWAYS_INLINE char *do_intmap_step(char *result, char *word, char *at) {
             if (slot < load64(map + INT_MAP_LONE_LEN)) {
                 common_ret_op = (uint64_t)(load8((load_address(map + INT_MAP_LONE) + (slot * LONE_SIZE)) + LONE_HAS_PAIR) != 0);
             } else {
-                slot_2 = load_address(map + INT_MAP_SHARED) + (slot * SLOT_SIZE);
-                if (load8(slot_2 + SLOT_HAS_FIRST) == 0) {
+                r11 = load_address(map + INT_MAP_SHARED) + (slot * 48);
+                if (load8(r11) == 0) {
                     goto join_3_2;
                 }
-                common_ret_op = load64(slot_2 + SLOT_REST_LEN) + 1;
+                common_ret_op = load64(r11 + 32) + 1;
             }
             if (place < common_ret_op) {
                 index = slot;
@@ -3232,9 +3216,9 @@ static ALWAYS_INLINE char *do_intmap_step(char *result, char *word, char *at) {
         for (;;) {
             r26 = r1_3 + 1;
             if (words_len <= r26) {
-                key = 0;
-                value = 0;
                 r6 = 0;
+                r6_2 = 0;
+                r6_3 = 0;
                 goto after_read_intmap_step;
             }
             bits = load64(load_address(map + INT_MAP_WORDS) + (r26 << 3));
@@ -3254,33 +3238,33 @@ static ALWAYS_INLINE char *do_intmap_step(char *result, char *word, char *at) {
     join_3_3:;
         store64(at + CURSOR_PLACE, place_2 + 1);
         if (index < load64(map + INT_MAP_LONE_LEN)) {
-            slot_3 = load_address(map + INT_MAP_LONE) + (index * LONE_SIZE);
-            if (load8(slot_3 + LONE_HAS_PAIR) != 1) {
+            slot_2 = load_address(map + INT_MAP_LONE) + (index * LONE_SIZE);
+            if (load8(slot_2 + LONE_HAS_PAIR) != 1) {
                 abort();
             }
-            pair = slot_3 + LONE_KEY;
-            value_at = slot_3 + LONE_VALUE;
+            r8 = slot_2 + LONE_KEY;
+            r8_2 = slot_2 + LONE_VALUE;
         } else {
-            slot_4 = load_address(map + INT_MAP_SHARED) + (index * SLOT_SIZE);
+            r11_2 = load_address(map + INT_MAP_SHARED) + (index * 48);
             if (place_2 == 0) {
-                if (load8(slot_4 + SLOT_HAS_FIRST) != 1) {
+                if (load8(r11_2) != 1) {
                     abort();
                 }
-                pair_2 = slot_4 + SLOT_KEY;
+                common_ret_op_ph107 = r11_2 + 8;
             } else {
-                pair_2 = (load_address(slot_4 + SLOT_REST) + (place_2 << 4)) - 16;
+                common_ret_op_ph107 = (load_address(r11_2 + 24) + (place_2 << 4)) - 16;
             }
-            pair = pair_2;
-            value_at = pair_2 + PAIR_VALUE;
+            r8 = common_ret_op_ph107;
+            r8_2 = common_ret_op_ph107 + 8;
         }
-        key = load64(pair + PAIR_KEY);
-        value = load64(value_at);
-        r6 = 1;
+        r6 = load64(r8);
+        r6_2 = load64(r8_2);
+        r6_3 = 1;
     }
 after_read_intmap_step:;
-    store64(result + FOUND_PAIR_KEY, key);
-    store64(result + FOUND_PAIR_VALUE, value);
-    store32(result + FOUND_PAIR_STATUS, r6);
+    store64(result + FOUND_PAIR_KEY, r6);
+    store64(result + FOUND_PAIR_VALUE, r6_2);
+    store32(result + FOUND_PAIR_STATUS, r6_3);
     store32(result + 20, 0);
     return result;
 }
@@ -3288,8 +3272,8 @@ after_read_intmap_step:;
 // Adds to the value of a present key, modulo 2^64, and returns the value before.
 // intmap_add_present, in crates/intmap_c/src/pairs.rt
 static ALWAYS_INLINE struct word_word do_intmap_add_present(char *handle, uint64_t key, uint64_t more) {
-    uint64_t map_address, index, rest_len, place, r21, next_place, value, r0_2_8_ext;
-    char *map, *slot, *value_at, *slot_2, *rest;
+    uint64_t map_address, index, r6, r3_0, r21, r36, r19, r0_2_8_ext;
+    char *map, *slot, *r4, *r11, *r4_2;
     struct word_half r23, r29;
     map_address = load64(handle);
     store64(handle, 0);
@@ -3308,41 +3292,41 @@ static ALWAYS_INLINE struct word_word do_intmap_add_present(char *handle, uint64
                 r29 = empty_word_half();
                 goto after_pairs_add_present;
             }
-            value_at = slot + LONE_VALUE;
+            r4 = slot + LONE_VALUE;
         } else {
-            slot_2 = load_address(map + INT_MAP_SHARED) + (index * SLOT_SIZE);
-            if (load8(slot_2 + SLOT_HAS_FIRST) != 1) {
+            r11 = load_address(map + INT_MAP_SHARED) + (index * 48);
+            if (load8(r11) != 1) {
                 r29 = empty_word_half();
                 goto after_pairs_add_present;
             }
-            if (load64(slot_2 + SLOT_KEY) == key) {
-                value_at = slot_2 + SLOT_VALUE;
+            if (load64(r11 + 8) == key) {
+                r4 = r11 + 16;
             } else {
-                rest = load_address(slot_2 + SLOT_REST);
-                rest_len = load64(slot_2 + SLOT_REST_LEN);
-                if (rest_len == 0) {
+                r4_2 = load_address(r11 + 24);
+                r6 = load64(r11 + 32);
+                if (r6 == 0) {
                     r29 = empty_word_half();
                     goto after_pairs_add_present;
                 }
-                place = 0;
+                r3_0 = 0;
                 for (;;) {
-                    r21 = place << 4;
-                    if (load64((rest + r21) + PAIR_KEY) == key) {
-                        value_at = (rest + r21) + PAIR_VALUE;
+                    r21 = r3_0 << 4;
+                    if (load64(r4_2 + r21) == key) {
+                        r4 = (r4_2 + r21) + 8;
                         break;
                     }
-                    next_place = place + 1;
-                    if (next_place == rest_len) {
+                    r36 = r3_0 + 1;
+                    if (r36 == r6) {
                         r29 = empty_word_half();
                         goto after_pairs_add_present;
                     }
-                    place = next_place;
+                    r3_0 = r36;
                 }
             }
         }
-        value = load64(value_at);
-        store64(value_at, value + more);
-        r29 = made_word_half(value, 1);
+        r19 = load64(r4);
+        store64(r4, r19 + more);
+        r29 = made_word_half(r19, 1);
     after_pairs_add_present:;
         store64(handle, map_address);
         r23 = r29;
@@ -3356,7 +3340,7 @@ static ALWAYS_INLINE struct word_word do_intmap_add_present(char *handle, uint64
 static ALWAYS_INLINE void do_intmap_clear(char *handle) {
     uint64_t map_address, words_len, bits, r6_2, r1, r1_2, r1_4, r1_5, r1_7, words_len_2, r28, r33, bits_2, r60,
         r1_8, r1_9, r1_11, r27, index, r40;
-    char *map, *r6, *words, *r1_3, *r1_6, *words_2, *r1_10, *slot;
+    char *map, *r6, *words, *r1_3, *r1_6, *words_2, *r1_10, *r9;
     map_address = load64(handle);
     store64(handle, 0);
     map = (char *)(uintptr_t)map_address;
@@ -3424,10 +3408,10 @@ static ALWAYS_INLINE void do_intmap_clear(char *handle) {
         if (index < load64(map + INT_MAP_LONE_LEN)) {
             memset(load_address(map + INT_MAP_LONE) + (index * LONE_SIZE), 0, 24);
         } else {
-            slot = load_address(map + INT_MAP_SHARED) + (index * SLOT_SIZE);
-            memset(slot, 0, 24);
-            if (load64(slot + SLOT_REST_LEN) != 0) {
-                store64(slot + SLOT_REST_LEN, 0);
+            r9 = load_address(map + INT_MAP_SHARED) + (index * 48);
+            memset(r9, 0, 24);
+            if (load64(r9 + 32) != 0) {
+                store64(r9 + 32, 0);
             }
         }
         r1 = r40;
@@ -3440,23 +3424,22 @@ static ALWAYS_INLINE void do_intmap_clear(char *handle) {
 // Removes the first pair of the walk from the cursor on and returns it.
 // intmap_cut, in crates/intmap_c/src/walk.rt
 static ALWAYS_INLINE char *do_intmap_cut(char *result, char *handle, char *at) {
-    uint64_t map_address, key, value, slot, place, r8, r6_2, r3063, rest_len, rest_len_2, r306273, place_2,
-        rest_room, r6_3, key_2, value_2, r28, r20, place_3, r0_05, r19, r29, place_4, r13, next_place, place_5,
-        r20_2, exit, r0_05_2, r19_2, r29_2, x9, r20_lcssa60, place_6, key_3, value_3, r306272, value_4, key_4, r3_0,
-        r115, words_len, r33, r1, r1_2, r1_3, r26, bits, key_5, value_5, r49, index, exit_2, key_6, value_6,
-        rest_room_2, key_7, value_7, r28_2, place_7, place_8, r13_2, next_place_2, place_9, r20_3, exit_3, x18,
-        r20_lcssa60_2, place_10, place_11, r13_3, next_place_3, key_8, value_8, key_9, value_9;
-    char *map, *lone, *lone_2, *slot_2, *r5, *slot_3, *rest, *pair, *pair_2, *pair_3, *pair_4, *lone_3, *slot_4,
-        *rest_2, *pair_5, *pair_6, *pair_7, *r11, *slot_5, *r11_2;
-    uint32_t r6, r8_2;
-    uint8_t has_pair, has_pair_2, has_first;
+    uint64_t map_address, r6, r6_2, slot, place, r8, r6_4, r3063, r2, r3, r306273, r10, r16, r6_5, r1, r1_2, r28,
+        r20, r3_0, r0_05, r19, r29, r0_05_2, r13_2, r23, r36, r20_2, exit, r0_05_3, r19_2, r29_2, x9, r20_lcssa60,
+        r3_0_lcssa59, r3_2, r3_3, r306272, r1_3_0_pn47, r1_0_0_pn46, r3_0_2, r115, words_len, r33, r1_3, r1_4, r1_5,
+        r26, bits, x25, x26, r49, index, exit_2, r0, r0_2, r16_2, r1_6, r1_7, r28_2, r3_0_3, r0_05_4, r13_4, r23_2,
+        r36_2, r20_3, exit_3, x18, r20_lcssa60_2, r3_0_lcssa59_2, r0_05_5, r13_5, r23_3, r4, r4_2, key, value;
+    char *map, *lone, *lone_2, *r11, *r5, *r9, *r13, *r9_2, *x6, *x8, *x10, *lone_3, *r9_3, *r13_3, *x15, *x17, *x20,
+        *r11_3, *slot_2, *r11_4;
+    uint32_t r6_3, r8_2;
+    uint8_t has_pair, has_pair_2, r11_2;
     map_address = load64(handle);
     store64(handle, 0);
     map = (char *)(uintptr_t)map_address;
     if (map_address == 0) {
-        key = 0;
-        value = 0;
         r6 = 0;
+        r6_2 = 0;
+        r6_3 = 0;
     } else {
         slot = load64(at + CURSOR_SLOT);
         place = load64(at + CURSOR_PLACE);
@@ -3467,42 +3450,42 @@ static ALWAYS_INLINE char *do_intmap_cut(char *result, char *handle, char *at) {
                 has_pair = load8((lone + r8) + LONE_HAS_PAIR);
                 if ((place == 0) & (has_pair != 0)) {
                     has_pair_2 = has_pair;
-                    r6_2 = r8;
+                    r6_4 = r8;
                     lone_2 = lone;
                     r3063 = slot;
                     goto then_1_4;
                 }
             } else {
-                slot_2 = load_address(map + INT_MAP_SHARED) + (slot * SLOT_SIZE);
-                if (load8(slot_2 + SLOT_HAS_FIRST) != 0) {
-                    rest_len = load64(slot_2 + SLOT_REST_LEN);
-                    if (place < (rest_len + 1)) {
+                r11 = load_address(map + INT_MAP_SHARED) + (slot * 48);
+                if (load8(r11) != 0) {
+                    r2 = load64(r11 + 32);
+                    if (place < (r2 + 1)) {
                         if (place == 0) {
-                            rest_len_2 = rest_len;
-                            r5 = slot_2 + SLOT_REST;
-                            slot_3 = slot_2;
+                            r3 = r2;
+                            r5 = r11 + 24;
+                            r9 = r11;
                             r306273 = slot;
                             goto join_3_4;
                         }
-                        place_2 = place - 1;
-                        rest = load_address(slot_2 + SLOT_REST);
-                        rest_room = load64(slot_2 + SLOT_REST_ROOM);
-                        memset(slot_2 + SLOT_REST_LEN, 0, 16);
-                        r6_3 = place_2 << 4;
-                        pair = rest + r6_3;
-                        key_2 = load64(pair + PAIR_KEY);
-                        value_2 = load64(pair + PAIR_VALUE);
-                        r28 = rest_len - 1;
-                        r20 = rest_len - place;
+                        r10 = place - 1;
+                        r13 = load_address(r11 + 24);
+                        r16 = load64(r11 + 40);
+                        memset(r11 + 32, 0, 16);
+                        r6_5 = r10 << 4;
+                        r9_2 = r13 + r6_5;
+                        r1 = load64(r9_2);
+                        r1_2 = load64(r9_2 + 8);
+                        r28 = r2 - 1;
+                        r20 = r2 - place;
                         if (r20 > 128) {
-                            place_3 = place_2;
+                            r3_0 = r10;
                             for (;;) {
-                                pair_2 = rest + (place_3 << 4);
-                                if (place_3 == UINT64_C(18446744073709551615)) {
+                                x6 = r13 + (r3_0 << 4);
+                                if (r3_0 == UINT64_C(18446744073709551615)) {
                                     r0_05 = 0;
                                     for (;;) {
                                         r19 = (uint64_t)2032 - (r0_05 << 4);
-                                        memcpy(pair_2 + r19, (pair_2 + 16) + r19, 16);
+                                        memcpy(x6 + r19, (x6 + 16) + r19, 16);
                                         r29 = r0_05 + 1;
                                         if (r29 == 128) {
                                             break;
@@ -3510,226 +3493,226 @@ static ALWAYS_INLINE char *do_intmap_cut(char *result, char *handle, char *at) {
                                         r0_05 = r29;
                                     }
                                 } else {
-                                    place_4 = 0;
-                                    for (;;) {
-                                        r13 = place_4 << 4;
-                                        memcpy(pair_2 + r13, (pair_2 + 16) + r13, 16);
-                                        next_place = place_4 + 1;
-                                        if (next_place == 128) {
-                                            break;
-                                        }
-                                        place_4 = next_place;
-                                    }
-                                }
-                                place_5 = place_3 + 128;
-                                r20_2 = r28 - place_5;
-                                if (r20_2 <= 128) {
-                                    exit = place_5 << 4;
-                                    pair_3 = rest + exit;
-                                    if (place_5 != UINT64_C(18446744073709551615)) {
-                                        x9 = exit;
-                                        r20_lcssa60 = r20_2;
-                                        place_6 = place_5;
-                                        break;
-                                    }
-                                    if (rest_len == 0) {
-                                        goto after_Slot_remove_at;
-                                    }
                                     r0_05_2 = 0;
                                     for (;;) {
-                                        r19_2 = (r20_2 + (r0_05_2 ^ UINT64_C(18446744073709551615))) << 4;
-                                        memcpy(pair_3 + r19_2, (pair_3 + 16) + r19_2, 16);
-                                        r29_2 = r0_05_2 + 1;
+                                        r13_2 = r0_05_2 << 4;
+                                        memcpy(x6 + r13_2, (x6 + 16) + r13_2, 16);
+                                        r23 = r0_05_2 + 1;
+                                        if (r23 == 128) {
+                                            break;
+                                        }
+                                        r0_05_2 = r23;
+                                    }
+                                }
+                                r36 = r3_0 + 128;
+                                r20_2 = r28 - r36;
+                                if (r20_2 <= 128) {
+                                    exit = r36 << 4;
+                                    x8 = r13 + exit;
+                                    if (r36 != UINT64_C(18446744073709551615)) {
+                                        x9 = exit;
+                                        r20_lcssa60 = r20_2;
+                                        r3_0_lcssa59 = r36;
+                                        break;
+                                    }
+                                    if (r2 == 0) {
+                                        goto after_Slot_remove_at;
+                                    }
+                                    r0_05_3 = 0;
+                                    for (;;) {
+                                        r19_2 = (r20_2 + (r0_05_3 ^ UINT64_C(18446744073709551615))) << 4;
+                                        memcpy(x8 + r19_2, (x8 + 16) + r19_2, 16);
+                                        r29_2 = r0_05_3 + 1;
                                         if (r29_2 == r20_2) {
                                             goto after_Slot_remove_at;
                                         }
-                                        r0_05_2 = r29_2;
+                                        r0_05_3 = r29_2;
                                     }
                                 }
-                                place_3 = place_5;
+                                r3_0 = r36;
                             }
                         } else {
-                            x9 = r6_3;
+                            x9 = r6_5;
                             r20_lcssa60 = r20;
-                            place_6 = place_2;
+                            r3_0_lcssa59 = r10;
                         }
-                        if (r28 != place_6) {
-                            pair_4 = rest + x9;
-                            memmove(pair_4, pair_4 + 16, r20_lcssa60 << 4);
+                        if (r28 != r3_0_lcssa59) {
+                            x10 = r13 + x9;
+                            memmove(x10, x10 + 16, r20_lcssa60 << 4);
                         }
                     after_Slot_remove_at:;
-                        store_address(slot_2 + SLOT_REST, rest);
-                        store64(slot_2 + SLOT_REST_LEN, r28);
-                        store64(slot_2 + SLOT_REST_ROOM, rest_room);
-                        if ((load8(slot_2 + SLOT_HAS_FIRST) & 1) != 0) {
-                            key_3 = key_2;
-                            value_3 = value_2;
+                        store_address(r11 + 24, r13);
+                        store64(r11 + 32, r28);
+                        store64(r11 + 40, r16);
+                        if ((load8(r11) & 1) != 0) {
+                            r3_2 = r1;
+                            r3_3 = r1_2;
                             goto x24;
                         }
                         r306272 = slot;
-                        value_4 = value_2;
-                        key_4 = key_2;
+                        r1_3_0_pn47 = r1_2;
+                        r1_0_0_pn46 = r1;
                         goto then_1_3;
                     }
                 }
             }
         }
-        r3_0 = sum_or_most(slot, 1);
-        r115 = r3_0 >> 6;
+        r3_0_2 = sum_or_most(slot, 1);
+        r115 = r3_0_2 >> 6;
         words_len = load64(map + INT_MAP_WORDS_LEN);
         if (words_len > r115) {
-            r33 = load64(load_address(map + INT_MAP_WORDS) + (r115 << 3)) & (UINT64_C(18446744073709551615) << (r3_0 & 63));
+            r33 = load64(load_address(map + INT_MAP_WORDS) + (r115 << 3)) & (UINT64_C(18446744073709551615) << (r3_0_2 & 63));
             if (r33 != 0) {
-                r1 = r115;
-                r1_2 = r33;
+                r1_3 = r115;
+                r1_4 = r33;
                 goto join_3_thread;
             }
         }
-        r1_3 = r115;
+        r1_5 = r115;
         for (;;) {
-            r26 = r1_3 + 1;
+            r26 = r1_5 + 1;
             if (words_len <= r26) {
-                key_5 = 0;
+                x25 = 0;
                 r8_2 = 0;
-                value_5 = 0;
+                x26 = 0;
                 goto after_walk_cut;
             }
             bits = load64(load_address(map + INT_MAP_WORDS) + (r26 << 3));
             if (bits != 0) {
-                r1 = r26;
-                r1_2 = bits;
+                r1_3 = r26;
+                r1_4 = bits;
                 break;
             }
-            r1_3 = r26;
+            r1_5 = r26;
         }
     join_3_thread:;
-        r49 = low_zeros(r1_2);
-        index = r49 | (r1 << 6);
+        r49 = low_zeros(r1_4);
+        index = r49 | (r1_3 << 6);
         store64(at + CURSOR_SLOT, index);
         store64(at + CURSOR_PLACE, 0);
         if (index < load64(map + INT_MAP_LONE_LEN)) {
             lone_3 = load_address(map + INT_MAP_LONE);
             exit_2 = index * LONE_SIZE;
             has_pair_2 = load8((lone_3 + exit_2) + LONE_HAS_PAIR);
-            r6_2 = exit_2;
+            r6_4 = exit_2;
             lone_2 = lone_3;
             r3063 = index;
             goto then_1_4;
         }
-        slot_4 = load_address(map + INT_MAP_SHARED) + (index * SLOT_SIZE);
-        rest_len_2 = load64(slot_4 + SLOT_REST_LEN);
-        r5 = slot_4 + SLOT_REST;
-        slot_3 = slot_4;
+        r9_3 = load_address(map + INT_MAP_SHARED) + (index * 48);
+        r3 = load64(r9_3 + 32);
+        r5 = r9_3 + 24;
+        r9 = r9_3;
         r306273 = index;
     join_3_4:;
-        if (rest_len_2 == 0) {
-            has_first = load8(slot_3 + SLOT_HAS_FIRST);
-            key_6 = load64(slot_3 + SLOT_KEY);
-            value_6 = load64(slot_3 + SLOT_VALUE);
-            memset(slot_3, 0, 24);
-            if (has_first == 1) {
+        if (r3 == 0) {
+            r11_2 = load8(r9);
+            r0 = load64(r9 + 8);
+            r0_2 = load64(r9 + 16);
+            memset(r9, 0, 24);
+            if (r11_2 == 1) {
                 r306272 = r306273;
-                value_4 = value_6;
-                key_4 = key_6;
+                r1_3_0_pn47 = r0_2;
+                r1_0_0_pn46 = r0;
                 goto then_1_3;
             }
         }
-        rest_2 = load_address(r5 + VEC_ADDRESS);
-        rest_room_2 = load64(slot_3 + SLOT_REST_ROOM);
-        memset(slot_3 + SLOT_REST_LEN, 0, 16);
-        key_7 = load64(rest_2 + PAIR_KEY);
-        value_7 = load64(rest_2 + PAIR_VALUE);
-        r28_2 = rest_len_2 - 1;
+        r13_3 = load_address(r5);
+        r16_2 = load64(r9 + 40);
+        memset(r9 + 32, 0, 16);
+        r1_6 = load64(r13_3);
+        r1_7 = load64(r13_3 + 8);
+        r28_2 = r3 - 1;
         if (r28_2 > 128) {
-            place_7 = 0;
+            r3_0_3 = 0;
             for (;;) {
-                pair_5 = rest_2 + (place_7 << 4);
-                place_8 = 0;
+                x15 = r13_3 + (r3_0_3 << 4);
+                r0_05_4 = 0;
                 for (;;) {
-                    r13_2 = place_8 << 4;
-                    memcpy(pair_5 + r13_2, (pair_5 + 16) + r13_2, 16);
-                    next_place_2 = place_8 + 1;
-                    if (next_place_2 == 128) {
-                        place_9 = place_7 + 128;
-                        r20_3 = r28_2 - place_9;
+                    r13_4 = r0_05_4 << 4;
+                    memcpy(x15 + r13_4, (x15 + 16) + r13_4, 16);
+                    r23_2 = r0_05_4 + 1;
+                    if (r23_2 == 128) {
+                        r36_2 = r3_0_3 + 128;
+                        r20_3 = r28_2 - r36_2;
                         if (r20_3 > 128) {
-                            place_7 = place_9;
+                            r3_0_3 = r36_2;
                             break;
                         }
-                        exit_3 = place_9 << 4;
-                        pair_6 = rest_2 + exit_3;
+                        exit_3 = r36_2 << 4;
+                        x17 = r13_3 + exit_3;
                         x18 = exit_3;
                         r20_lcssa60_2 = r20_3;
-                        place_10 = place_9;
+                        r3_0_lcssa59_2 = r36_2;
                         goto then_2_2;
                     }
-                    place_8 = next_place_2;
+                    r0_05_4 = r23_2;
                 }
             }
         }
-        pair_6 = rest_2;
+        x17 = r13_3;
         x18 = 0;
         r20_lcssa60_2 = r28_2;
-        place_10 = 0;
+        r3_0_lcssa59_2 = 0;
     then_2_2:;
-        if (r28_2 != place_10) {
-            pair_7 = rest_2 + x18;
-            place_11 = 0;
+        if (r28_2 != r3_0_lcssa59_2) {
+            x20 = r13_3 + x18;
+            r0_05_5 = 0;
             for (;;) {
-                r13_3 = place_11 << 4;
-                memcpy(pair_7 + r13_3, (pair_6 + 16) + r13_3, 16);
-                next_place_3 = place_11 + 1;
-                if (next_place_3 == r20_lcssa60_2) {
+                r13_5 = r0_05_5 << 4;
+                memcpy(x20 + r13_5, (x17 + 16) + r13_5, 16);
+                r23_3 = r0_05_5 + 1;
+                if (r23_3 == r20_lcssa60_2) {
                     break;
                 }
-                place_11 = next_place_3;
+                r0_05_5 = r23_3;
             }
         }
-        store_address(r5 + VEC_ADDRESS, rest_2);
-        store64(slot_3 + SLOT_REST_LEN, r28_2);
-        store64(slot_3 + SLOT_REST_ROOM, rest_room_2);
-        if (load8(slot_3 + SLOT_HAS_FIRST) != 1) {
+        store_address(r5, r13_3);
+        store64(r9 + 32, r28_2);
+        store64(r9 + 40, r16_2);
+        if (load8(r9) != 1) {
             abort();
         }
-        key_8 = load64(slot_3 + SLOT_KEY);
-        value_8 = load64(slot_3 + SLOT_VALUE);
-        store64(slot_3 + SLOT_KEY, key_7);
-        store64(slot_3 + SLOT_VALUE, value_7);
-        key_3 = key_8;
-        value_3 = value_8;
+        r4 = load64(r9 + 8);
+        r4_2 = load64(r9 + 16);
+        store64(r9 + 8, r1_6);
+        store64(r9 + 16, r1_7);
+        r3_2 = r4;
+        r3_3 = r4_2;
         goto x24;
     then_1_3:;
-        r11 = load_address(map + INT_MAP_WORDS) + ((r306272 >> 3) & UINT64_C(2305843009213693944));
-        store64(r11, load64(r11) & (((uint64_t)1 << (r306272 & 63)) ^ UINT64_C(18446744073709551615)));
-        key_3 = key_4;
-        value_3 = value_4;
+        r11_3 = load_address(map + INT_MAP_WORDS) + ((r306272 >> 3) & UINT64_C(2305843009213693944));
+        store64(r11_3, load64(r11_3) & (((uint64_t)1 << (r306272 & 63)) ^ UINT64_C(18446744073709551615)));
+        r3_2 = r1_0_0_pn46;
+        r3_3 = r1_3_0_pn47;
         goto x24;
     then_1_4:;
-        slot_5 = lone_2 + r6_2;
-        key_9 = load64(slot_5 + LONE_KEY);
-        value_9 = load64(slot_5 + LONE_VALUE);
-        memset(slot_5, 0, 24);
+        slot_2 = lone_2 + r6_4;
+        key = load64(slot_2 + LONE_KEY);
+        value = load64(slot_2 + LONE_VALUE);
+        memset(slot_2, 0, 24);
         if (has_pair_2 != 1) {
             abort();
         }
-        r11_2 = load_address(map + INT_MAP_WORDS) + ((r3063 >> 3) & UINT64_C(2305843009213693944));
-        store64(r11_2, load64(r11_2) & (((uint64_t)1 << (r3063 & 63)) ^ UINT64_C(18446744073709551615)));
-        key_3 = key_9;
-        value_3 = value_9;
+        r11_4 = load_address(map + INT_MAP_WORDS) + ((r3063 >> 3) & UINT64_C(2305843009213693944));
+        store64(r11_4, load64(r11_4) & (((uint64_t)1 << (r3063 & 63)) ^ UINT64_C(18446744073709551615)));
+        r3_2 = key;
+        r3_3 = value;
     x24:;
         store64(map + INT_MAP_LEN, load64(map + INT_MAP_LEN) - 1);
-        key_5 = key_3;
+        x25 = r3_2;
         r8_2 = 1;
-        value_5 = value_3;
+        x26 = r3_3;
     after_walk_cut:;
         store64(handle, map_address);
-        key = key_5;
-        value = value_5;
-        r6 = r8_2;
+        r6 = x25;
+        r6_2 = x26;
+        r6_3 = r8_2;
     }
-    store64(result + FOUND_PAIR_KEY, key);
-    store64(result + FOUND_PAIR_VALUE, value);
-    store32(result + FOUND_PAIR_STATUS, r6);
+    store64(result + FOUND_PAIR_KEY, r6);
+    store64(result + FOUND_PAIR_VALUE, r6_2);
+    store32(result + FOUND_PAIR_STATUS, r6_3);
     store32(result + 20, 0);
     return result;
 }
@@ -3746,9 +3729,9 @@ static ALWAYS_INLINE void do_intmap_free(char *handle) {
 // Removes the pair of the key, and returns its value.
 // intmap_remove, in crates/intmap_c/src/pairs.rt
 static ALWAYS_INLINE struct word_word do_intmap_remove(char *handle, uint64_t key) {
-    uint64_t map_address, index, r8, bits, value, value_2, value_3, rest_len, r8_2, bits_2, value_4, place, value_5,
-        value_6, rest_len_2, place_2, next_place, place_3, value_7, value_8, r0_2_8_ext;
-    char *map, *slot, *slot_2, *pair, *rest, *pair_2, *pair_3;
+    uint64_t map_address, index, r8, bits, value, r0, spec_select, r3, r8_2, bits_2, r0_2, r28, r2, r4, r6, r3_0,
+        r45, r28_2, r2_2, r4_3, r0_2_8_ext;
+    char *map, *slot, *r11, *r23_2, *r4_2, *r23_3, *x5;
     struct word_half r23;
     uint32_t r0_0_0_0_pn127;
     map_address = load64(handle);
@@ -3762,12 +3745,12 @@ static ALWAYS_INLINE struct word_word do_intmap_remove(char *handle, uint64_t ke
             slot = load_address(map + INT_MAP_LONE) + (index * LONE_SIZE);
             if (load8(slot + LONE_HAS_PAIR) != 1) {
                 r0_0_0_0_pn127 = 0;
-                value_3 = 0;
+                spec_select = 0;
                 goto after_pairs_remove;
             }
             if (load64(slot + LONE_KEY) != key) {
                 r0_0_0_0_pn127 = 0;
-                value_3 = 0;
+                spec_select = 0;
                 goto after_pairs_remove;
             }
             r8 = (index >> 3) & UINT64_C(2305843009213693944);
@@ -3775,75 +3758,75 @@ static ALWAYS_INLINE struct word_word do_intmap_remove(char *handle, uint64_t ke
             value = load64(slot + LONE_VALUE);
             memset(slot, 0, 24);
             store64(load_address(map + INT_MAP_WORDS) + r8, bits & (((uint64_t)1 << (index & 63)) ^ UINT64_C(18446744073709551615)));
-            value_2 = value;
+            r0 = value;
         } else {
-            slot_2 = load_address(map + INT_MAP_SHARED) + (index * SLOT_SIZE);
-            if (load8(slot_2 + SLOT_HAS_FIRST) != 1) {
+            r11 = load_address(map + INT_MAP_SHARED) + (index * 48);
+            if (load8(r11) != 1) {
                 r0_0_0_0_pn127 = 0;
-                value_3 = 0;
+                spec_select = 0;
                 goto after_pairs_remove;
             }
-            if (load64(slot_2 + SLOT_KEY) == key) {
-                rest_len = load64(slot_2 + SLOT_REST_LEN);
-                if (rest_len == 0) {
+            if (load64(r11 + 8) == key) {
+                r3 = load64(r11 + 32);
+                if (r3 == 0) {
                     r8_2 = (index >> 3) & UINT64_C(2305843009213693944);
                     bits_2 = load64(load_address(map + INT_MAP_WORDS) + r8_2);
-                    value_4 = load64(slot_2 + SLOT_VALUE);
-                    memset(slot_2, 0, 24);
+                    r0_2 = load64(r11 + 16);
+                    memset(r11, 0, 24);
                     store64(load_address(map + INT_MAP_WORDS) + r8_2, bits_2 & (((uint64_t)1 << (index & 63)) ^ UINT64_C(18446744073709551615)));
-                    value_2 = value_4;
+                    r0 = r0_2;
                 } else {
-                    place = rest_len - 1;
-                    store64(slot_2 + SLOT_REST_LEN, place);
-                    pair = load_address(slot_2 + SLOT_REST) + (place << 4);
-                    value_5 = load64(pair + PAIR_VALUE);
-                    value_6 = load64(slot_2 + SLOT_VALUE);
-                    store64(slot_2 + SLOT_KEY, load64(pair + PAIR_KEY));
-                    store64(slot_2 + SLOT_VALUE, value_5);
-                    value_2 = value_6;
+                    r28 = r3 - 1;
+                    store64(r11 + 32, r28);
+                    r23_2 = load_address(r11 + 24) + (r28 << 4);
+                    r2 = load64(r23_2 + 8);
+                    r4 = load64(r11 + 16);
+                    store64(r11 + 8, load64(r23_2));
+                    store64(r11 + 16, r2);
+                    r0 = r4;
                 }
             } else {
-                rest = load_address(slot_2 + SLOT_REST);
-                rest_len_2 = load64(slot_2 + SLOT_REST_LEN);
-                if (rest_len_2 == 0) {
+                r4_2 = load_address(r11 + 24);
+                r6 = load64(r11 + 32);
+                if (r6 == 0) {
                     r0_0_0_0_pn127 = 0;
-                    value_3 = 0;
+                    spec_select = 0;
                     goto after_pairs_remove;
                 }
-                place_2 = 0;
+                r3_0 = 0;
                 for (;;) {
-                    next_place = place_2 + 1;
-                    if (load64((rest + (place_2 << 4)) + PAIR_KEY) == key) {
-                        place_3 = rest_len_2 - 1;
-                        store64(slot_2 + SLOT_REST_LEN, place_3);
-                        pair_2 = rest + (place_3 << 4);
-                        value_7 = load64(pair_2 + PAIR_VALUE);
-                        if (next_place == rest_len_2) {
-                            value_2 = value_7;
+                    r45 = r3_0 + 1;
+                    if (load64(r4_2 + (r3_0 << 4)) == key) {
+                        r28_2 = r6 - 1;
+                        store64(r11 + 32, r28_2);
+                        r23_3 = r4_2 + (r28_2 << 4);
+                        r2_2 = load64(r23_3 + 8);
+                        if (r45 == r6) {
+                            r0 = r2_2;
                             break;
                         }
-                        pair_3 = rest + (next_place << 4);
-                        value_8 = load64(pair_3 - 8);
-                        store64(pair_3 - 16, load64(pair_2 + PAIR_KEY));
-                        store64(pair_3 - 8, value_7);
-                        value_2 = value_8;
+                        x5 = r4_2 + (r45 << 4);
+                        r4_3 = load64(x5 - 8);
+                        store64(x5 - 16, load64(r23_3));
+                        store64(x5 - 8, r2_2);
+                        r0 = r4_3;
                         break;
                     }
-                    if (next_place == rest_len_2) {
+                    if (r45 == r6) {
                         r0_0_0_0_pn127 = 0;
-                        value_3 = 0;
+                        spec_select = 0;
                         goto after_pairs_remove;
                     }
-                    place_2 = next_place;
+                    r3_0 = r45;
                 }
             }
         }
         store64(map + INT_MAP_LEN, load64(map + INT_MAP_LEN) - 1);
         r0_0_0_0_pn127 = 1;
-        value_3 = value_2;
+        spec_select = r0;
     after_pairs_remove:;
         store64(handle, map_address);
-        r23 = made_word_half(value_3, r0_0_0_0_pn127);
+        r23 = made_word_half(spec_select, r0_0_0_0_pn127);
     }
     r0_2_8_ext = (uint64_t)r23.second;
     return made_word_word(r23.first, r0_2_8_ext);
@@ -3852,8 +3835,8 @@ static ALWAYS_INLINE struct word_word do_intmap_remove(char *handle, uint64_t ke
 // Replaces the value of a present key, whose pair keeps its place, and returns the value before.
 // intmap_replace, in crates/intmap_c/src/pairs.rt
 static ALWAYS_INLINE struct word_word do_intmap_replace(char *handle, uint64_t key, uint64_t value) {
-    uint64_t map_address, index, rest_len, place, r21, next_place, value_2, r0_2_8_ext;
-    char *map, *slot, *value_at, *slot_2, *rest;
+    uint64_t map_address, index, r6, r3_0, r21, r36, r6_2, r0_2_8_ext;
+    char *map, *slot, *r4, *r11, *r4_2;
     struct word_half r23, r26;
     map_address = load64(handle);
     store64(handle, 0);
@@ -3872,41 +3855,41 @@ static ALWAYS_INLINE struct word_word do_intmap_replace(char *handle, uint64_t k
                 r26 = empty_word_half();
                 goto after_pairs_replace;
             }
-            value_at = slot + LONE_VALUE;
+            r4 = slot + LONE_VALUE;
         } else {
-            slot_2 = load_address(map + INT_MAP_SHARED) + (index * SLOT_SIZE);
-            if (load8(slot_2 + SLOT_HAS_FIRST) != 1) {
+            r11 = load_address(map + INT_MAP_SHARED) + (index * 48);
+            if (load8(r11) != 1) {
                 r26 = empty_word_half();
                 goto after_pairs_replace;
             }
-            if (load64(slot_2 + SLOT_KEY) == key) {
-                value_at = slot_2 + SLOT_VALUE;
+            if (load64(r11 + 8) == key) {
+                r4 = r11 + 16;
             } else {
-                rest = load_address(slot_2 + SLOT_REST);
-                rest_len = load64(slot_2 + SLOT_REST_LEN);
-                if (rest_len == 0) {
+                r4_2 = load_address(r11 + 24);
+                r6 = load64(r11 + 32);
+                if (r6 == 0) {
                     r26 = empty_word_half();
                     goto after_pairs_replace;
                 }
-                place = 0;
+                r3_0 = 0;
                 for (;;) {
-                    r21 = place << 4;
-                    if (load64((rest + r21) + PAIR_KEY) == key) {
-                        value_at = (rest + r21) + PAIR_VALUE;
+                    r21 = r3_0 << 4;
+                    if (load64(r4_2 + r21) == key) {
+                        r4 = (r4_2 + r21) + 8;
                         break;
                     }
-                    next_place = place + 1;
-                    if (next_place == rest_len) {
+                    r36 = r3_0 + 1;
+                    if (r36 == r6) {
                         r26 = empty_word_half();
                         goto after_pairs_replace;
                     }
-                    place = next_place;
+                    r3_0 = r36;
                 }
             }
         }
-        value_2 = load64(value_at);
-        store64(value_at, value);
-        r26 = made_word_half(value_2, 1);
+        r6_2 = load64(r4);
+        store64(r4, value);
+        r26 = made_word_half(r6_2, 1);
     after_pairs_replace:;
         store64(handle, map_address);
         r23 = r26;
@@ -3919,15 +3902,15 @@ static ALWAYS_INLINE struct word_word do_intmap_replace(char *handle, uint64_t k
 // `OK`.
 // intmap_clone, in crates/intmap_c/src/read.rt
 static ALWAYS_INLINE uint32_t do_intmap_clone(char *word, char *to) {
-    char *map, *r25, *r32, *words, *r9_45_0_ph34, *r8, *r39, *lone, *slot, *r18_2, *shared, *slot_2, *r69_2, *r6,
+    char *map, *r25, *r32, *words, *r9_45_0_ph34, *r8, *r39, *lone, *slot, *r18_2, *shared, *r181, *r69_2, *r6,
         *r9_2, *r20;
     uint64_t map_address, lone_len, shared_len, words_len, r7_pre_phi33, r19, r0_05, r18, r30, lone_len_2, index,
-        r134, key, value, next_index, shared_len_2, index_2, r178, key_2, value_2, rest_len, r0_06, r12_4,
-        next_index_2, mask, len, threshold, factor;
+        r134, key, value, next_index, shared_len_2, r17_0577, r178, r13, r13_2, r3, r0_06, r12_4, r210, mask, len,
+        threshold, factor;
     uint32_t r5_0, r30_2;
     bool r12, r12_2, r12_3;
     struct word_word block, block_2, block_3;
-    uint8_t has_pair, has_first;
+    uint8_t has_pair, r39_2;
     char *dangling = (char *)no_bytes;
     uint64_t r26_room[4];
     char *r26 = (char *)r26_room;
@@ -4046,31 +4029,31 @@ static ALWAYS_INLINE uint32_t do_intmap_clone(char *word, char *to) {
         shared = load_address(map + INT_MAP_SHARED);
         shared_len_2 = load64(map + INT_MAP_SHARED_LEN);
         if (shared_len_2 != 0) {
-            index_2 = 0;
+            r17_0577 = 0;
             for (;;) {
-                r178 = index_2 * SLOT_SIZE;
-                slot_2 = shared + r178;
+                r178 = r17_0577 * 48;
+                r181 = shared + r178;
                 memset(r26, 0, 32);
-                has_first = load8(slot_2 + SLOT_HAS_FIRST);
-                if (has_first == 1) {
-                    key_2 = load64(slot_2 + SLOT_KEY);
-                    value_2 = load64(slot_2 + SLOT_VALUE);
+                r39_2 = load8(r181);
+                if (r39_2 == 1) {
+                    r13 = load64(r181 + 8);
+                    r13_2 = load64(r181 + 16);
                 } else {
-                    key_2 = 0;
-                    value_2 = 0;
+                    r13 = 0;
+                    r13_2 = 0;
                 }
-                rest_len = load64(slot_2 + SLOT_REST_LEN);
-                if (rest_len == 0) {
+                r3 = load64(r181 + 32);
+                if (r3 == 0) {
                     memset(r69, 0, 16);
                     r69_2 = dangling;
                 } else {
-                    slot_clone_in(r26, load_address(slot_2 + SLOT_REST), rest_len);
+                    slot_clone_in(r26, load_address(r181 + 24), r3);
                     if (load8(r26) != 0) {
                         memset(r69, 0, 16);
                         if (!r12_3) {
                             rattle_dealloc(r39);
                         }
-                        if (index_2 != 0) {
+                        if (r17_0577 != 0) {
                             r0_06 = 0;
                             for (;;) {
                                 r9_2 = r32 + (r0_06 * 48);
@@ -4078,7 +4061,7 @@ static ALWAYS_INLINE uint32_t do_intmap_clone(char *word, char *to) {
                                     rattle_dealloc(load_address(r9_2 + 24));
                                 }
                                 r12_4 = r0_06 + 1;
-                                if (r12_4 == index_2) {
+                                if (r12_4 == r17_0577) {
                                     break;
                                 }
                                 r0_06 = r12_4;
@@ -4098,16 +4081,16 @@ static ALWAYS_INLINE uint32_t do_intmap_clone(char *word, char *to) {
                     r69_2 = r6;
                 }
                 r20 = r32 + r178;
-                store64(r20, (uint64_t)has_first);
-                store64(r20 + 8, key_2);
-                store64(r20 + 16, value_2);
+                store64(r20, (uint64_t)r39_2);
+                store64(r20 + 8, r13);
+                store64(r20 + 16, r13_2);
                 store_address(r20 + 24, r69_2);
                 memcpy(r20 + 32, r69, 16);
-                next_index_2 = index_2 + 1;
-                if (next_index_2 == shared_len_2) {
+                r210 = r17_0577 + 1;
+                if (r210 == shared_len_2) {
                     break;
                 }
-                index_2 = next_index_2;
+                r17_0577 = r210;
             }
         }
         mask = load64(map + INT_MAP_MASK);
@@ -4176,10 +4159,10 @@ static ALWAYS_INLINE uint32_t do_intmap_with_capacity(char *handle, uint64_t cap
 // Adds to the value of a present key as `intmap_add_present` does, or inserts an absent key with `more`.
 // intmap_add_or_insert, in crates/intmap_c/src/pairs.rt
 static ALWAYS_INLINE struct word_word do_intmap_add_or_insert(char *handle, uint64_t key, uint64_t more) {
-    uint64_t map_address, value, r19, map_address_2, index, rest_len, place, r21, next_place, len, x15, r44, r40,
-        value_2, r8, bits, r20, value_3;
+    uint64_t map_address, r6, r19, map_address_2, index, r6_2, r3_0, r21, r36, len, x15, r44, r40, r8, r8_2, bits,
+        r20, r2933;
     struct byte_address r15;
-    char *map, *slot, *value_at, *slot_2, *rest, *r11, *slot_3, *slot_4, *r11_2;
+    char *map, *slot, *r2933_in, *r11, *r4, *r11_2, *slot_2, *r9, *r11_3;
     bool r16;
     struct byte_word r53, r53_2, r86;
     uint8_t has_pair;
@@ -4190,7 +4173,7 @@ static ALWAYS_INLINE struct word_word do_intmap_add_or_insert(char *handle, uint
     if (map_address == 0) {
         r15 = handle_make_first();
         if (r15.first == 0) {
-            value = 0;
+            r6 = 0;
             r19 = UINT64_C(4294967295);
             goto after_pairs_intmap_add_or_insert;
         }
@@ -4205,32 +4188,32 @@ static ALWAYS_INLINE struct word_word do_intmap_add_or_insert(char *handle, uint
         slot = load_address(map + INT_MAP_LONE) + (index * LONE_SIZE);
         if (load8(slot + LONE_HAS_PAIR) == 1) {
             if (load64(slot + LONE_KEY) == key) {
-                value_at = slot + LONE_VALUE;
+                r2933_in = slot + LONE_VALUE;
                 goto after_OccupiedEntry_insert;
             }
         }
     } else {
-        slot_2 = load_address(map + INT_MAP_SHARED) + (index * SLOT_SIZE);
-        if (load8(slot_2 + SLOT_HAS_FIRST) == 1) {
-            if (load64(slot_2 + SLOT_KEY) == key) {
-                value_at = slot_2 + SLOT_VALUE;
+        r11 = load_address(map + INT_MAP_SHARED) + (index * 48);
+        if (load8(r11) == 1) {
+            if (load64(r11 + 8) == key) {
+                r2933_in = r11 + 16;
                 goto after_OccupiedEntry_insert;
             }
-            rest = load_address(slot_2 + SLOT_REST);
-            rest_len = load64(slot_2 + SLOT_REST_LEN);
-            if (rest_len != 0) {
-                place = 0;
+            r4 = load_address(r11 + 24);
+            r6_2 = load64(r11 + 32);
+            if (r6_2 != 0) {
+                r3_0 = 0;
                 for (;;) {
-                    r21 = place << 4;
-                    if (load64((rest + r21) + PAIR_KEY) == key) {
-                        value_at = (rest + r21) + PAIR_VALUE;
+                    r21 = r3_0 << 4;
+                    if (load64(r4 + r21) == key) {
+                        r2933_in = (r4 + r21) + 8;
                         goto after_OccupiedEntry_insert;
                     }
-                    next_place = place + 1;
-                    if (next_place == rest_len) {
+                    r36 = r3_0 + 1;
+                    if (r36 == r6_2) {
                         break;
                     }
-                    place = next_place;
+                    r3_0 = r36;
                 }
             }
         }
@@ -4243,15 +4226,15 @@ static ALWAYS_INLINE struct word_word do_intmap_add_or_insert(char *handle, uint
         r44 = len + 1;
         if (!(((r44 & 4) != 0) & (load64(map + INT_MAP_THRESHOLD) <= len))) {
             if (r16) {
-                r8 = index * LONE_SIZE;
-                if ((load8((load_address(map + INT_MAP_LONE) + r8) + LONE_HAS_PAIR) & 1) == 0) {
-                    r11 = load_address(map + INT_MAP_WORDS) + ((index >> 3) & UINT64_C(2305843009213693944));
-                    store64(r11, load64(r11) | ((uint64_t)1 << (index & 63)));
-                    slot_3 = load_address(map + INT_MAP_LONE) + r8;
-                    has_pair = load8(slot_3 + LONE_HAS_PAIR);
-                    store64(slot_3 + LONE_HAS_PAIR, 1);
-                    store64(slot_3 + LONE_KEY, key);
-                    store64(slot_3 + LONE_VALUE, more);
+                r8_2 = index * LONE_SIZE;
+                if ((load8((load_address(map + INT_MAP_LONE) + r8_2) + LONE_HAS_PAIR) & 1) == 0) {
+                    r11_2 = load_address(map + INT_MAP_WORDS) + ((index >> 3) & UINT64_C(2305843009213693944));
+                    store64(r11_2, load64(r11_2) | ((uint64_t)1 << (index & 63)));
+                    slot_2 = load_address(map + INT_MAP_LONE) + r8_2;
+                    has_pair = load8(slot_2 + LONE_HAS_PAIR);
+                    store64(slot_2 + LONE_HAS_PAIR, 1);
+                    store64(slot_2 + LONE_KEY, key);
+                    store64(slot_2 + LONE_VALUE, more);
                     if (has_pair == 0) {
                         goto after_IntMap_add_2;
                     }
@@ -4260,61 +4243,61 @@ static ALWAYS_INLINE struct word_word do_intmap_add_or_insert(char *handle, uint
                 r53 = slots_push_second(map, index, key, more);
                 r53_2 = r53;
             } else {
-                slot_4 = load_address(map + INT_MAP_SHARED) + (index * SLOT_SIZE);
-                r11_2 = load_address(map + INT_MAP_WORDS) + ((index >> 3) & UINT64_C(2305843009213693944));
-                bits = load64(r11_2);
+                r9 = load_address(map + INT_MAP_SHARED) + (index * 48);
+                r11_3 = load_address(map + INT_MAP_WORDS) + ((index >> 3) & UINT64_C(2305843009213693944));
+                bits = load64(r11_3);
                 r20 = (uint64_t)1 << (index & 63);
-                store64(r11_2, bits | r20);
+                store64(r11_3, bits | r20);
                 if ((bits & r20) == 0) {
-                    store64(slot_4 + SLOT_HAS_FIRST, 1);
-                    store64(slot_4 + SLOT_KEY, key);
-                    store64(slot_4 + SLOT_VALUE, more);
+                    store64(r9, 1);
+                    store64(r9 + 8, key);
+                    store64(r9 + 16, more);
                     goto after_IntMap_add_2;
                 }
-                r86 = slot_push(slot_4, key, more);
+                r86 = slot_push(r9, key, more);
                 r53_2 = r86;
             }
             if (r53_2.first != 0) {
                 r40 = UINT64_C(4294967295);
-                value_2 = 0;
+                r8 = 0;
                 goto after_pairs_add_or_insert;
             }
         after_IntMap_add_2:;
             store64(map + INT_MAP_LEN, r44);
             r40 = 0;
-            value_2 = 0;
+            r8 = 0;
             goto after_pairs_add_or_insert;
         }
         intmap_add_growing(r12, map, r44, index, key, more);
         if (load8(r12) == 0) {
             r40 = 0;
-            value_2 = 0;
+            r8 = 0;
             goto after_pairs_add_or_insert;
         }
         x15 = ((load64(r12 + 16) & 255) == 0) ? UINT64_C(4294967295) : UINT64_C(4294967294);
     }
     r40 = x15;
-    value_2 = 0;
+    r8 = 0;
     goto after_pairs_add_or_insert;
 after_OccupiedEntry_insert:;
-    value_3 = load64(value_at);
-    store64(value_at, value_3 + more);
+    r2933 = load64(r2933_in);
+    store64(r2933_in, r2933 + more);
     r40 = 1;
-    value_2 = value_3;
+    r8 = r2933;
 after_pairs_add_or_insert:;
     store64(handle, map_address_2);
-    value = value_2;
+    r6 = r8;
     r19 = r40;
 after_pairs_intmap_add_or_insert:;
-    return made_word_word(value, r19);
+    return made_word_word(r6, r19);
 }
 
 // Finds the key, or inserts the pair if the key is absent, and returns whether the key was present.
 // intmap_find_or_insert, in crates/intmap_c/src/pairs.rt
 static ALWAYS_INLINE uint32_t do_intmap_find_or_insert(char *handle, uint64_t key, uint64_t value) {
-    uint64_t map_address, map_address_2, index, rest_len, place, next_place, len, r44, r8, bits, r20;
+    uint64_t map_address, map_address_2, index, r6, r3_0, r36, len, r44, r8, bits, r20;
     struct byte_address r15;
-    char *map, *slot, *slot_2, *rest, *r11, *slot_3, *slot_4, *r11_2;
+    char *map, *slot, *r11, *r4, *r11_2, *slot_2, *r9, *r11_3;
     bool r16;
     uint32_t r4_0;
     struct byte_word r53, r53_2, r86;
@@ -4344,26 +4327,26 @@ static ALWAYS_INLINE uint32_t do_intmap_find_or_insert(char *handle, uint64_t ke
             }
         }
     } else {
-        slot_2 = load_address(map + INT_MAP_SHARED) + (index * SLOT_SIZE);
-        if (load8(slot_2 + SLOT_HAS_FIRST) == 1) {
-            if (load64(slot_2 + SLOT_KEY) == key) {
+        r11 = load_address(map + INT_MAP_SHARED) + (index * 48);
+        if (load8(r11) == 1) {
+            if (load64(r11 + 8) == key) {
                 r4_0 = 1;
                 goto after_pairs_find_or_insert;
             }
-            rest = load_address(slot_2 + SLOT_REST);
-            rest_len = load64(slot_2 + SLOT_REST_LEN);
-            if (rest_len != 0) {
-                place = 0;
+            r4 = load_address(r11 + 24);
+            r6 = load64(r11 + 32);
+            if (r6 != 0) {
+                r3_0 = 0;
                 for (;;) {
-                    if (load64((rest + (place << 4)) + PAIR_KEY) == key) {
+                    if (load64(r4 + (r3_0 << 4)) == key) {
                         r4_0 = 1;
                         goto after_pairs_find_or_insert;
                     }
-                    next_place = place + 1;
-                    if (next_place == rest_len) {
+                    r36 = r3_0 + 1;
+                    if (r36 == r6) {
                         break;
                     }
-                    place = next_place;
+                    r3_0 = r36;
                 }
             }
         }
@@ -4378,13 +4361,13 @@ static ALWAYS_INLINE uint32_t do_intmap_find_or_insert(char *handle, uint64_t ke
             if (r16) {
                 r8 = index * LONE_SIZE;
                 if ((load8((load_address(map + INT_MAP_LONE) + r8) + LONE_HAS_PAIR) & 1) == 0) {
-                    r11 = load_address(map + INT_MAP_WORDS) + ((index >> 3) & UINT64_C(2305843009213693944));
-                    store64(r11, load64(r11) | ((uint64_t)1 << (index & 63)));
-                    slot_3 = load_address(map + INT_MAP_LONE) + r8;
-                    has_pair = load8(slot_3 + LONE_HAS_PAIR);
-                    store64(slot_3 + LONE_HAS_PAIR, 1);
-                    store64(slot_3 + LONE_KEY, key);
-                    store64(slot_3 + LONE_VALUE, value);
+                    r11_2 = load_address(map + INT_MAP_WORDS) + ((index >> 3) & UINT64_C(2305843009213693944));
+                    store64(r11_2, load64(r11_2) | ((uint64_t)1 << (index & 63)));
+                    slot_2 = load_address(map + INT_MAP_LONE) + r8;
+                    has_pair = load8(slot_2 + LONE_HAS_PAIR);
+                    store64(slot_2 + LONE_HAS_PAIR, 1);
+                    store64(slot_2 + LONE_KEY, key);
+                    store64(slot_2 + LONE_VALUE, value);
                     if (has_pair == 0) {
                         goto after_IntMap_add;
                     }
@@ -4393,18 +4376,18 @@ static ALWAYS_INLINE uint32_t do_intmap_find_or_insert(char *handle, uint64_t ke
                 r53 = slots_push_second(map, index, key, value);
                 r53_2 = r53;
             } else {
-                slot_4 = load_address(map + INT_MAP_SHARED) + (index * SLOT_SIZE);
-                r11_2 = load_address(map + INT_MAP_WORDS) + ((index >> 3) & UINT64_C(2305843009213693944));
-                bits = load64(r11_2);
+                r9 = load_address(map + INT_MAP_SHARED) + (index * 48);
+                r11_3 = load_address(map + INT_MAP_WORDS) + ((index >> 3) & UINT64_C(2305843009213693944));
+                bits = load64(r11_3);
                 r20 = (uint64_t)1 << (index & 63);
-                store64(r11_2, bits | r20);
+                store64(r11_3, bits | r20);
                 if ((bits & r20) == 0) {
-                    store64(slot_4 + SLOT_HAS_FIRST, 1);
-                    store64(slot_4 + SLOT_KEY, key);
-                    store64(slot_4 + SLOT_VALUE, value);
+                    store64(r9, 1);
+                    store64(r9 + 8, key);
+                    store64(r9 + 16, value);
                     goto after_IntMap_add;
                 }
-                r86 = slot_push(slot_4, key, value);
+                r86 = slot_push(r9, key, value);
                 r53_2 = r86;
             }
             if (r53_2.first != 0) {
@@ -4435,11 +4418,10 @@ after_pairs_find_or_insert:;
 // Inserts the pair of the key and the value at the end of its slot, and returns the value before.
 // intmap_insert, in crates/intmap_c/src/pairs.rt
 static ALWAYS_INLINE struct word_word do_intmap_insert(char *handle, uint64_t key, uint64_t value) {
-    uint64_t map_address, value_2, r19, map_address_2, index, value_3, value_4, spec_select1, rest_len, value_5,
-        key_2, key_3, value_6, value_7, rest_len_2, place, next_place, place_2, r20, value_8, r12_2, r9, value_9,
-        value_10, rest_len_3, len, x18, r44, r8, bits, r20_2;
+    uint64_t map_address, r6, r19, map_address_2, index, value_2, r5, spec_select1, r11_2, r4, r4_2, r4_3, r4_4,
+        r4_5, r6_2, r3_0, r45, r15_2, r20, r2, r12_2, r9, r0, r4_7, r9_2, len, x18, r44, r8, bits, r20_2;
     struct byte_address r15;
-    char *map, *slot, *slot_2, *pair, *rest, *pair_2, *rest_2, *pair_3, *pair_4, *r11, *slot_3, *slot_4, *r11_2;
+    char *map, *slot, *r11, *x8, *r4_6, *r23, *r10, *x6, *r15_3, *r11_3, *slot_2, *r9_3, *r11_4;
     bool r16;
     struct byte_word r53, r53_2, r86;
     uint8_t has_pair;
@@ -4450,7 +4432,7 @@ static ALWAYS_INLINE struct word_word do_intmap_insert(char *handle, uint64_t ke
     if (map_address == 0) {
         r15 = handle_make_first();
         if (r15.first == 0) {
-            value_2 = 0;
+            r6 = 0;
             r19 = UINT64_C(4294967295);
             goto after_pairs_intmap_insert;
         }
@@ -4465,80 +4447,80 @@ static ALWAYS_INLINE struct word_word do_intmap_insert(char *handle, uint64_t ke
         slot = load_address(map + INT_MAP_LONE) + (index * LONE_SIZE);
         if (load8(slot + LONE_HAS_PAIR) == 1) {
             if (load64(slot + LONE_KEY) == key) {
-                value_3 = load64(slot + LONE_VALUE);
+                value_2 = load64(slot + LONE_VALUE);
                 store64(slot + LONE_VALUE, value);
-                value_4 = value_3;
+                r5 = value_2;
                 spec_select1 = 1;
                 goto after_pairs_insert;
             }
         }
     } else {
-        slot_2 = load_address(map + INT_MAP_SHARED) + (index * SLOT_SIZE);
-        if (load8(slot_2 + SLOT_HAS_FIRST) == 1) {
-            if (load64(slot_2 + SLOT_KEY) == key) {
-                rest_len = load64(slot_2 + SLOT_REST_LEN);
-                if (rest_len == 0) {
-                    value_5 = value;
-                    key_2 = key;
+        r11 = load_address(map + INT_MAP_SHARED) + (index * 48);
+        if (load8(r11) == 1) {
+            if (load64(r11 + 8) == key) {
+                r11_2 = load64(r11 + 32);
+                if (r11_2 == 0) {
+                    r4 = value;
+                    r4_2 = key;
                 } else {
-                    pair = load_address(slot_2 + SLOT_REST) + (rest_len << 4);
-                    key_3 = load64(pair - 16);
-                    value_6 = load64(pair - 8);
-                    store64(pair - 16, key);
-                    store64(pair - 8, value);
-                    if (load8(slot_2 + SLOT_HAS_FIRST) != 1) {
+                    x8 = load_address(r11 + 24) + (r11_2 << 4);
+                    r4_3 = load64(x8 - 16);
+                    r4_4 = load64(x8 - 8);
+                    store64(x8 - 16, key);
+                    store64(x8 - 8, value);
+                    if (load8(r11) != 1) {
                         abort();
                     }
-                    value_5 = value_6;
-                    key_2 = key_3;
+                    r4 = r4_4;
+                    r4_2 = r4_3;
                 }
-                value_7 = load64(slot_2 + SLOT_VALUE);
-                store64(slot_2 + SLOT_KEY, key_2);
-                store64(slot_2 + SLOT_VALUE, value_5);
-                value_4 = value_7;
+                r4_5 = load64(r11 + 16);
+                store64(r11 + 8, r4_2);
+                store64(r11 + 16, r4);
+                r5 = r4_5;
                 spec_select1 = 1;
                 goto after_pairs_insert;
             }
-            rest = load_address(slot_2 + SLOT_REST);
-            rest_len_2 = load64(slot_2 + SLOT_REST_LEN);
-            if (rest_len_2 != 0) {
-                place = 0;
+            r4_6 = load_address(r11 + 24);
+            r6_2 = load64(r11 + 32);
+            if (r6_2 != 0) {
+                r3_0 = 0;
                 for (;;) {
-                    next_place = place + 1;
-                    if (load64((rest + (place << 4)) + PAIR_KEY) == key) {
-                        place_2 = rest_len_2 - 1;
-                        store64(slot_2 + SLOT_REST_LEN, place_2);
-                        r20 = place_2 << 4;
-                        pair_2 = rest + r20;
-                        value_8 = load64(pair_2 + PAIR_VALUE);
-                        if (next_place == rest_len_2) {
+                    r45 = r3_0 + 1;
+                    if (load64(r4_6 + (r3_0 << 4)) == key) {
+                        r15_2 = r6_2 - 1;
+                        store64(r11 + 32, r15_2);
+                        r20 = r15_2 << 4;
+                        r23 = r4_6 + r20;
+                        r2 = load64(r23 + 8);
+                        if (r45 == r6_2) {
                             r12_2 = r20;
-                            rest_2 = rest;
-                            r9 = rest_len_2;
-                            value_9 = value_8;
+                            r10 = r4_6;
+                            r9 = r6_2;
+                            r0 = r2;
                         } else {
-                            pair_3 = rest + (next_place << 4);
-                            value_10 = load64(pair_3 - 8);
-                            store64(pair_3 - 16, load64(pair_2 + PAIR_KEY));
-                            store64(pair_3 - 8, value_8);
-                            rest_len_3 = load64(slot_2 + SLOT_REST_LEN);
-                            r12_2 = rest_len_3 << 4;
-                            rest_2 = load_address(slot_2 + SLOT_REST);
-                            r9 = rest_len_3 + 1;
-                            value_9 = value_10;
+                            x6 = r4_6 + (r45 << 4);
+                            r4_7 = load64(x6 - 8);
+                            store64(x6 - 16, load64(r23));
+                            store64(x6 - 8, r2);
+                            r9_2 = load64(r11 + 32);
+                            r12_2 = r9_2 << 4;
+                            r10 = load_address(r11 + 24);
+                            r9 = r9_2 + 1;
+                            r0 = r4_7;
                         }
-                        pair_4 = rest_2 + r12_2;
-                        store64(pair_4 + PAIR_KEY, key);
-                        store64(pair_4 + PAIR_VALUE, value);
-                        store64(slot_2 + SLOT_REST_LEN, r9);
-                        value_4 = value_9;
+                        r15_3 = r10 + r12_2;
+                        store64(r15_3, key);
+                        store64(r15_3 + 8, value);
+                        store64(r11 + 32, r9);
+                        r5 = r0;
                         spec_select1 = 1;
                         goto after_pairs_insert;
                     }
-                    if (next_place == rest_len_2) {
+                    if (r45 == r6_2) {
                         break;
                     }
-                    place = next_place;
+                    r3_0 = r45;
                 }
             }
         }
@@ -4553,13 +4535,13 @@ static ALWAYS_INLINE struct word_word do_intmap_insert(char *handle, uint64_t ke
             if (r16) {
                 r8 = index * LONE_SIZE;
                 if ((load8((load_address(map + INT_MAP_LONE) + r8) + LONE_HAS_PAIR) & 1) == 0) {
-                    r11 = load_address(map + INT_MAP_WORDS) + ((index >> 3) & UINT64_C(2305843009213693944));
-                    store64(r11, load64(r11) | ((uint64_t)1 << (index & 63)));
-                    slot_3 = load_address(map + INT_MAP_LONE) + r8;
-                    has_pair = load8(slot_3 + LONE_HAS_PAIR);
-                    store64(slot_3 + LONE_HAS_PAIR, 1);
-                    store64(slot_3 + LONE_KEY, key);
-                    store64(slot_3 + LONE_VALUE, value);
+                    r11_3 = load_address(map + INT_MAP_WORDS) + ((index >> 3) & UINT64_C(2305843009213693944));
+                    store64(r11_3, load64(r11_3) | ((uint64_t)1 << (index & 63)));
+                    slot_2 = load_address(map + INT_MAP_LONE) + r8;
+                    has_pair = load8(slot_2 + LONE_HAS_PAIR);
+                    store64(slot_2 + LONE_HAS_PAIR, 1);
+                    store64(slot_2 + LONE_KEY, key);
+                    store64(slot_2 + LONE_VALUE, value);
                     if (has_pair == 0) {
                         goto after_IntMap_add_2;
                     }
@@ -4568,47 +4550,47 @@ static ALWAYS_INLINE struct word_word do_intmap_insert(char *handle, uint64_t ke
                 r53 = slots_push_second(map, index, key, value);
                 r53_2 = r53;
             } else {
-                slot_4 = load_address(map + INT_MAP_SHARED) + (index * SLOT_SIZE);
-                r11_2 = load_address(map + INT_MAP_WORDS) + ((index >> 3) & UINT64_C(2305843009213693944));
-                bits = load64(r11_2);
+                r9_3 = load_address(map + INT_MAP_SHARED) + (index * 48);
+                r11_4 = load_address(map + INT_MAP_WORDS) + ((index >> 3) & UINT64_C(2305843009213693944));
+                bits = load64(r11_4);
                 r20_2 = (uint64_t)1 << (index & 63);
-                store64(r11_2, bits | r20_2);
+                store64(r11_4, bits | r20_2);
                 if ((bits & r20_2) == 0) {
-                    store64(slot_4 + SLOT_HAS_FIRST, 1);
-                    store64(slot_4 + SLOT_KEY, key);
-                    store64(slot_4 + SLOT_VALUE, value);
+                    store64(r9_3, 1);
+                    store64(r9_3 + 8, key);
+                    store64(r9_3 + 16, value);
                     goto after_IntMap_add_2;
                 }
-                r86 = slot_push(slot_4, key, value);
+                r86 = slot_push(r9_3, key, value);
                 r53_2 = r86;
             }
             if (r53_2.first != 0) {
-                value_4 = 0;
+                r5 = 0;
                 spec_select1 = UINT64_C(4294967295);
                 goto after_pairs_insert;
             }
         after_IntMap_add_2:;
             store64(map + INT_MAP_LEN, r44);
-            value_4 = 0;
+            r5 = 0;
             spec_select1 = 0;
             goto after_pairs_insert;
         }
         intmap_add_growing(r12, map, r44, index, key, value);
         if (load8(r12) == 0) {
-            value_4 = 0;
+            r5 = 0;
             spec_select1 = 0;
             goto after_pairs_insert;
         }
         x18 = (load8(r12 + 16) == 0) ? UINT64_C(4294967295) : UINT64_C(4294967294);
     }
-    value_4 = 0;
+    r5 = 0;
     spec_select1 = x18;
 after_pairs_insert:;
     store64(handle, map_address_2);
-    value_2 = value_4;
+    r6 = r5;
     r19 = spec_select1;
 after_pairs_intmap_insert:;
-    return made_word_word(value_2, r19);
+    return made_word_word(r6, r19);
 }
 
 // Makes slots for the pairs and `additional` more, and returns `OK`.
