@@ -6,6 +6,7 @@ pub mod PassedLemmas
 pub mod ChainLemmas
 pub mod SlotLemmas
 pub mod LinkedLemmas
+pub mod HomeLemmas
 pub mod TurnLemmas
 pub mod WalkLemmas
 pub mod CloneLemmas

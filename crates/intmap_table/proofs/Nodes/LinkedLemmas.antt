@@ -123,7 +123,7 @@ module _ {P : Type 0} (home : P → ℕ) where
   home_set i (p ∷ ps) zero x own e = (e, own.1)
   home_set i (p ∷ ps) (suc k) x own e = (own.0, home_set i ps k x own.1 e)
 
-  home_take : (i : ℕ) (n : ℕ) (ps : List P) → AreHome home i ps → AreHome home i (take n ps)
+  pub home_take : (i : ℕ) (n : ℕ) (ps : List P) → AreHome home i ps → AreHome home i (take n ps)
   home_take i zero ps own = tt
   home_take i (suc n) [] own = tt
   home_take i (suc n) (p ∷ ps) own = (own.0, home_take i n ps own.1)

@@ -7,6 +7,7 @@
 //! pair into its new slot, and `grow` goes over the old ones.
 
 mod clone;
+mod closures;
 mod grow;
 mod pairs;
 mod place;

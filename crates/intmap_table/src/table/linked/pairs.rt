@@ -12,7 +12,7 @@ use std::alloc::Allocator;
 
 /// Clears the bit of a slot if it holds no pair.
 #[inline(always)]
-fn unmark_if<A: Allocator>(bits: &mut Bits<A>, is_empty: bool, index: usize)
+pub(super) fn unmark_if<A: Allocator>(bits: &mut Bits<A>, is_empty: bool, index: usize)
     requires { index < length bits.old }
     ensures { bits.new ≡ cond is_empty (slice_set bits.old index false) bits.old }
 {
