@@ -4,7 +4,7 @@ ghost use Rattle.intmap_table.specs.Picking.{AsksAt, ExtractsBehind, PicksAt};
 ghost use Rattle.intmap_table.specs.Retaining.{KeepsAt, Retains, TakesPair};
 ghost use Rattle.intmap_table.specs.Tables.Rows.{row_at};
 ghost use Rattle.intmap_table.specs.Taking.{TakesEach};
-ghost use Rattle.intmap_table.specs.Writes.{TakesPairMut};
+ghost use Rattle.intmap_table.specs.Writes.{TakesPairMut, Writes, WritesAt};
 
 use crate::kept::Kept;
 use crate::key::IntKey;
@@ -58,5 +58,18 @@ impl<K: IntKey, V, A: Allocator> Slots<K, Kept<V>, A> {
         let found = closures::extract(slot, &mut self.pool, place, f);
         unmark_if(&mut self.bits, slot.is_empty(), index);
         found
+    }
+
+    /// Calls the closure at each pair of a slot in turn, with a mutable reference to its value.
+    #[inline(always)]
+    pub(crate) fn write_at<F: FnMut(K, &mut V)>(&mut self, index: usize, f: &mut F)
+        requires filled { 0 < length (row_at self.old index) }
+        requires callable { TakesEach (WritesAt F.FnMut) (TakesPairMut F.FnMut) f.old
+            (row_at self.old index) }
+        ensures row { (row : List (K × V)) × (self.new.rows ≡ set self.old.rows index row)
+            × Writes (WritesAt F.FnMut) f.old (row_at self.old index) row f.new }
+        ensures room { self.new.room ≡ self.old.room }
+    {
+        closures::write_each(&mut self.slots[index], &mut self.pool, f);
     }
 }
