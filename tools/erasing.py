@@ -27,7 +27,7 @@ import re
 HOMES = {"intmap_table": "table", "intmap": "map", "intmap_set": "set"}
 
 LEFT_OUT = {
-    "intmap_table": ["lent", "linked", "table/linked"],
+    "intmap_table": ["lent", "linked", "table/linked", "table/linked_table"],
     "intmap": ["decimal", "laws", "map/iter/cursor", "map/iter/written", "map/json"],
     "intmap_set": ["laws", "set/iter/extract", "set/owned"],
 }

@@ -17,4 +17,5 @@ pub mod BindingLemmas
 pub mod BindSameLemmas
 pub mod Tables
 pub mod Nodes
+pub mod Rows
 pub mod Lending

@@ -26,7 +26,7 @@ use Rattle.intmap_table.proofs.SlotNumberLemmas.{slot_number-below}
 use Rattle.intmap_table.proofs.WalkLemmas.{same_key-slot, value_of-slot_of}
 
 -- no more elements pass a test once others were left out
-count_by-filter-le : {X : Type 0} (keep test : X → Bool) (xs : List X) → count_by test (filter keep xs) ≤ count_by test xs
+pub count_by-filter-le : {X : Type 0} (keep test : X → Bool) (xs : List X) → count_by test (filter keep xs) ≤ count_by test xs
 count_by-filter-le keep test [] = omega arith
 count_by-filter-le keep test (x ∷ xs) =
     let more = sum_by-cons (λ y. cond (test y) 1 0) x xs in
@@ -35,14 +35,14 @@ count_by-filter-le keep test (x ∷ xs) =
     grind (arith, more, here, rest)
 
 -- the one that a push adds is found if none was found before
-position-push : {X : Type 0} (test : X → Bool) (xs : List X) (x : X) → position test xs ≡ None → test x ≡ true → position test (xs ++ x ∷ []) ≡ Some (length xs)
+pub position-push : {X : Type 0} (test : X → Bool) (xs : List X) (x : X) → position test xs ≡ None → test x ≡ true → position test (xs ++ x ∷ []) ≡ Some (length xs)
 position-push test xs x none passes =
     let all = position_or_len-none test xs none in let at = position_or_len_push test xs x in let longer = length_push xs x in
     grind (arith, nat_tests, all, at, longer, passes)
 
 module _ {K X : Type 0} where
   -- what holds of all keys holds of them after a write
-  All-write_at : (P : K → Type 0) (ps : List (K × X)) (i : ℕ) (v : X) → All (λ p. P p.0) ps → All (λ p. P p.0) (write_at ps i v)
+  pub All-write_at : (P : K → Type 0) (ps : List (K × X)) (i : ℕ) (v : X) → All (λ p. P p.0) ps → All (λ p. P p.0) (write_at ps i v)
   All-write_at P [] i v all = all
   All-write_at P (p ∷ ps) zero v all = All-cons (λ p. P p.0) (p.0, v) ps (All-head (λ p. P p.0) p ps all) (All-tail (λ p. P p.0) p ps all)
   All-write_at P (p ∷ ps) (suc i) v all =
@@ -65,13 +65,13 @@ module _ {K X : Type 0} (number : K → ℕ) where
       let missing = write_value-missing L k v in let rest = write_at-found L k v in grind (arith, below, once, more, missing, rest)
 
   -- if the key occurs once, a write at its place is a write of its value
-  write_at-position : (L : List (K × X)) (k : K) (v : X) (i : ℕ) → position (λ q. same_key number k q.0) L ≡ Some i → count_by (λ q. same_key number k q.0) L ≤ 1 → write_at L i v ≡ write_value number L k v
+  pub write_at-position : (L : List (K × X)) (k : K) (v : X) (i : ℕ) → position (λ q. same_key number k q.0) L ≡ Some i → count_by (λ q. same_key number k q.0) L ≤ 1 → write_at L i v ≡ write_value number L k v
   write_at-position L k v i found once =
       let p = position-within (λ (q : K × X). same_key number k q.0) L i found in
       ap (λ n. write_at L n v) (sym p.0) ∙ write_at-found L k v (subst (λ n. n < length L) (sym p.0) p.1) once
 
   -- another slot keeps its values
-  slot_of-write_value-other : (L : List (K × X)) (C : ℕ) (k : K) (v : X) (j : ℕ) → slot_number number k C ≢ j → slot_of number (write_value number L k v) C j ≡ slot_of number L C j
+  pub slot_of-write_value-other : (L : List (K × X)) (C : ℕ) (k : K) (v : X) (j : ℕ) → slot_number number k C ≢ j → slot_of number (write_value number L k v) C j ≡ slot_of number L C j
   slot_of-write_value-other [] C k v j apart = refl
   slot_of-write_value-other (p ∷ L) C k v j apart =
       let same = same_key-slot number C k p in let rest = slot_of-write_value-other L C k v j apart in grind (arith, nat_tests, apart, same, rest)

@@ -19,6 +19,7 @@ use Rattle.intmap_table.specs.contracts.linked.node.Node.{the_row as node_row}
 use Rattle.intmap_table.specs.contracts.linked.slot.Slot.{the_row as slot_head_row}
 use Rattle.intmap_table.specs.contracts.linked.pool.Pool.{the_row as pool_row}
 use Rattle.intmap_table.specs.contracts.table.linked.Slots.{the_row as linked_row}
+use Rattle.intmap_table.specs.contracts.table.linked_table.Table.{the_row as linked_table_row}
 
 -- once the loan named r ends, the stored value is the last one written through it
 abbrev pub kept_lends : (V : RattleType) → MutBor V.Denot → MutBor V.Denot → Fml
@@ -64,3 +65,8 @@ pool_lends K X A g e a p i r = Lends (pool_row (pair_row K X g e) A a) X p r (λ
 abbrev pub linked_lends : (K X A : RattleType) → key.Ghosts K.Denot → eq.Ghosts K.Denot → allocator.Ghosts A.Denot
     → MutBor (Contents K.Denot X.Denot) → ℕ → ℕ → MutBor X.Denot → Fml
 linked_lends K X A g e a s i j r = Lends (linked_row K X A g e a) X s r (λ v. record s.now { rows = write_rows s.now.rows i j v })
+
+-- once it ends, the table behind t has that value at the key k
+abbrev pub linked_table_lends : (K X A : RattleType) → (g : key.Ghosts K.Denot) → eq.Ghosts K.Denot → allocator.Ghosts A.Denot
+    → MutBor (Grid K.Denot X.Denot) → K.Denot → MutBor X.Denot → Fml
+linked_table_lends K X A g e a t k r = Lends (linked_table_row K X A g e a) X t r (λ v. record t.now { walk = write_value g.number_of t.now.walk k v })

@@ -9,6 +9,7 @@ pub(crate) mod asked;
 mod closures;
 mod grow;
 mod linked;
+mod linked_table;
 pub mod locate;
 pub mod owned;
 mod slots;

@@ -16,7 +16,7 @@ use Rattle.intmap_table.proofs.PositionLemmas.{position-within}
 use Rattle.intmap_table.proofs.Tables.TableLemmas.{slot_of-joined}
 
 module _ {K X : Type 0} where
-  key_at-get_or : (L : List (K × X)) (i : ℕ) (k : K) → i < length L → ((p : K × X) → k ≡ (get_or L i p).0) → Some k ≡ key_at L i
+  pub key_at-get_or : (L : List (K × X)) (i : ℕ) (k : K) → i < length L → ((p : K × X) → k ≡ (get_or L i p).0) → Some k ≡ key_at L i
   key_at-get_or [] i k below is = absurd (omega arith)
   key_at-get_or (p ∷ L) zero k below is = ap (λ q. Some q) (is p)
   key_at-get_or (p ∷ L) (suc i) k below is = key_at-get_or L i k (omega arith) is

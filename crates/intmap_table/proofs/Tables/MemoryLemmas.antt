@@ -45,6 +45,11 @@ pub OnErr-always : {V E P : Type 0} (r : Result V E) → P → OnErr r P
 OnErr-always (Ok _) p = tt
 OnErr-always (Err _) p = p
 
+-- two things that a success ensures
+pub OnOk-both : {V E : Type 0} (r : Result V E) (P Q : Type 0) → OnOk r P → OnOk r Q → OnOk r (P × Q)
+OnOk-both (Ok _) P Q p q = (p, q)
+OnOk-both (Err _) P Q p q = tt
+
 -- what holds both if there is an error and if there is none holds
 pub OnOk-or : {V E : Type 0} (r : Result V E) {P : Type 0} → OnOk r P → OnErr r P → P
 OnOk-or (Ok _) ok err = ok

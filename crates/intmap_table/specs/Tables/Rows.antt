@@ -1,9 +1,10 @@
 -- What contracts see of slots whose further pairs lie in nodes. No public clause cites this module.
-use Rattle.std.specs.Prelude.{◌≡◌, ℕ, zero, suc, ◌+◌, ◌<◌, Bool, List, [], ◌∷◌, length, get_or, reverse, slice_index_or}
-use Rattle.std.specs.List.{AllZip}
+use Rattle.std.specs.Prelude.{◌≡◌, ℕ, zero, suc, ◌+◌, ◌<◌, nat_lt, Bool, List, [], ◌∷◌, length, get_or, reverse, slice_index_or}
+use Rattle.std.specs.List.{All, AllZip}
 use Rattle.intmap_table.specs.Classes.{IsCapacity, slot_number}
 use Rattle.intmap_table.specs.Cloning.{IsPairClone}
 use Rattle.intmap_table.specs.Walk.{slot_of}
+use Rattle.intmap_table.specs.Tables.Bits.{IsHeldWord}
 use Rattle.intmap_table.specs.Tables.Nodes.{Slot, Empty, Pool, nowhere, rows_in, AreLinked, IsChainSet, IsSlotSet}
 use Rattle.intmap_table.specs.Tables.Slots.{AreMarked, write_at}
 
@@ -32,7 +33,22 @@ write_rows [] i j v = []
 write_rows (row ∷ R) zero j v = write_at row j v ∷ R
 write_rows (row ∷ R) (suc i) j v = row ∷ write_rows R i j v
 
+-- word `at` says which of its rows hold a pair, and is without those before row `from`. No row from `from` up to the first one of this word holds a pair
+abbrev pub IsRowWord : {P : Type 0} → List (List P) → ℕ → ℕ → ℕ → Type 0
+IsRowWord R from at word = IsHeldWord (λ i. nat_lt 0 (length (slice_index_or R i []))) from at word
+
 module _ {K X : Type 0} (number : K → ℕ) where
+  -- each row has pairs of its own slot alone, and the number of rows is one that a table may have
+  pub record IsTable (R : List (List (K × X))) : Type 0 where
+    pub capacity : IsCapacity (length R)
+    pub in_place : (i : ℕ) → i < length R → All (λ p. slot_number number p.0 (length R) ≡ i) (slice_index_or R i [])
+
+  -- the pairs of L are in C slots, each in its own
+  pub record HasMoved (L : List (K × X)) (C : ℕ) (R : List (List (K × X))) : Type 0 where
+    pub capacity : IsCapacity C
+    pub len : length R ≡ C
+    pub rows : (j : ℕ) → j < C → slice_index_or R j [] ≡ slot_of number L C j
+
   -- the pairs of L are in C slots, each in its own, and no slot is turned yet
   pub record IsPlaced (C : ℕ) (L : List (K × X)) (R : List (List (K × X))) : Type 0 where
     pub len : length R ≡ C

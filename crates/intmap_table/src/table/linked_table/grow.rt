@@ -1,0 +1,74 @@
+//! Growth of a table, with a new pair or without one.
+ghost use Rattle.std.specs.Prelude.{◌≡◌, ◌+◌, ◌^◌, ◌<◌, ◌≤◌, length, OnOk, OnErr, IfOk, IfErr, IsOk, None};
+ghost use Rattle.intmap_table.specs.Classes.{IsCapacity, slot_number};
+ghost use Rattle.intmap_table.specs.Bindings.{value_of, put_pair};
+ghost use Rattle.intmap_table.specs.Walk.{walk_of};
+ghost use Rattle.intmap_table.specs.Locations.{IsAt};
+
+use crate::key::IntKey;
+use crate::steps::Steps;
+use crate::table::index_of;
+use crate::table::linked_table::Table;
+use crate::table::locate::Location;
+use crate::table::stored::Stored;
+use std::alloc::{AllocError, Allocator};
+
+impl<K: IntKey, X: Drop, A: Allocator + Copy> Table<K, X, A> {
+    /// Puts the pair of an absent key behind the pairs of its slot, moves all pairs, in the order
+    /// of the walk, to their slots among `capacity` slots, and returns where the new pair is. If an
+    /// allocation fails, the value is returned and nothing changes.
+    pub fn grow_with(
+        &mut self,
+        capacity: usize,
+        slot: usize,
+        key: K,
+        value: X,
+        placed: &mut Steps,
+    ) -> Result<Location<K>, X>
+        requires capacity { IsCapacity capacity }
+        requires larger { self.old.capacity ≤ capacity }
+        requires missing { value_of K.number_of self.old.walk key ≡ None }
+        requires slot { slot ≡ slot_number K.number_of key self.old.capacity }
+        requires count { length self.old.walk + 1 < 2 ^ 64 }
+        ensures key { IfOk result (λ at. at.key ≡ key) }
+        ensures at { IfOk result (IsAt K.number_of self.new.walk self.new.capacity) }
+        ensures walk { OnOk result (self.new.walk ≡ walk_of K.number_of
+            (put_pair K.number_of self.old.walk self.old.capacity key value) capacity) }
+        ensures capacity { OnOk result (self.new.capacity ≡ capacity) }
+        ensures placed { OnOk result (placed.new ≡ placed.old + (length self.old.walk + 1)) }
+        ensures err { OnErr result (self.new ≡ self.old) }
+        ensures none_placed { OnErr result (placed.new ≡ placed.old) }
+        ensures value_returned { IfErr result (λ returned. returned ≡ value) }
+        ensures known { OnOk result (K.is_valid key) }
+    {
+        let target = index_of(&key, capacity);
+        let pair = (Stored::new(key), value);
+        if let Err((_, value)) = self.slots.grow_with(capacity, slot, pair, placed) {
+            return Err(value);
+        }
+        let place = self.slots.last_place(target);
+        Ok(Location {
+            key,
+            slot: target,
+            place,
+        })
+    }
+
+    /// Moves all pairs, in the order of the walk, to their slots among `capacity` slots. If the
+    /// table has that many already, it does nothing. If an allocation fails, nothing changes.
+    pub fn grow_to(&mut self, capacity: usize) -> Result<(), AllocError>
+        requires capacity { IsCapacity capacity }
+        requires larger { self.old.capacity ≤ capacity }
+        requires count { length self.old.walk < 2 ^ 64 }
+        ensures walk { OnOk result
+            (self.new.walk ≡ walk_of K.number_of self.old.walk capacity) }
+        ensures capacity { OnOk result (self.new.capacity ≡ capacity) }
+        ensures err { OnErr result (self.new ≡ self.old) }
+        ensures free { self.old.capacity ≡ capacity → IsOk result }
+    {
+        if capacity == self.slots.len() {
+            return Ok(());
+        }
+        self.slots.grow(capacity, &mut Steps::new())
+    }
+}

@@ -1,0 +1,128 @@
+//! Where the pair of a key is, and calls on a located pair, which compare no key.
+ghost use Rattle.std.specs.Prelude.{◌≡◌, ◌+◌, IfOk, IfErr, IfNone, OnErr, Some, None};
+ghost use Rattle.intmap_table.specs.Classes.{slot_number};
+ghost use Rattle.intmap_table.specs.Bindings.{HasDistinctKeys, value_of, take_key, put_pair};
+ghost use Rattle.intmap_table.specs.HandingOver.{HandsOver};
+ghost use Rattle.intmap_table.specs.Locations.{IsAt, IsFound, key_at};
+ghost use Rattle.intmap_table.specs.Reach.{reach};
+ghost use Rattle.intmap_table.specs.Walk.{walk_of, slot_of};
+
+use crate::kept::Kept;
+use crate::key::IntKey;
+use crate::steps::Steps;
+use crate::table::asked::hand_value;
+use crate::table::linked_table::Table;
+use crate::table::locate::Location;
+use crate::table::stored::Stored;
+use std::alloc::Allocator;
+
+impl<K: IntKey, X, A: Allocator> Table<K, X, A> {
+    ghost use Rattle.std.specs.Borrow.{sem};
+    ghost use Rattle.intmap_table.specs.Lending.{linked_table_lends};
+
+    /// Where the pair of the key is, or the slot of the key if the key is absent. The keys of the
+    /// slot are compared from the front, up to the one sought. Each comparison is one step.
+    #[inline(always)]
+    pub fn locate(&self, key: K, steps: &mut Steps) -> Result<Location<K>, usize>
+        ensures found { IfOk result (λ at. (at.key ≡ key)
+            × IsAt K.number_of self.now.walk self.now.capacity at) }
+        ensures missing { OnErr result (value_of K.number_of self.now.walk key ≡ None) }
+        ensures slot { IfErr result (λ slot. slot
+            ≡ slot_number K.number_of key self.now.capacity) }
+        ensures counted { steps.new
+            ≡ steps.old + reach K.number_of self.now.walk self.now.capacity key }
+        ensures known { K.is_valid key }
+    {
+        let slot = self.index_of(&key);
+        let Some(place) = self.slots.find(slot, &key, steps) else {
+            return Err(slot);
+        };
+        Ok(Location { key, slot, place })
+    }
+
+    /// The key of the pair at a place of a slot.
+    pub fn key_at(&self, slot: usize, place: usize) -> &K
+        requires { IsFound K.number_of self.now.walk self.now.capacity slot place }
+        ensures { Some result.now
+            ≡ key_at (slot_of K.number_of self.now.walk self.now.capacity slot) place }
+    {
+        self.slots.key_at(slot, place).key()
+    }
+
+    /// The value of a located pair.
+    #[inline(always)]
+    pub fn value_at(&self, at: Location<K>) -> &X
+        requires { IsAt K.number_of self.now.walk self.now.capacity at }
+        ensures { value_of K.number_of self.now.walk at.key ≡ Some result.now }
+    {
+        self.slots.value_at(at.slot, at.place)
+    }
+
+    /// A mutable reference to the value of a located pair.
+    pub fn value_mut_at(&mut self, at: Location<K>) -> &mut X
+        requires at { IsAt K.number_of self.old.walk self.old.capacity at }
+        requires once { HasDistinctKeys K.number_of self.old.walk }
+        ensures* writes_back { sem 𝓛 (linked_table_lends K.row X.row A.row K.IntKey.own K.PartialEq
+            A.Allocator self.entry at.key result) }
+        ensures value { value_of K.number_of self.old.walk at.key ≡ Some result.now }
+    {
+        self.slots.value_mut_at(at.slot, at.place)
+    }
+
+    /// Removes a located pair. The last pair of its slot moves into its place.
+    #[inline(always)]
+    pub fn take_at(&mut self, at: Location<K>) -> X
+        requires { IsAt K.number_of self.old.walk self.old.capacity at }
+        ensures value { value_of K.number_of self.old.walk at.key ≡ Some result }
+        ensures walk { self.new.walk ≡ walk_of K.number_of
+            (take_key K.number_of self.old.walk self.old.capacity at.key) self.old.capacity }
+        ensures capacity { self.new.capacity ≡ self.old.capacity }
+    {
+        let (_, value) = self.slots.take_at(at.slot, at.place);
+        value
+    }
+
+    /// Removes a located pair, moves the last pair of its slot into its place, and puts the pair of
+    /// its key and this value at the end of the slot. It allocates nothing.
+    #[inline(always)]
+    pub fn replace_at(&mut self, at: Location<K>, value: X) -> X
+        requires { IsAt K.number_of self.old.walk self.old.capacity at }
+        ensures value { value_of K.number_of self.old.walk at.key ≡ Some result }
+        ensures walk { self.new.walk ≡ walk_of K.number_of
+            (put_pair K.number_of self.old.walk self.old.capacity at.key value) self.old.capacity }
+        ensures capacity { self.new.capacity ≡ self.old.capacity }
+        ensures key { K.is_valid at.key }
+    {
+        let pair = (Stored::new(at.key), value);
+        let (_, old) = self.slots.replace_at(at.slot, at.place, pair);
+        old
+    }
+}
+
+impl<K: IntKey, V, A: Allocator> Table<K, Kept<V>, A> {
+    /// Removes a located pair, as `take_at` does, and hands its value to the closure. If the
+    /// closure returns an error, the pair of the key and the value in it is put at the end of the
+    /// slot. It allocates nothing. While the closure runs, the pair is in no slot.
+    pub fn hand_over<R, F: FnOnce(V) -> Result<R, V>>(&mut self, at: Location<K>, f: F) -> Option<R>
+        requires at { IsAt K.number_of self.old.walk self.old.capacity at }
+        requires callable { (value : V)
+            → value_of K.number_of self.old.walk at.key ≡ Some value → F.pre f value }
+        ensures handed { (value : V) × (value_of K.number_of self.old.walk at.key ≡ Some value)
+            × HandsOver (F.post f value) result
+            (self.new.walk ≡ walk_of K.number_of
+            (take_key K.number_of self.old.walk self.old.capacity at.key) self.old.capacity)
+            (λ back. self.new.walk ≡ walk_of K.number_of
+            (put_pair K.number_of self.old.walk self.old.capacity at.key back) self.old.capacity) }
+        ensures capacity { self.new.capacity ≡ self.old.capacity }
+        ensures key { IfNone result (K.is_valid at.key) }
+    {
+        let (_, kept) = self.slots.take_at(at.slot, at.place);
+        match hand_value(kept, f) {
+            Ok(handed) => Some(handed),
+            Err(back) => {
+                self.slots.put_back(at.slot, (Stored::new(at.key), back));
+                None
+            }
+        }
+    }
+}

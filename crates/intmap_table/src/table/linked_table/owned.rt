@@ -1,0 +1,50 @@
+//! The pairs of a table by value.
+ghost use Rattle.std.specs.Prelude.{◌≡◌};
+ghost use Rattle.std.specs.Iterator.{YieldsFirst, item_count};
+ghost use Rattle.intmap_table.specs.Walk.{ArePassed};
+
+use crate::key::IntKey;
+use crate::table::linked_table::Table;
+use std::alloc::Allocator;
+use std::marker::Model;
+
+/// The pairs of a table by value, in the order of the walk: those that are still in the table. No
+/// slot before `from` holds one. A step takes the same time however many pairs share a slot.
+#[derive(Drop)]
+pub struct IntoPairs<K: IntKey, X, A: Allocator> {
+    table: Table<K, X, A>,
+    from: usize,
+    ghost passed: { ArePassed K.number_of table.walk table.capacity from },
+}
+
+impl<K: IntKey, X, A: Allocator> Model for IntoPairs<K, X, A> {
+    ghost use Rattle.std.specs.Prelude.{List};
+
+    ghost Value = { List (K × X) };
+
+    ghost view = { λ it. it.table.walk };
+}
+
+impl<K: IntKey, X: Drop, A: Allocator> Table<K, X, A> {
+    /// The pairs by value, in the order of the walk. It allocates nothing.
+    pub fn into_pairs(self) -> IntoPairs<K, X, A>
+        ensures { result ≡ self.walk }
+    {
+        IntoPairs {
+            table: self,
+            from: 0,
+        }
+    }
+}
+
+impl<K: IntKey, X: Drop, A: Allocator> Iterator for IntoPairs<K, X, A> {
+    type Item = (K, X);
+
+    ghost next_gives = { YieldsFirst (λ rest. rest) };
+
+    ghost remaining = { item_count (λ rest. rest) };
+
+    fn next(&mut self) -> Option<(K, X)> {
+        self.table.take_front(&mut self.from)
+    }
+}
