@@ -62,7 +62,7 @@ static const struct {
 } passes[] = {{"walk", walk}, {"cut", cut_half}, {"drain", drain}};
 
 // The seconds of the processor that a pass takes, the least of some runs. Other work on the machine
-// hardly changes them.
+// can make one run take several times as long.
 static double seconds(size_t kind, size_t pass, size_t pairs, size_t runs) {
     double least = 0;
     for (size_t run = 0; run < runs; run++) {
@@ -84,7 +84,7 @@ int main(void) {
     for (size_t kind = 0; kind < KINDS; kind++) {
         for (size_t pass = 0; pass < sizeof passes / sizeof passes[0]; pass++) {
             double few = seconds(kind, pass, PAIRS / SCALE, 9);
-            double many = seconds(kind, pass, PAIRS, 1);
+            double many = seconds(kind, pass, PAIRS, 3);
             printf("%s: %.6f s, of %d times the pairs %.3f s\n", passes[pass].name, few, SCALE,
                    many);
             require(many < ALLOWED * SCALE * few, "it takes more than linear time");
