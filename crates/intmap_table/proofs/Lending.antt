@@ -11,3 +11,5 @@ pub mod OpensSlotLemmas
 pub mod OpensSlotsLemmas
 pub mod OpensTableLemmas
 pub mod ValuesLemmas
+pub mod ChosenLemmas
+pub mod ChosenOpensLemmas
