@@ -13,3 +13,4 @@ pub mod OpensTableLemmas
 pub mod ValuesLemmas
 pub mod ChosenLemmas
 pub mod ChosenOpensLemmas
+pub mod Linked

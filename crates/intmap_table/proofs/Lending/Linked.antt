@@ -1,0 +1,8 @@
+-- Lemmas on the loan of all values of slots whose further pairs lie in nodes.
+pub mod PlacesLemmas
+pub mod OnceLemmas
+pub mod HomeLemmas
+pub mod RefilledLemmas
+pub mod MappedLemmas
+pub mod SameKeysLemmas
+pub mod WrittenLemmas
