@@ -1,13 +1,15 @@
--- What a stored value, a slot, a node, a pool of nodes and a table end as, once a value of theirs was lent and written.
+-- What a stored value, a slot, a node, a pool of nodes and a table end as, once a value of theirs, or each, was lent and written.
 use denote.Struct.Tuple.{Tuple}
 use Rattle.std.specs.Prelude.{ℕ, List, [], ◌∷◌}
-use Rattle.std.specs.Borrow.{Lends, Fml, RattleType, MutBor}
+use Rattle.std.specs.Borrow.{Lends, follows, Fml, RattleType, MutBor, GName}
+use Rattle.std.specs.Map.{values_of}
 use Rattle.std.specs.declared.alloc.Allocator as allocator
 use Rattle.std.specs.declared.cmp.PartialEq as eq
 use Rattle.intmap_table.specs.declared.key.IntKey as key
 use Rattle.intmap_table.specs.Bindings.{write_value}
-use Rattle.intmap_table.specs.Tables.Slots.{Held, Grid, write_at, write_row}
+use Rattle.intmap_table.specs.Tables.Slots.{Held, Grid, write_at, write_row, joined}
 use Rattle.intmap_table.specs.Tables.Rows.{Contents, write_rows}
+use Rattle.intmap_table.specs.Values.{rows_with}
 use Rattle.intmap_table.specs.Tables.Nodes.{Node, Slot, Pool, node_with, slot_with, write_node}
 use Rattle.intmap_table.specs.contracts.kept.Kept.{the_row as kept_row}
 use Rattle.intmap_table.specs.contracts.lone.Lone.{the_row as lone_row}
@@ -70,3 +72,9 @@ linked_lends K X A g e a s i j r = Lends (linked_row K X A g e a) X s r (λ v. r
 abbrev pub linked_table_lends : (K X A : RattleType) → (g : key.Ghosts K.Denot) → eq.Ghosts K.Denot → allocator.Ghosts A.Denot
     → MutBor (Grid K.Denot X.Denot) → K.Denot → MutBor X.Denot → Fml
 linked_table_lends K X A g e a t k r = Lends (linked_table_row K X A g e a) X t r (λ v. record t.now { walk = write_value g.number_of t.now.walk k v })
+
+-- once the loan named r ends, the slots behind s are as they were, with the values of some slots, in walk order, in place of their own
+abbrev pub linked_lends_values : (K V A : RattleType) → key.Ghosts K.Denot → eq.Ghosts K.Denot → allocator.Ghosts A.Denot
+    → MutBor (Contents K.Denot V.Denot) → GName → Fml
+linked_lends_values K V A g e a s r = follows (linked_row K (kept_row V) A g e a) (linked_row K (kept_row V) A g e a) s.ghost_name r
+    (λ last. record s.now { rows = rows_with s.now.rows (values_of (joined last.rows)) })

@@ -6,3 +6,8 @@ pub mod RefilledLemmas
 pub mod MappedLemmas
 pub mod SameKeysLemmas
 pub mod WrittenLemmas
+pub mod OpensFormsLemmas
+pub mod OpensNodeLemmas
+pub mod OpensPoolLemmas
+pub mod OpensMemoryLemmas
+pub mod OpensLinkedLemmas

@@ -3,12 +3,13 @@
 //! hold a pair is known here alone.
 //!
 //! `pairs` has the calls on a pair of one slot, `writing` that which lends a value and that which drops
-//! all pairs, `walk` the pairs by reference, and `clone` copies the slots. Of growth, `place` puts a
-//! pair into its new slot, and `grow` goes over the old ones.
+//! all pairs, `lent` lends all values at once, `walk` has the pairs by reference, and `clone` copies
+//! the slots. Of growth, `place` puts a pair into its new slot, and `grow` goes over the old ones.
 
 mod clone;
 mod closures;
 mod grow;
+mod lent;
 mod pairs;
 mod place;
 pub mod walk;
