@@ -1,8 +1,10 @@
 //! Pairs that stay and pairs that go: by a test, by the scope of a name, and from a queue's front.
-ghost use Rattle.std.specs.Prelude.{[], ◌%◌, ◌++◌, ◌+◌, ◌==◌, ◌≡◌, ◌≤◌, All, IfSome, IsSome, None, OnOk, Some, ℕ, cond, count_by, drop, false, filter, is_some, length, nat_le, nat_lt, not, slice_index_or, take};
+ghost use Rattle.std.specs.Prelude.{[], ◌%◌, ◌++◌, ◌+◌, ◌==◌, ◌≡◌, ◌≤◌, All, IfSome, IsSome, List, None, OnErr, OnOk, Some, ℕ, cond, count_by, drop, false, filter, is_some, length, nat_le, nat_lt, not, slice_index_or, take};
 ghost use Rattle.std.specs.List.{slice_get};
+ghost use Rattle.std.specs.List.Retain.{ExtractsNext};
 ghost use Rattle.std.specs.Option.{option_map};
 ghost use Rattle.intmap.specs.Bindings.{Updates, value_of};
+ghost use Rattle.intmap.specs.Picking.{PicksAt};
 ghost use Rattle.intmap.specs.Retaining.{KeepsAt, Retains};
 ghost use Rattle.callers.specs.Bindings.{value_at};
 ghost use Rattle.callers.specs.declared.retained.Symbol.{Symbol};
@@ -201,9 +203,10 @@ pub fn work_off<V: Drop, A: Allocator + Copy>(
 
 // Calls that want a lemma: what holds of all pairs, and a closure of any type.
 
-/// Forgets one student, and notes the grade of another. No grade is above `most` then.
+/// Forgets one student, and notes the grade of another. The grades of the others stay, and no grade
+/// is above `most`.
 ///
-/// It fails if the insertion of a new student fails.
+/// It fails if the insertion of a new student fails. The one student is then forgotten all the same.
 pub fn replace_student<A: Allocator + Copy>(
     grades: &mut IntMap<u64, u64, A>,
     former: u64,
@@ -213,21 +216,30 @@ pub fn replace_student<A: Allocator + Copy>(
 ) -> Result<(), Cause>
     requires fits { grade ≤ most }
     requires fit { All (λ pair. pair.1 ≤ most) grades.old.walk }
-    ensures { OnOk result (All (λ pair. pair.1 ≤ most) grades.new.walk) }
+    ensures fit_after { All (λ pair. pair.1 ≤ most) grades.new.walk }
+    ensures grades { OnOk result ((q : ℕ) → value_of (λ key. key) grades.new.walk q
+        ≡ cond (student == q) (Some grade)
+        (cond (former == q) None (value_of (λ key. key) grades.old.walk q))) }
+    ensures forgotten { OnErr result ((q : ℕ) → value_of (λ key. key) grades.new.walk q
+        ≡ cond (former == q) None (value_of (λ key. key) grades.old.walk q)) }
 {
     grades.remove(former);
     grades.insert(student, grade)?;
     Ok(())
 }
 
-/// A step of `extract_if`, by any closure that can always be called. The capacity stays.
+/// Removes the first pair for which the caller's closure returns true, and returns it. The pairs
+/// before it stay as the closure left them, and those behind it as they were.
 #[tactic(auto, using(intmap::proofs::Callers::extracts_each_callable))]
 pub fn extract_first<K: IntKey, V: Drop, A: Allocator + Copy, F: FnMut(K, &mut V) -> bool>(
     map: &mut IntMap<K, V, A>,
     picks: F,
 ) -> Option<(K, V)>
     requires { F.IsAlwaysCallable picks }
-    ensures { map.new.capacity ≡ map.old.capacity }
+    ensures step { (last : F) × (kept rest : List (K × V))
+        × ExtractsNext (PicksAt F.FnMut) picks map.old.walk result last kept rest
+        × (map.new.walk ≡ kept ++ rest) }
+    ensures capacity { map.new.capacity ≡ map.old.capacity }
 {
     map.extract_if(picks).next()
 }
