@@ -1,10 +1,9 @@
 -- The rows of a table around one that was changed, and closures that went over its pairs.
-use Rattle.std.proofs.Common.{◌≡◌, ℕ, ◌+◌, ◌<◌, ◌≤◌, List, ◌++◌, [], length, get_or, set, take, drop, sym, ap, ◌∙◌, arith, get_or-set_same, get_or-set_other}
+use Rattle.std.proofs.Common.{◌≡◌, ℕ, ◌+◌, ◌≤◌, List, ◌++◌, [], length, get_or, set, take, drop, sym, ap, ◌∙◌, arith, get_or-set_same, get_or-set_other}
 use Rattle.std.specs.Prelude.{nat_lt}
 use Rattle.std.specs.List.{FoldsTo}
 use Rattle.std.proofs.lemmas.List.{drop-set-lt, take-set-le}
 use Rattle.intmap_table.specs.Taking.{Passes, TakesEach}
-use Rattle.intmap_table.specs.Tables.Bits.{IsHeldWord}
 use Rattle.intmap_table.specs.Tables.Slots.{joined, IsNextRow}
 use Rattle.intmap_table.specs.Tables.Rows.{IsRowWord}
 use Rattle.intmap_table.proofs.LeadsLemmas.{Leads, Leads-next}

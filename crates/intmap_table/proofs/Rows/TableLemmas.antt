@@ -1,5 +1,5 @@
 -- What calls of a table do to the rows of its slots, read as its walk.
-use Rattle.std.proofs.Common.{◌≡◌, ◌≢◌, inl, inr, ℕ, ◌<◌, List, [], ◌∷◌, ◌++◌, length, get_or, set, None, refl, sym, ap, ◌∙◌, subst, arith, zero-add, length-set, get_or-set_same, get_or-set_other}
+use Rattle.std.proofs.Common.{◌≡◌, ◌≢◌, inl, inr, ℕ, ◌<◌, List, [], ◌∷◌, ◌++◌, length, get_or, set, None, refl, sym, ap, ◌∙◌, arith, zero-add, length-set, get_or-set_same, get_or-set_other}
 use Rattle.std.specs.Prelude.{All, count_by}
 use Rattle.std.specs.List.{flat_map, range_with_len}
 use Rattle.std.proofs.lemmas.List.Elements.{All-push, All-nil}
@@ -9,7 +9,7 @@ use Rattle.intmap_table.specs.Bindings.{swap_out, value_of, take_key, put_pair}
 use Rattle.intmap_table.specs.Walk.{slot_of, walk_of}
 use Rattle.intmap_table.specs.Reach.{through_first, class_size, reach}
 use Rattle.intmap_table.specs.Figures.{load_of}
-use Rattle.intmap_table.specs.Tables.Slots.{Grid, joined}
+use Rattle.intmap_table.specs.Tables.Slots.{joined}
 use Rattle.intmap_table.specs.Tables.Rows.{IsTable}
 use Rattle.intmap_table.proofs.SlotNumberLemmas.{agrees-slot_number, slot_number-below}
 use Rattle.intmap_table.proofs.Tables.SwapOutLemmas.{any}

@@ -2,9 +2,10 @@
 //! of each slot, its row, and how many more pairs that share a slot need no allocation. Which slots
 //! hold a pair is known here alone.
 //!
-//! `pairs` has the calls on a pair of one slot, `writing` that which lends a value and that which drops
-//! all pairs, `lent` lends all values at once, `walk` has the pairs by reference, and `clone` copies
-//! the slots. Of growth, `place` puts a pair into its new slot, and `grow` goes over the old ones.
+//! `pairs` has the calls on a pair of one slot, `closures` those with a closure, `writing` that which
+//! lends a value and that which drops all pairs, `lent` lends all values at once, `walk` has the pairs
+//! by reference, and `clone` copies the slots. Of growth, `place` puts a pair into its new slot, and
+//! `grow` goes over the old ones.
 
 mod clone;
 mod closures;

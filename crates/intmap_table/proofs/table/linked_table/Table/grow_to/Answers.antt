@@ -1,11 +1,10 @@
-use Rattle.std.proofs.Common.{◌≡◌, ◌∙◌, length, sym, ap, subst}
+use Rattle.std.proofs.Common.{◌≡◌, ◌∙◌, length, sym, subst}
 use Rattle.std.specs.Prelude.{OnOk}
 use Rattle.std.proofs.lemmas.Result.{on_ok_weaker, on_err_weaker}
 use Rattle.intmap_table.specs.Tables.Slots.{joined}
 use Rattle.intmap_table.specs.Tables.Rows.{HasMoved, IsTable}
 use Rattle.intmap_table.proofs.Tables.GrownLemmas.{IsGrown-from}
 use Rattle.intmap_table.proofs.Tables.MemoryLemmas.{OnOk-or, OnOk-both}
-use Rattle.intmap_table.proofs.Tables.TableLemmas.{Grid-same}
 use Rattle.intmap_table.proofs.Rows.MovedLemmas.{joined-moved, IsTable-moved}
 use Rattle.intmap_table.proofs.Rows.TableLemmas.{walk_of-joined}
 use Rattle.intmap_table.proofs.table.linked_table.Table.grow_to.Goals as goal

@@ -2,7 +2,6 @@ use Rattle.std.proofs.Common.{◌≡◌, ◌<◌, ◌∙◌, [], ◌∷◌, get_
 use Rattle.std.specs.Prelude.{All}
 use Rattle.std.proofs.lemmas.List.Elements.{All-head}
 use Rattle.intmap_table.specs.Classes.{slot_number}
-use Rattle.intmap_table.specs.Tables.Slots.{joined}
 use Rattle.intmap_table.proofs.Tables.FrontLemmas.{joined-passed}
 use Rattle.intmap_table.proofs.Rows.FrontLemmas.{rows-passed, joined-front, IsTable-front, ArePassed-front}
 use Rattle.intmap_table.proofs.Rows.TableLemmas.{walk_of-joined}

@@ -1,4 +1,4 @@
-use Rattle.std.proofs.Common.{◌≡◌, ◌+◌, ◌<◌, ◌∙◌, [], get_or, length, length-append, length-set, set, drop, refl, ap, arith}
+use Rattle.std.proofs.Common.{◌≡◌, ◌+◌, ◌∙◌, [], get_or, length, length-append, length-set, drop, refl, ap, arith}
 use Rattle.intmap_table.specs.Classes.{slot_number}
 use Rattle.intmap_table.specs.Retaining.{KeepsAt, Retains, TakesPair}
 use Rattle.intmap_table.specs.Tables.Slots.{joined}

@@ -1,4 +1,4 @@
-use Rattle.std.proofs.Common.{◌≡◌, ◌+◌, ◌<◌, ◌∙◌, length, length-set, set, refl, ap, sym, arith}
+use Rattle.std.proofs.Common.{◌≡◌, ◌∙◌, length, length-set, refl, ap, sym, arith}
 use Rattle.intmap_table.specs.Classes.{slot_number}
 use Rattle.intmap_table.specs.Writes.{TakesPairMut, Writes, WritesAt}
 use Rattle.intmap_table.proofs.SlotNumberLemmas.{capacity-greatest}
