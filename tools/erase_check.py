@@ -42,6 +42,7 @@ LEFT_LINES = {
     "mod decimal;",
     "pub mod lent;",
     "mod linked;",
+    "mod linked_table;",
     "pub mod laws;",
     "pub(crate) mod json;",
     "pub use map::json::JsonCause;",
