@@ -19,7 +19,7 @@
 //     grep -v '^// Compilers: ' intmap.c | sha256sum
 //
 // Compilers: rattle-kit-13f logic dac8208d650f15bf; clang version 22.1.8
-// Sources: 96bc88d4ad112e6e83633127c03b615c2acc0191ff70996ca1c66774b0be5840
+// Sources: dc09f7f3106fbded5087bc2d44cd564e15e79ee56abfca49c8f6abb72d02dd5e
 //
 // SPDX-License-Identifier: MIT
 //

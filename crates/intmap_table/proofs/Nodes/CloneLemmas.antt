@@ -166,14 +166,6 @@ module _ {K X : Type 0} (clones : X → X → Type 0) where
         };
       }
 
-  -- the clone of a slot without a pair
-  pub Slot-cloned_none : (cs : List (Node (K × X))) (a : Pool (K × X)) → IsRowClone clones (row_in cs Empty) a a Empty
-  Slot-cloned_none cs a = record {
-    copies = [];
-    are = tt;
-    slot = record { is = tt; pairs = refl; spares = λ t misses k n r passes at. at; held = omega arith };
-  }
-
   -- there are as many rows of clones
   same_lengths : (R S : List (List (K × X))) → AllZip (AreClones clones) R S → length R ≡ length S
   same_lengths [] [] all = refl

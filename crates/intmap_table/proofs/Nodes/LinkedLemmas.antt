@@ -3,7 +3,7 @@ use Rattle.std.proofs.Common.{◌⊎◌, ⊎_elim, inl, inr, take, ◌≡◌, �
 use Rattle.std.specs.Prelude.{swap_remove, drop, nat_lt, replicate, ◌*◌, ◌/◌}
 use Rattle.std.proofs.lemmas.Bool.{lt-ltb}
 use Rattle.std.proofs.lemmas.Bool.Decides.{eqb_tells}
-use Rattle.std.proofs.lemmas.List.{length-replicate, set-get_or, get_or_default, ext_get_or, get_or-map, length-map, length-set, get_or-set_same, get_or-set_other}
+use Rattle.std.proofs.lemmas.List.{length-replicate, get_or_default, ext_get_or, get_or-map, length-map, length-set, get_or-set_same, get_or-set_other}
 use Rattle.std.proofs.lemmas.List.Sums.{sum_by-set, sum_by-cons}
 use Rattle.intmap_table.specs.Classes.{slot_number, IsCapacity}
 use Rattle.intmap_table.specs.Tables.Nodes.{Node, Held, Slot, Empty, Filled, is_empty, Pool, nowhere, node_at, Path, Leads, chain_of, Misses, Spares, row_in, IsSlot, IsSlotSet, AreHome, rows_in, further, AreLinked}
@@ -147,9 +147,6 @@ module _ {P : Type 0} (home : P → ℕ) where
   pub home-remove : (i : ℕ) (ps : List P) (k : ℕ) → AreHome home i ps → AreHome home i (take k ps ++ drop (k + 1) ps)
   home-remove i ps k own = home-join i (take k ps) (drop (k + 1) ps) (home_take i k ps own) (home_drop i (k + 1) ps own)
 
-  pub home-place : (i : ℕ) (ps : List P) (k : ℕ) (d : P) → AreHome home i ps → k < length ps → home (get_or ps k d) ≡ i
-  home-place i ps k d own less = home_at i ps k d own less
-
 module _ {K X : Type 0} (number : K → ℕ) where
   -- slots with these rows
   pub record HaveRows (slots : List (Slot (K × X))) (pool : Pool (K × X)) (marks : List Bool) (mask : ℕ) (R : List (List (K × X))) : Type 0 where
@@ -197,14 +194,6 @@ module _ {K X : Type 0} (number : K → ℕ) where
         };
         rows = same;
       }
-
-  -- nothing has changed
-  pub Row-same : (slots : List (Slot (K × X))) (a : Pool (K × X)) (marks : List Bool) (mask : ℕ) (i : ℕ) (s t : Slot (K × X)) (b : Pool (K × X))
-      → AreRows number slots a marks mask → IsRow slots a (rows_in slots a.nodes) i s → b ≡ a → t ≡ s → HaveRows (set slots i t) b marks mask (rows_in slots a.nodes)
-  Row-same slots a marks mask i s t b are row same_pool same_slot =
-      let same : set slots i t ≡ slots = ap (λ u. set slots i u) (same_slot ∙ row.slot) ∙ set-get_or slots i Empty in
-      let kept : HaveRows slots a marks mask (rows_in slots a.nodes) = record { are = are; rows = refl } in
-      subst (λ us. HaveRows us b marks mask (rows_in slots a.nodes)) (sym same) (subst (λ x. HaveRows slots x marks mask (rows_in slots a.nodes)) (sym same_pool) kept)
 
   -- a slot leads through its pairs
   pub Row-chain : (slots : List (Slot (K × X))) (pool : Pool (K × X)) (marks : List Bool) (mask : ℕ) (i : ℕ) (s : Slot (K × X))

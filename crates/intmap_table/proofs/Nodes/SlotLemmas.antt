@@ -74,12 +74,6 @@ module _ {P : Type 0} where
         held = omega (arith, left, len, len', one, two);
       }
 
-  take_all_but : (xs : List P) (x : P) (ys : List P) → ys ≡ xs ++ x ∷ [] → take (length ys - 1) ys ≡ xs
-  take_all_but xs x ys e =
-      let sum = length-append xs (x ∷ []) in
-      let l : length ys - 1 ≡ length xs = (let a = ap length e in omega (arith, a, sum)) in
-      ap (λ n. take n ys) l ∙ ap (take (length xs)) e ∙ take-append_seam xs (x ∷ [])
-
   last_is : (xs : List P) (x d : P) (n : ℕ) → n ≡ length xs → get_or (xs ++ x ∷ []) n d ≡ x
   last_is [] x d n e = ap (λ k. get_or (x ∷ []) k d) e
   last_is (y ∷ xs) x d n e = ap (λ k. get_or (y ∷ (xs ++ x ∷ [])) k d) e ∙ last_is xs x d (length xs) refl

@@ -2,9 +2,9 @@
 use Rattle.std.proofs.Common.{◌≡◌, ℕ, zero, suc, ◌+◌, ◌-◌, ◌<◌, ◌≤◌, List, [], ◌∷◌, length, get_or, set, refl, sym, ap, ◌∙◌, subst, arith}
 use Rattle.std.proofs.lemmas.List.{length-set}
 use Rattle.intmap_table.specs.Tables.Slots.{write_at}
-use Rattle.intmap_table.specs.Tables.Nodes.{Node, Free, Held, Slot, Empty, Filled, Pool, node_limit, node_at, chain_of, row_in, node_with, slot_with, write_node, IsReached, IsChanged, IsChainSet, IsSlot, IsSlotSet, AreHome, Spares}
+use Rattle.intmap_table.specs.Tables.Nodes.{Node, Free, Held, Slot, Empty, Filled, Pool, node_limit, node_at, chain_of, row_in, node_with, slot_with, write_node, IsReached, IsChanged, IsChainSet, IsSlot, IsSlotSet, AreHome}
 use Rattle.intmap_table.proofs.Nodes.NodeLemmas.{node_at-below, node_read, held_below, held_limit}
-use Rattle.intmap_table.proofs.Nodes.ChainLemmas.{Set-swap, Reached-value, Changed-alone}
+use Rattle.intmap_table.proofs.Nodes.ChainLemmas.{Set-swap, Reached-value}
 use Rattle.intmap_table.proofs.Nodes.SlotLemmas.{Slot-first, Slot-only}
 
 module _ {P : Type 0} where
@@ -46,10 +46,6 @@ module _ {K X : Type 0} where
   -- a pool with a value written is one of which that node is changed
   pub Changed-written : (a : Pool (K × X)) (c n : ℕ) (p : K × X) (v : X) → node_at a.nodes c ≡ Held n p → IsChanged a c n (p.0, v) (record a { nodes = write_node a.nodes c v })
   Changed-written a c n p v held = record { nodes = write_node-held a.nodes c n p v held; held = refl; room = refl }
-
-  -- nodes with other pairs are as they were
-  pub Written-alone : (a : Pool (K × X)) (c n : ℕ) (p : K × X) (v : X) → node_at a.nodes c ≡ Held n p → Spares a.nodes (write_node a.nodes c v) (p ∷ [])
-  Written-alone a c n p v held = Changed-alone a c n p (p.0, v) (record a { nodes = write_node a.nodes c v }) held (Changed-written a c n p v held)
 
   -- the pairs with the value written are the pairs with that pair changed
   pub set-write_at : (ps : List (K × X)) (i : ℕ) (p : K × X) (v : X) → p ≡ get_or ps i p → set ps i (p.0, v) ≡ write_at ps i v

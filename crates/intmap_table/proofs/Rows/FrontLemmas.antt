@@ -1,15 +1,14 @@
 -- What the rows of a table hold once pairs were removed from the front of its walk.
 use Rattle.std.proofs.Common.{◌≡◌, ℕ, ◌+◌, ◌<◌, List, [], ◌++◌, length, get_or, set, take, drop, sym, ap, ◌∙◌, subst, arith, append_assoc, get_or-set_other}
-use Rattle.std.specs.Prelude.{All, nat_lt}
+use Rattle.std.specs.Prelude.{All}
 use Rattle.std.proofs.Math.Seq.{drop-append_seam}
 use Rattle.std.proofs.lemmas.List.Elements.{All-drop}
 use Rattle.intmap_table.specs.Classes.{slot_number}
 use Rattle.intmap_table.specs.Walk.{ArePassed}
-use Rattle.intmap_table.specs.Tables.Bits.{IsHeldWord}
-use Rattle.intmap_table.specs.Tables.Slots.{joined, IsNextRow, IsWalkWord}
-use Rattle.intmap_table.specs.Tables.Rows.{IsTable, IsRowWord}
+use Rattle.intmap_table.specs.Tables.Slots.{joined, IsNextRow}
+use Rattle.intmap_table.specs.Tables.Rows.{IsTable}
 use Rattle.intmap_table.proofs.Tables.AroundLemmas.{joined-cut, joined-take_past}
-use Rattle.intmap_table.proofs.Rows.AroundLemmas.{row-taken, row-left, IsRowWord-set}
+use Rattle.intmap_table.proofs.Rows.AroundLemmas.{row-taken, row-left}
 use Rattle.intmap_table.proofs.Rows.TableLemmas.{slot_of-joined, IsTable-set_at}
 
 module _ {K X : Type 0} (number : K → ℕ) (R : List (List (K × X))) (table : IsTable number R) (n : ℕ) where
@@ -20,13 +19,6 @@ module _ {K X : Type 0} (number : K → ℕ) (R : List (List (K × X))) (table :
   -- slots whose rows are empty were passed
   pub ArePassed-rows : ((j : ℕ) → j < n → get_or R j [] ≡ []) → ArePassed number (joined R) (length R) n
   ArePassed-rows empty j lt = slot_of-joined number R table j ∙ empty j lt
-
-  -- what a word says of the rows it says of the walk
-  pub IsWalkWord-rows : (at word : ℕ) → IsRowWord R n at word → IsWalkWord number (joined R) (length R) n at word
-  IsWalkWord-rows at word = subst (λ t. IsHeldWord t n at word) (λ k i. nat_lt 0 (length (sym (slot_of-joined number R table i) k)))
-
-  pub IsRowWord-walk : (at word : ℕ) → IsWalkWord number (joined R) (length R) n at word → IsRowWord R n at word
-  IsRowWord-walk at word = subst (λ t. IsHeldWord t n at word) (λ k i. nat_lt 0 (length (slot_of-joined number R table i k)))
 
 module _ {K X : Type 0} (number : K → ℕ) (R : List (List (K × X))) (old : IsTable number R) (from index : ℕ) (next : IsNextRow R from index)
     (passed : (j : ℕ) → j < from → get_or R j [] ≡ []) (ps row : List (K × X)) (taken : get_or R index [] ≡ ps ++ row) where
@@ -57,7 +49,3 @@ module _ {K X : Type 0} (number : K → ℕ) (R : List (List (K × X))) (old : I
   -- all slots before it were passed
   pub ArePassed-front : ArePassed number (joined (set R index row)) (length (set R index row)) index
   ArePassed-front = ArePassed-rows number (set R index row) IsTable-front index rows-before
-
-  -- what is held of the slots behind it is held of them still
-  pub IsWalkWord-behind : (at word : ℕ) → IsRowWord R (index + 1) at word → IsWalkWord number (joined (set R index row)) (length (set R index row)) (index + 1) at word
-  IsWalkWord-behind at word held = IsWalkWord-rows number (set R index row) IsTable-front (index + 1) at word (IsRowWord-set R index row at word held)

@@ -83,9 +83,6 @@ module _ (K' A' : RattleType) (g : key.Ghosts K'.Denot) (e : eq.Ghosts K'.Denot)
   abbrev pub P : Type 0
   P = K'.Denot × V'.Denot
 
-  abbrev pub H : Type 0
-  H = K'.Denot × (Ptr × V'.Denot)
-
   -- what contracts see, of values and of holes
   abbrev pub D : Type 0
   D = Contents K'.Denot V'.Denot
