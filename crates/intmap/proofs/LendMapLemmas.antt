@@ -30,7 +30,7 @@ use Rattle.intmap.proofs.map.IntMap.TheInside.TheLaws as I-laws
 use Rattle.intmap_table.proofs.Lending.OpensLemmas.{OpensAs, Opening, any, seen_as, framed}
 use Rattle.intmap_table.proofs.Lending.OpensStructLemmas.{member, IsLaidAs, left, Fields, apart, whole}
 use Rattle.intmap_table.proofs.Lending.OpensPairLemmas.{V, K, Kr, Hr}
-use Rattle.intmap_table.proofs.Lending.OpensSlotLemmas.{A}
+use Rattle.intmap_table.proofs.Lending.Linked.OpensPoolLemmas.{A}
 use Rattle.intmap_table.proofs.Lending.OpensTableLemmas.{Tr, table_opens}
 use Rattle.intmap.proofs.SameKeysLemmas.{IsConsistent-same_keys}
 use Rattle.intmap_table.proofs.Lending.ValuesLemmas.{keys_of-with_values}

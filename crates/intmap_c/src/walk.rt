@@ -38,7 +38,7 @@ pub extern "C" fn intmap_cut(alloc: Global, handle: &mut Handle, at: &mut Cursor
     }
 }
 
-/// Removes all pairs. The slots, the load factor and the slots' memory stay.
+/// Removes all pairs. The slots, the load factor and the map's memory stay.
 #[unsafe(no_mangle)]
 pub extern "C" fn intmap_clear(alloc: Global, handle: &mut Handle)
     ensures { OnMap handle.old.value handle.new.value ⊤ (λ m n. n ≡ emptied m) }

@@ -1,12 +1,12 @@
 -- What a closure that picks one element at a step leaves of lists.
-use Rattle.std.proofs.Common.{◌≡◌, ℕ, ◌+◌, ◌<◌, ◌≤◌, Bool, true, false, List, [], ◌∷◌, ◌++◌, Option, Some, None, length, get_or, set, take, drop, refl, sym, ap, ◌∙◌, subst, arith, append-nil, append_assoc, length-append, get_or-set_same}
+use Rattle.std.proofs.Common.{◌≡◌, ℕ, ◌+◌, ◌<◌, ◌≤◌, Bool, true, false, List, [], ◌∷◌, ◌++◌, Option, Some, None, length, set, take, drop, refl, sym, ap, ◌∙◌, subst, arith, append-nil, append_assoc, length-append}
 use Rattle.std.specs.Prelude.{All, not, filter, MatchOption}
 use Rattle.std.specs.Bool.{MatchBool}
 use Rattle.std.specs.List.{sum_by}
 use Rattle.std.specs.Option.{option_len, option_to_list}
 use Rattle.std.specs.List.Retain.{ExtractsNext}
-use Rattle.std.proofs.lemmas.List.{drop_more, drop-append-le, drop-set-lt, length-take-le, take_more_set, take-append-drop, take-append-le, take-set-le}
-use Rattle.std.proofs.Math.Seq.{drop-append-add, drop-append_seam, take-append-add, take-append_seam}
+use Rattle.std.proofs.lemmas.List.{drop-append-le, drop-set-lt, take-append-drop, take-append-le}
+use Rattle.std.proofs.Math.Seq.{drop-append-add, take-append-add}
 use Rattle.std.proofs.lemmas.List.Elements.{All-append, All-cons, All-drop, All-head, All-tail, All-take}
 use Rattle.std.proofs.lemmas.List.Sums.{sum_by-append, sum_by-cons, sum_by-take-drop}
 use Rattle.intmap_table.specs.Picking.{ExtractsBehind}
@@ -39,26 +39,6 @@ module _ {F X : Type 0} (R : F → X → Bool → F → X → Type 0) where
   module _ (f h : F) (ps qs : List X) (i : ℕ) (q : X) (below : i < length ps) (left : qs ≡ set ps i q) where
     behind : drop (i + 1) qs ≡ drop (i + 1) ps
     behind = ap (drop (i + 1)) left ∙ drop-set-lt (i + 1) ps i q (omega arith)
-
-    -- it isn't picked
-    pub StepsFrom-stays : R f (get_or ps i q) false h q → StepsFrom f ps i h qs (i + 1)
-    StepsFrom-stays call r g N k step = (
-      q ∷ step.0,
-      rw (drop_more ps i q below) (false, h, q, call, (step.0, rw behind at step.1, refl)),
-      step.2 ∙ ap (λ Z. Z ++ step.0) (ap (take (i + 1)) left ∙ take_more_set ps i q below) ∙ append_assoc (take i ps) (q ∷ []) step.0,
-    )
-
-    -- it is picked, and removed
-    pub ExtractsBehind-goes : R f (get_or ps i q) true h q → (x : X) (M : List X) → x ≡ get_or qs i x → M ≡ take i qs ++ drop (i + 1) qs
-        → ExtractsBehind R f ps i (Some x) h M i
-    ExtractsBehind-goes call x M here removed =
-        let same : x ≡ q = here ∙ ap (λ Z. get_or Z i x) left ∙ get_or-set_same ps i q x below in
-        let front : take i qs ≡ take i ps = ap (take i) left ∙ take-set-le i ps i q (omega arith) in
-        let parts : M ≡ take i ps ++ drop (i + 1) ps = removed ∙ (λ k. front k ++ behind k) in
-        let at : (take i M ≡ take i ps) × (drop i M ≡ drop (i + 1) ps) =
-        subst (λ m. (take m M ≡ take i ps) × (drop m M ≡ drop (i + 1) ps)) (length-take-le i ps (omega (arith, below)))
-        (rw parts (take-append_seam (take i ps) (drop (i + 1) ps), drop-append_seam (take i ps) (drop (i + 1) ps))) in
-        ([], rw (drop_more ps i q below) (true, h, q, call, (ap Some same, refl, refl, at.1)), at.0 ∙ sym (append-nil (take i ps)))
 
   -- a step that removes none goes to the end
   pub ExtractsNext-end : (f g : F) (L kept rest : List X) → ExtractsNext R f L None g kept rest → rest ≡ []

@@ -1,6 +1,5 @@
 -- What goes over the elements of a list in turn, done in part.
-use Rattle.std.proofs.Common.{ℕ, ◌+◌, ◌<◌, List, [], ◌∷◌, ◌++◌, length, get_or, drop, sym, subst, append-nil, append_assoc}
-use Rattle.std.proofs.lemmas.List.{drop_more}
+use Rattle.std.proofs.Common.{List, [], ◌++◌, sym, subst, append-nil, append_assoc}
 
 module _ {F X : Type 0} (Goes : F → List X → List X → F → Type 0) where
   -- it went over L from f₀ up to the elements that are left, where it is at f, and made `done` of those before
@@ -12,12 +11,6 @@ module _ {F X : Type 0} (Goes : F → List X → List X → F → Type 0) where
     pub Leads-next : (f₀ f h : F) (L done first made left : List X) → Leads f₀ L f done (first ++ left) → Goes f first made h → Leads f₀ L h (done ++ made) left
     Leads-next f₀ f h L done first made left leads run N g r =
         subst (λ Z. Goes f₀ L Z g) (sym (append_assoc done made N)) (leads (made ++ N) g (append f h g first left made N run r))
-
-    -- it goes over the element at place i of a list
-    pub Leads-place : (f₀ f h : F) (L done made xs : List X) (i : ℕ) (d : X) → i < length xs → Leads f₀ L f done (drop i xs) → Goes f (get_or xs i d ∷ []) made h
-        → Leads f₀ L h (done ++ made) (drop (i + 1) xs)
-    Leads-place f₀ f h L done made xs i d below leads run =
-        Leads-next f₀ f h L done (get_or xs i d ∷ []) made (drop (i + 1) xs) (rw (drop_more xs i d below) at leads) run
 
   -- it went over all
   pub Leads-end : (f₀ f : F) (L done : List X) → Goes f [] [] f → Leads f₀ L f done [] → Goes f₀ L done f

@@ -2,15 +2,11 @@
 pub mod CellLemmas
 pub mod LendByLemmas
 pub mod OpensLemmas
-pub mod OpensOptionLemmas
 pub mod OpensStructLemmas
 pub mod OpensVecLemmas
 pub mod OpensPairLemmas
-pub mod OpensLoneLemmas
-pub mod OpensSlotLemmas
-pub mod OpensSlotsLemmas
-pub mod OpensTableLemmas
 pub mod ValuesLemmas
 pub mod ChosenLemmas
 pub mod ChosenOpensLemmas
 pub mod Linked
+pub mod OpensTableLemmas

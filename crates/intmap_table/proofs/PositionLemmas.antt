@@ -1,47 +1,14 @@
 -- The place of the first element that passes a test, and what is found and left there.
-use Rattle.std.proofs.Common.{◌≡◌, ℕ, suc, ◌+◌, ◌-◌, ◌<◌, ◌≤◌, Bool, true, false, cond, List, [], ◌∷◌, length, get_or, set, take, drop, Some, None, refl, sym, ap, ◌∙◌, subst, arith}
+use Rattle.std.proofs.Common.{◌≡◌, ℕ, suc, ◌-◌, ◌<◌, ◌≤◌, Bool, cond, List, [], ◌∷◌, length, get_or, set, take, Some, None, refl, sym, ap, ◌∙◌, subst, arith}
 use Rattle.std.specs.Prelude.{position, swap_remove, nat_lt}
 use Rattle.std.specs.List.{position_or_len, list_any}
-use Rattle.std.proofs.lemmas.Bool.{lt-ltb, le-ltb, ltb-true}
+use Rattle.std.proofs.lemmas.Bool.{ltb-true}
 use Rattle.std.proofs.lemmas.Bool.Decides.{nat_tests}
-use Rattle.std.proofs.lemmas.List.{drop_more, drop_all}
 use Rattle.std.proofs.lemmas.Option.{cond_some}
 use Rattle.intmap_table.specs.Bindings.{last_passing, without_last, swap_out, first_value}
-use Rattle.intmap_table.specs.Reach.{through_first}
 use Rattle.intmap_table.proofs.Tables.SwapOutLemmas.{any}
 
 module _ {X : Type 0} (test : X → Bool) where
-  -- none of the first i elements passes
-  pub record FailBefore (xs : List X) (i : ℕ) : Type 0 where
-    pub place : position_or_len test xs ≡ i + position_or_len test (drop i xs)
-    pub reached : length (through_first test xs) ≡ i + length (through_first test (drop i xs))
-
-  module _ (xs : List X) (i : ℕ) (x : X) (below : i < length xs) (is : x ≡ get_or xs i x) (h : FailBefore xs i) where
-    rest : drop i xs ≡ x ∷ drop (i + 1) xs
-    rest = drop_more xs i x below ∙ ap (λ y. y ∷ drop (i + 1) xs) (sym is)
-
-    -- nor does the next one
-    pub FailBefore-next : test x ≡ false → FailBefore xs (i + 1)
-    FailBefore-next fails = record {
-      place = (let a = rw (rest, fails) at h.place in omega (arith, a));
-      reached = (let b = rw (rest, fails) at h.reached in omega (arith, b));
-    }
-
-    -- the next one passes, so it is found there
-    pub position-next : test x ≡ true → position test xs ≡ Some i
-    position-next passes = let a = rw (rest, passes) at h.place in let e : position_or_len test xs ≡ i = omega (arith, a) in simp (e, lt-ltb i (length xs) below)
-
-    pub reached-next : test x ≡ true → length (through_first test xs) ≡ i + 1
-    reached-next passes = rw (rest, passes) at h.reached
-
-  -- none passes
-  module _ (xs : List X) (i : ℕ) (all : length xs ≤ i) (h : FailBefore xs i) where
-    pub position-all : position test xs ≡ None
-    position-all = let e : position_or_len test xs ≡ i + 0 = rw (drop_all i xs all) at h.place in simp (e, le-ltb (i + 0) (length xs) (omega (arith, all)))
-
-    pub reached-all : length (through_first test xs) ≡ i
-    reached-all = let n = rw (drop_all i xs all) at h.reached in omega (arith, n)
-
   position_or_len-le : (xs : List X) → position_or_len test xs ≤ length xs
   position_or_len-le [] = omega arith
   position_or_len-le (x ∷ xs) = let h = position_or_len-le xs in grind (arith, h)
@@ -49,14 +16,6 @@ module _ {X : Type 0} (test : X → Bool) where
   -- if none is found, the whole list is passed
   pub position_or_len-none : (xs : List X) → position test xs ≡ None → position_or_len test xs ≡ length xs
   position_or_len-none xs none = let l = position_or_len-le xs in grind (arith, nat_tests, none, l)
-
-  -- behind an element that fails
-  pub position-cons_none : (x : X) (xs : List X) → test x ≡ false → position test xs ≡ None → position test (x ∷ xs) ≡ None
-  position-cons_none x xs fails none =
-      let l = position_or_len-none xs none in grind (arith, nat_tests, fails, l)
-
-  pub length-through_first-cons : (x : X) (xs : List X) → test x ≡ false → length (through_first test (x ∷ xs)) ≡ length (through_first test xs) + 1
-  length-through_first-cons x xs fails = rw fails (omega arith)
 
 module _ {X : Type 0} where
   pub swap_remove-cons : (z : X) (zs : List X) (i : ℕ) (x : X) → swap_remove (z ∷ zs) i x ≡ take (length zs) (set (z ∷ zs) i (get_or (z ∷ zs) (length zs) x))
@@ -94,11 +53,6 @@ module _ {X : Type 0} (test : X → Bool) where
       let c = cond_some (nat_lt (position_or_len test xs) (length xs)) (position_or_len test xs) i e in
       let l : position_or_len test xs < length xs = ltb-true (position_or_len test xs) (length xs) c.0 in
       (c.1, subst (λ n. n < length xs) c.1 l)
-
-  -- behind an element that fails, the place is one greater
-  pub position-cons_some : (x : X) (xs : List X) (i : ℕ) → test x ≡ false → position test xs ≡ Some i → position test (x ∷ xs) ≡ Some (i + 1)
-  position-cons_some x xs i fails found =
-      let p = position-within xs i found in let at = p.0 in let below = p.1 in grind (arith, nat_tests, fails, at, below)
 
   -- the last element fills the place that was found
   pub swap_remove-position : (xs : List X) (i : ℕ) (x : X) → position test xs ≡ Some i → x ≡ get_or xs i x → swap_remove xs i x ≡ swap_out test any xs

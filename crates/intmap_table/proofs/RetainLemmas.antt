@@ -1,15 +1,12 @@
 -- What a closure that is asked about each element in turn leaves of lists.
-use Rattle.std.proofs.Common.{◌≡◌, inl, inr, ℕ, ◌+◌, ◌<◌, ◌≤◌, Bool, true, false, cond, List, [], ◌∷◌, ◌++◌, length, get_or, set, take, drop, refl, sym, ap, ◌∙◌, subst, arith, append-nil}
+use Rattle.std.proofs.Common.{◌≡◌, ◌≤◌, Bool, cond, List, [], ◌∷◌, ◌++◌, length, sym, ap, ◌∙◌, subst, arith}
 use Rattle.std.specs.Prelude.{All, count_by, filter}
-use Rattle.std.specs.List.{swap, FoldsTo}
-use Rattle.std.proofs.lemmas.Bool.{cases_lt, cond_both}
-use Rattle.std.proofs.lemmas.List.{take_more_set, take-set-le, drop-set-lt, set-set}
-use Rattle.std.proofs.lemmas.List.Edits.{swap_is}
+use Rattle.std.specs.List.{FoldsTo}
+use Rattle.std.proofs.lemmas.Bool.{cond_both}
 use Rattle.std.proofs.lemmas.List.Elements.{All-cons, All-head, All-tail}
 use Rattle.std.proofs.lemmas.List.Sums.{sum_by-cons}
 use Rattle.intmap_table.specs.Retaining.{Retains, state_after, kept_from}
 use Rattle.intmap_table.specs.Taking.{Passes}
-use Rattle.intmap_table.proofs.LeadsLemmas.{Leads, Leads-place}
 
 module _ {F X : Type 0} (R : F → X → Bool → F → Type 0) where
   -- first the one list, then the other
@@ -42,33 +39,6 @@ module _ {F X : Type 0} (R : F → X → Bool → F → Type 0) where
   count_by-Retains test f g (x ∷ L) M r =
       let rest = count_by-Retains test r.1 g L r.2 r.4 in let e = ap (count_by test) r.5 in
       let before = sum_by-cons (λ (y : X). cond (test y) 1 0) x L in let after = sum_by-cons (λ (y : X). cond (test y) 1 0) x r.2 in grind (arith, rest, e, before, after)
-
-module _ {X : Type 0} (xs : List X) (k i : ℕ) (d : X) (before : k ≤ i) (below : i < length xs) where
-  swap-sets : swap xs k i ≡ set (set xs k (get_or xs i d)) i (get_or xs k d)
-  swap-sets = sym (swap_is xs k i d (omega (arith, before, below)) below)
-
-  -- an element that is swapped forward to place k
-  pub take-swap : take (k + 1) (swap xs k i) ≡ take k xs ++ get_or xs i d ∷ []
-  take-swap = ap (take (k + 1)) swap-sets ∙ (elim (cases_lt k i) as (λ _. take (k + 1) (set (set xs k (get_or xs i d)) i (get_or xs k d)) ≡ take k xs ++ get_or xs i d ∷ []) [
-    | inl apart ↦ take-set-le (k + 1) (set xs k (get_or xs i d)) i (get_or xs k d) (omega (arith, apart)) ∙ take_more_set xs k (get_or xs i d) (omega (arith, before, below))
-    | inr up ↦ (let same : k ≡ i = omega (arith, before, up) in rw (same, set-set) (take_more_set xs i (get_or xs i d) below))
-  ])
-
-  -- leaves those behind its old place
-  pub drop-swap : drop (i + 1) (swap xs k i) ≡ drop (i + 1) xs
-  drop-swap = ap (drop (i + 1)) swap-sets ∙ drop-set-lt (i + 1) (set xs k (get_or xs i d)) i (get_or xs k d) (omega arith) ∙ drop-set-lt (i + 1) xs k (get_or xs i d) (omega (arith, before))
-
-  module _ {F : Type 0} (R : F → X → Bool → F → Type 0) (f₀ f h : F) (L : List X) (leads : Leads (Retains R) f₀ L f (take k xs) (drop i xs)) where
-    asked : (b : Bool) → R f (get_or xs i d) b h → Leads (Retains R) f₀ L h (take k xs ++ cond b (get_or xs i d ∷ []) []) (drop (i + 1) xs)
-    asked b call = Leads-place (Retains R) (Retains-append R) f₀ f h L (take k xs) _ xs i d below leads (b, h, [], call, (refl, refl), refl)
-
-    -- the element at place i stays
-    pub Leads-stays : R f (get_or xs i d) true h → Leads (Retains R) f₀ L h (take (k + 1) (swap xs k i)) (drop (i + 1) (swap xs k i))
-    Leads-stays call = rw (take-swap, drop-swap) (asked true call)
-
-    -- the element at place i goes
-    pub Leads-goes : R f (get_or xs i d) false h → Leads (Retains R) f₀ L h (take k xs) (drop (i + 1) xs)
-    Leads-goes call = subst (λ Z. Leads (Retains R) f₀ L h Z (drop (i + 1) xs)) (append-nil (take k xs)) (asked false call)
 
 module _ {F X : Type 0} (R : F → X → Bool → F → Type 0) where
   -- what stays if each answer is a test of the element alone, and `Own` holds of the closure throughout

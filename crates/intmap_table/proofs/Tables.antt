@@ -1,27 +1,16 @@
 -- Lemmas on bits, slots and tables.
-pub mod AddedLemmas
-pub mod AcrossLemmas
 pub mod AroundLemmas
 pub mod BitsLemmas
 pub mod CloneLemmas
-pub mod CountLemmas
 pub mod CursorLemmas
 pub mod FilledLemmas
-pub mod FormLemmas
 pub mod FoundLemmas
-pub mod ExtractSlotsLemmas
 pub mod FrontLemmas
 pub mod MarkedLemmas
 pub mod MemoryLemmas
 pub mod GrownLemmas
-pub mod LeftLemmas
-pub mod RoomLemmas
 pub mod RowLemmas
-pub mod PutLemmas
-pub mod MovedLemmas
-pub mod MovingLemmas
 pub mod NextMarkLemmas
 pub mod SameKeysLemmas
-pub mod SlotLemmas
 pub mod SwapOutLemmas
 pub mod TableLemmas

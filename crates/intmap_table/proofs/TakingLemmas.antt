@@ -1,6 +1,5 @@
 -- What a closure takes that is called at each element of a list in turn.
-use Rattle.std.proofs.Common.{ℕ, ◌+◌, ◌<◌, List, [], ◌∷◌, ◌++◌, length, get_or, drop, refl, ap, ◌∙◌, subst, append_assoc}
-use Rattle.std.proofs.lemmas.List.{drop_more}
+use Rattle.std.proofs.Common.{List, [], ◌∷◌, ◌++◌, refl, ap, ◌∙◌, subst, append_assoc}
 use Rattle.std.specs.List.{FoldsTo}
 use Rattle.intmap_table.specs.Taking.{Passes, TakesEach}
 
@@ -21,14 +20,3 @@ module _ {F X Y : Type 0} (R : F → X → Y → F → Type 0) (Q : F → X → 
   pub TakesEach-behind : (f g : F) (L L' : List X) → TakesEach R Q f (L ++ L') → FoldsTo (Passes R) f L g → TakesEach R Q g L'
   TakesEach-behind f g [] L' takes passed = subst (λ h. TakesEach R Q h L') passed takes
   TakesEach-behind f g (x ∷ L) L' takes passed = TakesEach-behind passed.0 g L L' (TakesEach-next f passed.0 x passed.1.0 (L ++ L') takes passed.1.1) passed.2
-
-  -- behind the calls at the first i it takes the one at place i, and behind the call there the others
-  module _ (f : F) (L : List X) (i : ℕ) (d : X) (below : i < length L) (takes : TakesEach R Q f (drop i L)) where
-    cut : TakesEach R Q f (get_or L i d ∷ drop (i + 1) L)
-    cut = subst (TakesEach R Q f) (drop_more L i d below) takes
-
-    pub TakesEach-at : Q f (get_or L i d)
-    TakesEach-at = TakesEach-first f (get_or L i d) (drop (i + 1) L) cut
-
-    pub TakesEach-past : (g : F) (y : Y) → R f (get_or L i d) y g → TakesEach R Q g (drop (i + 1) L)
-    TakesEach-past g y call = TakesEach-next f g (get_or L i d) y (drop (i + 1) L) cut call

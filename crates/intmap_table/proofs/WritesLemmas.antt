@@ -1,15 +1,13 @@
 -- What a closure that writes each value in turn leaves of lists of pairs.
-use Rattle.std.proofs.Common.{is_some, ◌≡◌, ℕ, ◌+◌, ◌<◌, List, [], ◌∷◌, ◌++◌, length, get_or, set, take, drop, refl, sym, ap, ◌∙◌, subst, arith}
+use Rattle.std.proofs.Common.{is_some, ◌≡◌, ℕ, List, [], ◌∷◌, ◌++◌, length, sym, ap, ◌∙◌, subst, arith}
 use Rattle.std.specs.Prelude.{map}
 use Rattle.std.specs.List.{FoldsTo}
 use Rattle.std.specs.Map.{keys_of}
-use Rattle.std.proofs.lemmas.List.{take_more_set, drop-set-lt}
 use Rattle.std.proofs.lemmas.Map.Entries.{length-keys_of}
 use Rattle.intmap_table.specs.Bindings.{value_of}
 use Rattle.intmap_table.specs.Taking.{Passes}
 use Rattle.intmap_table.specs.Retaining.{state_after}
 use Rattle.intmap_table.specs.Writes.{Writes, written_from}
-use Rattle.intmap_table.proofs.LeadsLemmas.{Leads, Leads-place}
 
 module _ {F K V : Type 0} (R : F → K × V → V → F → Type 0) where
   -- first the one list, then the other
@@ -37,13 +35,6 @@ module _ {F K V : Type 0} (R : F → K × V → V → F → Type 0) where
   is_some-Writes number k f g [] M r = ap (λ Z. is_some (value_of number Z k)) r.0
   is_some-Writes number k f g (p ∷ L) M r =
       let rest = is_some-Writes number k r.1 g L r.2 r.4 in let e = ap (λ Z. is_some (value_of number Z k)) r.5 in grind (arith, rest, e)
-
-  -- the first i pairs of a list that is `ps` now were written, and so is the next one
-  pub Leads-written : (f₀ f h : F) (L ps : List (K × V)) (i : ℕ) (d p : K × V) → i < length ps → p.0 ≡ (get_or ps i d).0 → R f (get_or ps i d) p.1 h
-      → Leads (Writes R) f₀ L f (take i ps) (drop i ps) → Leads (Writes R) f₀ L h (take (i + 1) (set ps i p)) (drop (i + 1) (set ps i p))
-  Leads-written f₀ f h L ps i d p below key call leads =
-      let one : Writes R f (get_or ps i d ∷ []) (p ∷ []) h = (p.1, h, [], call, (refl, refl), ap (λ k. (k, p.1) ∷ []) key) in
-      rw (take_more_set ps i p below, drop-set-lt (i + 1) ps i p (omega arith)) (Leads-place (Writes R) Writes-append f₀ f h L (take i ps) (p ∷ []) ps i d below leads one)
 
 module _ {F K V : Type 0} (R : F → K × V → V → F → Type 0) where
   -- the values if each is made of its pair alone, and `Own` holds of the closure throughout

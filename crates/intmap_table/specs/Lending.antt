@@ -1,50 +1,25 @@
 -- What a stored value, a slot, a node, a pool of nodes and a table end as, once a value of theirs, or each, was lent and written.
 use denote.Struct.Tuple.{Tuple}
-use Rattle.std.specs.Prelude.{ℕ, List, [], ◌∷◌}
-use Rattle.std.specs.Borrow.{Lends, follows, Fml, RattleType, MutBor, GName}
-use Rattle.std.specs.Map.{values_of}
+use Rattle.std.specs.Prelude.{ℕ, [], ◌∷◌}
+use Rattle.std.specs.Borrow.{Lends, Fml, RattleType, MutBor}
 use Rattle.std.specs.declared.alloc.Allocator as allocator
 use Rattle.std.specs.declared.cmp.PartialEq as eq
 use Rattle.intmap_table.specs.declared.key.IntKey as key
 use Rattle.intmap_table.specs.Bindings.{write_value}
-use Rattle.intmap_table.specs.Tables.Slots.{Held, Grid, write_at, write_row, joined}
+use Rattle.intmap_table.specs.Tables.Slots.{Grid}
 use Rattle.intmap_table.specs.Tables.Rows.{Contents, write_rows}
-use Rattle.intmap_table.specs.Values.{rows_with}
 use Rattle.intmap_table.specs.Tables.Nodes.{Node, Slot, Pool, node_with, slot_with, write_node}
 use Rattle.intmap_table.specs.contracts.kept.Kept.{the_row as kept_row}
-use Rattle.intmap_table.specs.contracts.lone.Lone.{the_row as lone_row}
-use Rattle.intmap_table.specs.contracts.slot.Slot.{the_row as slot_row}
-use Rattle.intmap_table.specs.contracts.table.slots.Slots.{the_row as slots_row}
-use Rattle.intmap_table.specs.contracts.table.Table.{the_row as table_row}
 use Rattle.intmap_table.specs.contracts.table.stored.Stored.{the_row as stored_row}
 use Rattle.intmap_table.specs.contracts.linked.node.Node.{the_row as node_row}
-use Rattle.intmap_table.specs.contracts.linked.slot.Slot.{the_row as slot_head_row}
+use Rattle.intmap_table.specs.contracts.linked.slot.Slot.{the_row as slot_row}
 use Rattle.intmap_table.specs.contracts.linked.pool.Pool.{the_row as pool_row}
-use Rattle.intmap_table.specs.contracts.table.linked.Slots.{the_row as linked_row}
-use Rattle.intmap_table.specs.contracts.table.linked_table.Table.{the_row as linked_table_row}
+use Rattle.intmap_table.specs.contracts.table.slots.Slots.{the_row as slots_row}
+use Rattle.intmap_table.specs.contracts.table.Table.{the_row as table_row}
 
 -- once the loan named r ends, the stored value is the last one written through it
 abbrev pub kept_lends : (V : RattleType) → MutBor V.Denot → MutBor V.Denot → Fml
 kept_lends V k r = Lends (kept_row V) V k r (λ v. v)
-
--- once the loan named r ends, the slot behind s has the last value written through it at place i, and all else is as it was
-abbrev pub slot_lends : (K X A : RattleType) → key.Ghosts K.Denot → eq.Ghosts K.Denot → allocator.Ghosts A.Denot
-    → MutBor (Held K.Denot X.Denot) → ℕ → MutBor X.Denot → Fml
-slot_lends K X A g e a s i r = Lends (slot_row K X A g e a) X s r (λ v. record s.now { pairs = write_at s.now.pairs i v })
-
--- the same of a slot of one pair
-abbrev pub lone_lends : (K X : RattleType) → key.Ghosts K.Denot → eq.Ghosts K.Denot → MutBor (Held K.Denot X.Denot) → MutBor X.Denot → Fml
-lone_lends K X g e s r = Lends (lone_row K X g e) X s r (λ v. record s.now { pairs = write_at s.now.pairs 0 v })
-
--- once it ends, the slots behind s have that value at place j of slot i
-abbrev pub slots_lends : (K X A : RattleType) → key.Ghosts K.Denot → eq.Ghosts K.Denot → allocator.Ghosts A.Denot
-    → MutBor (List (Held K.Denot X.Denot)) → ℕ → ℕ → MutBor X.Denot → Fml
-slots_lends K X A g e a s i j r = Lends (slots_row K X A g e a) X s r (λ v. write_row s.now i j v)
-
--- once it ends, the table behind t has that value at the key k
-abbrev pub table_lends : (K X A : RattleType) → (g : key.Ghosts K.Denot) → eq.Ghosts K.Denot → allocator.Ghosts A.Denot
-    → MutBor (Grid K.Denot X.Denot) → K.Denot → MutBor X.Denot → Fml
-table_lends K X A g e a t k r = Lends (table_row K X A g e a) X t r (λ v. record t.now { walk = write_value g.number_of t.now.walk k v })
 
 -- a stored pair, as the logic names its type
 abbrev pub pair_row : (K X : RattleType) → key.Ghosts K.Denot → eq.Ghosts K.Denot → RattleType
@@ -55,8 +30,8 @@ abbrev pub node_lends : (K X : RattleType) → key.Ghosts K.Denot → eq.Ghosts 
 node_lends K X g e n r = Lends (node_row (pair_row K X g e)) X n r (λ v. node_with n.now v)
 
 -- the same of the first pair of a slot
-abbrev pub slot_head_lends : (K X : RattleType) → key.Ghosts K.Denot → eq.Ghosts K.Denot → MutBor (Slot (K.Denot × X.Denot)) → MutBor X.Denot → Fml
-slot_head_lends K X g e s r = Lends (slot_head_row (pair_row K X g e)) X s r (λ v. slot_with s.now v)
+abbrev pub slot_lends : (K X : RattleType) → key.Ghosts K.Denot → eq.Ghosts K.Denot → MutBor (Slot (K.Denot × X.Denot)) → MutBor X.Denot → Fml
+slot_lends K X g e s r = Lends (slot_row (pair_row K X g e)) X s r (λ v. slot_with s.now v)
 
 -- once it ends, the pool behind p has that value in the pair of node i
 abbrev pub pool_lends : (K X A : RattleType) → key.Ghosts K.Denot → eq.Ghosts K.Denot → allocator.Ghosts A.Denot
@@ -64,17 +39,11 @@ abbrev pub pool_lends : (K X A : RattleType) → key.Ghosts K.Denot → eq.Ghost
 pool_lends K X A g e a p i r = Lends (pool_row (pair_row K X g e) A a) X p r (λ v. record p.now { nodes = write_node p.now.nodes i v })
 
 -- once it ends, the slots behind s have that value at place j of slot i
-abbrev pub linked_lends : (K X A : RattleType) → key.Ghosts K.Denot → eq.Ghosts K.Denot → allocator.Ghosts A.Denot
+abbrev pub slots_lends : (K X A : RattleType) → key.Ghosts K.Denot → eq.Ghosts K.Denot → allocator.Ghosts A.Denot
     → MutBor (Contents K.Denot X.Denot) → ℕ → ℕ → MutBor X.Denot → Fml
-linked_lends K X A g e a s i j r = Lends (linked_row K X A g e a) X s r (λ v. record s.now { rows = write_rows s.now.rows i j v })
+slots_lends K X A g e a s i j r = Lends (slots_row K X A g e a) X s r (λ v. record s.now { rows = write_rows s.now.rows i j v })
 
 -- once it ends, the table behind t has that value at the key k
-abbrev pub linked_table_lends : (K X A : RattleType) → (g : key.Ghosts K.Denot) → eq.Ghosts K.Denot → allocator.Ghosts A.Denot
+abbrev pub table_lends : (K X A : RattleType) → (g : key.Ghosts K.Denot) → eq.Ghosts K.Denot → allocator.Ghosts A.Denot
     → MutBor (Grid K.Denot X.Denot) → K.Denot → MutBor X.Denot → Fml
-linked_table_lends K X A g e a t k r = Lends (linked_table_row K X A g e a) X t r (λ v. record t.now { walk = write_value g.number_of t.now.walk k v })
-
--- once the loan named r ends, the slots behind s are as they were, with the values of some slots, in walk order, in place of their own
-abbrev pub linked_lends_values : (K V A : RattleType) → key.Ghosts K.Denot → eq.Ghosts K.Denot → allocator.Ghosts A.Denot
-    → MutBor (Contents K.Denot V.Denot) → GName → Fml
-linked_lends_values K V A g e a s r = follows (linked_row K (kept_row V) A g e a) (linked_row K (kept_row V) A g e a) s.ghost_name r
-    (λ last. record s.now { rows = rows_with s.now.rows (values_of (joined last.rows)) })
+table_lends K X A g e a t k r = Lends (table_row K X A g e a) X t r (λ v. record t.now { walk = write_value g.number_of t.now.walk k v })

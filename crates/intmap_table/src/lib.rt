@@ -7,8 +7,6 @@ pub mod kept;
 mod key;
 pub mod lent;
 mod linked;
-mod lone;
-mod slot;
 pub mod steps;
 pub mod table;
 

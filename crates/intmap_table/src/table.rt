@@ -8,15 +8,13 @@
 pub(crate) mod asked;
 mod closures;
 mod grow;
-mod linked;
-mod linked_table;
 pub mod locate;
 pub mod owned;
 mod slots;
 pub(crate) mod stored;
 pub mod walk;
 
-ghost use Rattle.std.specs.Prelude.{◌≡◌, ◌+◌, ◌^◌, ◌<◌, ◌≤◌, [], OnOk, OnErr, IfOk, IfErr, None, length};
+ghost use Rattle.std.specs.Prelude.{◌≡◌, ◌+◌, ◌<◌, ◌≤◌, [], OnOk, OnErr, IfOk, IfErr, None, length};
 ghost use Rattle.intmap_table.specs.Classes.{IsCapacity, slot_number};
 ghost use Rattle.intmap_table.specs.Bindings.{value_of, put_pair};
 ghost use Rattle.intmap_table.specs.Locations.{IsAt};
@@ -71,16 +69,17 @@ pub struct Table<K: IntKey, X, A: Allocator> {
 // Invariant: each pair is in the slot of its key.
 impl<K: IntKey, X, A: Allocator> Model for Table<K, X, A> {
     ghost use Rattle.std.specs.Prelude.{length};
-    ghost use Rattle.intmap_table.specs.Tables.Slots.{Grid, rows, joined, IsTable};
+    ghost use Rattle.intmap_table.specs.Tables.Slots.{Grid, joined};
+    ghost use Rattle.intmap_table.specs.Tables.Rows.{IsTable};
 
     ghost Value = { Grid K X };
 
     ghost view = { λ t. record {
-      walk = joined (rows t.slots);
-      capacity = length t.slots;
+      walk = joined t.slots.rows;
+      capacity = length t.slots.rows;
     } };
 
-    ghost invariant = { λ t. IsTable K.number_of t.slots };
+    ghost invariant = { λ t. IsTable K.number_of t.slots.rows };
 }
 
 impl<K: IntKey, X, A: Allocator> Table<K, X, A> {
@@ -102,8 +101,7 @@ impl<K: IntKey, X, A: Allocator> Table<K, X, A> {
 
     /// The number of pairs that a slot holds.
     pub fn slot_len(&self, slot: usize) -> usize
-        requires within { slot < self.now.capacity }
-        requires fits { length self.now.walk < 2 ^ 64 }
+        requires { slot < self.now.capacity }
         ensures { result ≡ length (slot_of K.number_of self.now.walk self.now.capacity slot) }
     {
         self.slots.row_len(slot)
@@ -154,7 +152,10 @@ impl<K: IntKey, X: Drop, A: Allocator + Copy> Table<K, X, A> {
             (0 < class_size K.number_of self.old.walk self.old.capacity key) }
         ensures known { K.is_valid key }
     {
-        let place = self.slots.push(slot, Stored::new(key), value)?;
+        let place = match self.slots.push(slot, (Stored::new(key), value)) {
+            Ok(place) => place,
+            Err((_, value)) => return Err(value),
+        };
         Ok(Location { key, slot, place })
     }
 
@@ -170,14 +171,14 @@ impl<K: IntKey, X: Drop, A: Allocator + Copy> Table<K, X, A> {
         ensures walk { IfOk result (λ table. table.walk ≡ []) }
         ensures capacity { IfOk result (λ table. table.capacity ≡ capacity) }
     {
-        let slots = Slots::new(alloc, capacity)?;
+        let slots = Slots::new(alloc, capacity, 0)?;
         Ok(Table { slots })
     }
 }
 
 impl<K: IntKey, X: Clone, A: Allocator + Copy> Table<K, X, A> {
-    /// The same keys in the same slots, with clones of their values. The slots and then their bits
-    /// are allocated before the first value is cloned.
+    /// The same keys in the same slots, with clones of their values. The slots, their bits and the
+    /// nodes of their further pairs are allocated before the first value is cloned.
     pub fn clone(&self) -> Result<Table<K, X, A>, AllocError>
         ensures walk { IfOk result
             (λ made. AllZip (IsPairClone X.is_clone) self.now.walk made.walk) }

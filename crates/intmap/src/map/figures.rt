@@ -58,7 +58,7 @@ impl<K: IntKey, V: Drop, A: Allocator + Copy> IntMap<K, V, A> {
     /// its walk and its capacity.
     ///
     /// It fails only with [`Cause::Memory`], if an allocation for that map fails. It compares no
-    /// key of this map, and its time grows with the number of slots.
+    /// key of this map, and its time grows with the numbers of slots and pairs.
     ///
     /// ```text
     /// let mut map = IntMap::new(alloc)?;

@@ -73,7 +73,8 @@ impl<K: IntKey, V, A: Allocator + Copy> IntMap<K, V, A> {
     /// with 0. The call sets `from` to the number of the slot that held the pair, so the next call
     /// goes on from there. If there is no pair, `from` stays.
     ///
-    /// The other pairs of the slot move up by one place. It allocates nothing and never fails.
+    /// The other pairs of the slot move up by one place. It allocates nothing and never fails. Its
+    /// time doesn't depend on how many pairs share the slot.
     ///
     /// ```text
     /// let mut map = IntMap::from_array(alloc, [(0, 10), (4, 14), (2, 12)])?;
@@ -107,8 +108,9 @@ impl<K: IntKey, V, A: Allocator + Copy> IntMap<K, V, A> {
 }
 
 impl<K: IntKey, V: Drop, A: Allocator + Copy> IntMap<K, V, A> {
-    /// Drops all pairs. The capacity, the load factor and both counts stay, and the slots keep
-    /// their memory for later pairs. It goes through the slots that hold a pair, and never fails.
+    /// Drops all pairs, in iteration order. The capacity, the load factor and both counts stay, and
+    /// the map keeps its memory for later pairs. It goes through the slots that hold a pair, and never
+    /// fails.
     ///
     /// ```text
     /// let mut map = IntMap::with_capacity(alloc, 128)?;
@@ -138,7 +140,7 @@ impl<K: IntKey, V: Drop, A: Allocator + Copy> IntMap<K, V, A> {
     /// call before left. Nothing is required of other keys, values and calls.
     ///
     /// The pairs that stay keep their order. The capacity, the load factor and both counts stay,
-    /// and the slots keep their memory for later pairs. It never fails and allocates nothing. Apart
+    /// and the map keeps its memory for later pairs. It never fails and allocates nothing. Apart
     /// from the calls of the closure, its time grows with the numbers of pairs and slots, however
     /// many pairs share a slot.
     ///

@@ -1,7 +1,6 @@
 -- Values are lent out of what owns them, and what is left is shared with holes in their places. Assumes `Logic`.
 use mathlib.Core.Path.{◌≡◌, refl, sym, ap, subst, ◌∙◌}
 use Prim.Native.Nat.{ℕ, suc, ◌+◌}
-use native.Mathlib.Nat.{zero-add}
 use native.Mathlib.Omega.{arith}
 use mathlib.Core.List.{List, [], ◌∷◌, ◌++◌}
 use lib.ListN.{length, take, drop as drop_l, length-append}
@@ -22,7 +21,7 @@ use denote.Memory.{part_at, shared_of, lone, each_shared}
 use denote.Index.{row}
 use denote.Struct.Lending.{Lends, Lends-both, Lends-nothing}
 use Rattle.std.specs.Prelude.{map}
-use Rattle.std.proofs.lemmas.List.{append_assoc, take-take, drop-take, drop-drop}
+use Rattle.std.proofs.lemmas.List.{take-take, drop-take, drop-drop}
 use Rattle.intmap_table.specs.Apart.{each_at, places_of, contents_of}
 
 module _ (V : RattleType) where
@@ -268,11 +267,6 @@ abbrev pub row_cells_in : {Y C : Type 0} → (Y → List C) → List Y → List 
 row_cells_in cells_in [] = []
 row_cells_in cells_in (h ∷ hs) = cells_in h ++ row_cells_in cells_in hs
 
--- elements, and further ones behind them
-pub row_count-append : {X : Type 0} (count : X → ℕ) (xs ys : List X) → row_count count xs + row_count count ys ≡ row_count count (xs ++ ys)
-row_count-append count [] ys = zero-add (row_count count ys)
-row_count-append count (x ∷ xs) ys = let n = row_count-append count xs ys in omega (arith, n)
-
 pub row_put-append : {X W : Type 0} (count : X → ℕ) (put : X → List W → X) (xs ys : List X) (ws : List W)
     → row_put count put xs (take (row_count count xs) ws) ++ row_put count put ys (drop_l (row_count count xs) ws) ≡ row_put count put (xs ++ ys) ws
 row_put-append count put [] ys ws = refl
@@ -280,12 +274,6 @@ row_put-append count put (x ∷ xs) ys ws =
     let c = count x in let n = row_count count xs in let rows = row_put count put in
     (λ i. put x (take-take c (c + n) ws (omega arith) i) ∷ rows xs (drop-take c n ws i) ++ rows ys (sym (drop-drop n c ws) i))
     ∙ ap (λ zs. put x (take c ws) ∷ zs) (row_put-append count put xs ys (drop_l c ws))
-
-pub row_cells_in-append : {Y C : Type 0} (cells_in : Y → List C) (hs ks : List Y)
-    → row_cells_in cells_in hs ++ row_cells_in cells_in ks ≡ row_cells_in cells_in (hs ++ ks)
-row_cells_in-append cells_in [] ks = refl
-row_cells_in-append cells_in (h ∷ hs) ks =
-    append_assoc (cells_in h) (row_cells_in cells_in hs) (row_cells_in cells_in ks) ∙ ap (λ cs. cells_in h ++ cs) (row_cells_in-append cells_in hs ks)
 
 abbrev pub row_opens : {M : Type 1} {𝓤 : Ura M} (𝓛 : Logic 𝓤) (V R R' : RattleType) (l : Lft) (O : OpensAs 𝓛 V R R' l) (xs : List R.Denot) (b o : ℕ)
     → Opening 𝓛 V l (row R full_share xs b o) (λ ws. row R full_share (row_put O.count O.put xs ws) b o) (row_count O.count xs)

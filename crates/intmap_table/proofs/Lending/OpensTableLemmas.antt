@@ -1,8 +1,7 @@
 -- A table, whose values are lent. Assumes `Logic`.
-use mathlib.Core.Path.{◌≡◌, refl, ap, sym, ◌∙◌}
-use native.Mathlib.Omega.{arith}
-use mathlib.Core.List.{List, [], ◌∷◌, ◌++◌}
-use lib.ListN.{length, take, drop, length-append, length-map}
+use mathlib.Core.Path.{◌≡◌, refl, sym}
+use mathlib.Core.List.{List, [], ◌∷◌}
+use lib.ListN.{length, length-map}
 use seplogic.Ra.Ura.{Ura}
 use base.Logic.{id⊢}
 use base.Fml.{Lft, Incl}
@@ -13,7 +12,6 @@ use denote.Memory.{part_of, shared_of}
 use denote.Model.Fields.{view-Hides}
 use denote.Struct.Members.{Member}
 use denote.Param.Laws.{Laws, param_laws, copied_laws}
-use Rattle.std.proofs.lemmas.List.{map-append}
 use Rattle.std.specs.Prelude.{map}
 use Rattle.std.specs.declared.alloc.Allocator as allocator
 use Rattle.std.specs.declared.cmp.PartialEq as eq
@@ -24,15 +22,17 @@ use Rattle.intmap_table.specs.declared.table.Table as declared
 use Rattle.intmap_table.specs.contracts.table.Table as T-type
 use Rattle.intmap_table.specs.contracts.table.Table.TheInside as I-type
 use Rattle.intmap_table.proofs.kept.Kept.TheLaws as K-laws
-use Rattle.intmap_table.specs.Tables.Slots.{Held, Grid, rows, joined}
-use Rattle.intmap_table.specs.Values.{lent_pairs, with_values}
+use Rattle.intmap_table.specs.Tables.Slots.{Grid}
+use Rattle.intmap_table.specs.Values.{lent_pairs, rows_with, with_values}
 use Rattle.intmap_table.proofs.Tables.SameKeysLemmas.{IsTable-same_keys}
-use Rattle.intmap_table.proofs.Lending.ValuesLemmas.{with_values-append, lent_slot, lent_pairs-joined, row_keys-lent_slots}
-use Rattle.intmap_table.proofs.Lending.OpensLemmas.{OpensAs, length-row_put}
+use Rattle.intmap_table.proofs.Lending.ValuesLemmas.{lent_pairs-joined, row_keys-lent_pairs, row_keys-rows_with, length-rows_with}
+use Rattle.intmap_table.proofs.Lending.OpensLemmas.{OpensAs}
 use Rattle.intmap_table.proofs.Lending.OpensStructLemmas.{member, IsLaidAs, last_part, struct_opens, view_opens}
 use Rattle.intmap_table.proofs.Lending.OpensPairLemmas.{V, K, Kr, Hr}
-use Rattle.intmap_table.proofs.Lending.OpensSlotLemmas.{A}
-use Rattle.intmap_table.proofs.Lending.OpensSlotsLemmas.{Lr, SO as slots_each, slots_opens, keys-puts}
+use Rattle.intmap_table.proofs.Lending.Linked.OpensPoolLemmas.{A}
+use Rattle.intmap_table.proofs.Lending.Linked.OpensMemoryLemmas.{Lr}
+use Rattle.intmap_table.proofs.Lending.Linked.OpensLinkedLemmas.{linked_opens}
+use Rattle.intmap_table.proofs.Lending.Linked.RefilledLemmas.{joined-rows_with}
 use Rattle.intmap_table.proofs.table.slots.Slots.TheLaws as L-laws
 
 module _ (K' A' : RattleType) (g : key.Ghosts K'.Denot) (e : eq.Ghosts K'.Denot) (a : allocator.Ghosts A'.Denot) where
@@ -73,30 +73,13 @@ module _ (K' A' : RattleType) (g : key.Ghosts K'.Denot) (e : eq.Ghosts K'.Denot)
 
     module _ (l : Lft) (ik : Incl l K'.lives) (iv : Incl l V'.lives) (ia : Incl l A'.lives) where
       abbrev pub LO : OpensAs 𝓛 (V V') (Lr K' A' g e a Kv) (Lr K' A' g e a Hv) l
-      LO = slots_opens K' A' g e a V' LK LV LA 𝓛 l ik iv ia
+      LO = linked_opens K' A' g e a V' LK LV LA 𝓛 l ik iv ia
 
       abbrev pub inside_opens : OpensAs 𝓛 (V V') (Ir Kv) (Ir Hv) l
       inside_opens =
           struct_opens 𝓛 fields (Ir Kv) (λ t. (t.slots, tt)) table_laid (V V') l (last_part 𝓛 (V V') l (Lr K' A' g e a Kv) 0 LO)
           (slots_laws.single, tt) (λ y. record { slots = y.0 }) (shared_of (Ir Hv)) (λ h. h.slots) (λ s. record { slots = s }) (λ t. refl)
           (λ y. refl) (λ s. refl) (λ y b o κ. id⊢ 𝓤 _)
-
-      abbrev H' : Type 0
-      H' = Held K'.Denot V'.Denot
-
-      pub joined-puts : (S : List H') (ws : List V'.Denot) → joined (rows (LO.put S ws)) ≡ with_values (joined (rows S)) ws
-      unfolding with_values
-      joined-puts [] ws = refl
-      joined-puts (h ∷ S) ws = ap (λ L. with_values h.pairs (take (length h.pairs) ws) ++ L) (joined-puts S (drop (length h.pairs) ws)) ∙
-          with_values-append h.pairs (joined (rows S)) ws
-
-      pub joined-count : (S : List H') → LO.count S ≡ length (joined (rows S))
-      joined-count [] = refl
-      joined-count (h ∷ S) = let n = joined-count S in let m = length-append h.pairs (joined (rows S)) in omega (arith, n, m)
-
-      pub joined-cells : (T : List (Held K'.Denot (Ptr × V'.Denot))) → LO.cells_in T ≡ values_of (joined (rows T))
-      joined-cells [] = refl
-      joined-cells (h ∷ T) = ap (λ cs. values_of h.pairs ++ cs) (joined-cells T) ∙ sym (map-append (λ p. p.1) h.pairs (joined (rows T)))
 
       abbrev pub grid_with : Grid K'.Denot V'.Denot → List V'.Denot → Grid K'.Denot V'.Denot
       grid_with t ws = record { walk = with_values t.walk ws; capacity = t.capacity }
@@ -105,21 +88,19 @@ module _ (K' A' : RattleType) (g : key.Ghosts K'.Denot) (e : eq.Ghosts K'.Denot)
       grid_fill t = record { walk = lent_pairs t.walk; capacity = t.capacity }
 
       pub table-puts : (t : (Ir Kv).Denot) (ws : List V'.Denot) → view Kv (inside_opens.put t ws) ≡ grid_with (view Kv t) ws
-      table-puts t ws = let S = slots_each K' A' g e a V' LK LV LA 𝓛 l ik iv ia in
-          λ i. record { walk = joined-puts t.slots ws i; capacity = length-row_put S.count S.put t.slots ws i }
+      table-puts t ws = λ i. record { walk = joined-rows_with t.slots.rows ws i; capacity = length-rows_with t.slots.rows ws i }
 
       pub table-goods : (t : (Ir Kv).Denot) (ws : List V'.Denot) → good Kv t → good Kv (inside_opens.put t ws)
-      table-goods t ws ok = IsTable-same_keys t.slots (LO.put t.slots ws)
-          (sym (keys-puts K' A' g e a V' LK LV LA 𝓛 l ik iv ia t.slots ws)) g.number_of ok
+      table-goods t ws ok = IsTable-same_keys t.slots.rows (rows_with t.slots.rows ws) (sym (row_keys-rows_with t.slots.rows ws)) g.number_of ok
 
       pub table-fills : (h : (Ir Hv).Denot) → grid_fill (view Hv h) ≡ view Kv (inside_opens.fill h)
-      table-fills h = λ i. record { walk = lent_pairs-joined h.slots i; capacity = sym (length-map h.slots lent_slot) i }
+      table-fills h = λ i. record { walk = lent_pairs-joined h.slots.rows i; capacity = sym (length-map h.slots.rows lent_pairs) i }
 
       -- a table is lent as a table of holes
       abbrev pub table_opens : OpensAs 𝓛 (V V') (Tr Kv) (Tr Hv) l
       table_opens =
           view_opens 𝓛 (V V') (Ir Kv) l inside_opens (Grid K'.Denot V'.Denot) (code Kv) (view Kv) (good Kv) (shared_of (Tr Hv)) (view Hv)
           grid_with (λ t. length t.walk) grid_fill (λ t. values_of t.walk)
-          table-puts table-goods (λ t. joined-count t.slots) table-fills (λ h. joined-cells h.slots)
+          table-puts table-goods (λ t. refl) table-fills (λ h. refl)
           (λ h ok. view-Hides (Ir Hv) (Grid K'.Denot Hv.Denot) (code Hv) (view Hv) (good Hv) M 𝓤 𝓛 (view Hv h) h
-          (refl, IsTable-same_keys (map lent_slot h.slots) h.slots (row_keys-lent_slots h.slots) g.number_of ok))
+          (refl, IsTable-same_keys (map lent_pairs h.slots.rows) h.slots.rows (row_keys-lent_pairs h.slots.rows) g.number_of ok))

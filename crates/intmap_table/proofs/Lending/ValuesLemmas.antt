@@ -3,8 +3,8 @@ use Rattle.std.proofs.Common.{◌≡◌, suc, List, [], ◌∷◌, ◌++◌, len
 use Rattle.std.specs.Prelude.{take, drop}
 use Rattle.std.specs.Map.{keys_of, values_of}
 use Rattle.std.proofs.lemmas.List.{map-append}
-use Rattle.intmap_table.specs.Tables.Slots.{Held, rows, joined}
-use Rattle.intmap_table.specs.Values.{lent_pairs, with_values}
+use Rattle.intmap_table.specs.Tables.Slots.{joined}
+use Rattle.intmap_table.specs.Values.{lent_pairs, rows_with, with_values}
 use Rattle.intmap_table.proofs.Tables.SameKeysLemmas.{row_keys}
 use denote.RawPtr.{Ptr}
 
@@ -48,18 +48,20 @@ module _ {K V : Type 0} where
   keys_of-lent_pairs [] = refl
   keys_of-lent_pairs (p ∷ L) = ap (λ ks. p.0 ∷ ks) (keys_of-lent_pairs L)
 
-  -- a slot with other values
-  abbrev pub refilled_slot : Held K V → List V → Held K V
-  refilled_slot h vs = record h { pairs = with_values h.pairs vs }
-
-  -- a slot as it was before its values were lent
-  abbrev pub lent_slot : Held K (Ptr × V) → Held K V
-  lent_slot h = record { pairs = lent_pairs h.pairs; room = h.room }
-
-  pub lent_pairs-joined : (S : List (Held K (Ptr × V))) → lent_pairs (joined (rows S)) ≡ joined (rows (map lent_slot S))
+  pub lent_pairs-joined : (R : List (List (K × (Ptr × V)))) → lent_pairs (joined R) ≡ joined (map lent_pairs R)
   lent_pairs-joined [] = refl
-  lent_pairs-joined (h ∷ S) = map-append (λ p. (p.0, p.1.1)) h.pairs (joined (rows S)) ∙ ap (λ L. lent_pairs h.pairs ++ L) (lent_pairs-joined S)
+  lent_pairs-joined (row ∷ R) = map-append (λ p. (p.0, p.1.1)) row (joined R) ∙ ap (λ L. lent_pairs row ++ L) (lent_pairs-joined R)
 
-  pub row_keys-lent_slots : (S : List (Held K (Ptr × V))) → row_keys (map lent_slot S) ≡ row_keys S
-  row_keys-lent_slots [] = refl
-  row_keys-lent_slots (h ∷ S) = λ i. keys_of-lent_pairs h.pairs i ∷ row_keys-lent_slots S i
+  pub row_keys-lent_pairs : (R : List (List (K × (Ptr × V)))) → row_keys (map lent_pairs R) ≡ row_keys R
+  row_keys-lent_pairs [] = refl
+  row_keys-lent_pairs (row ∷ R) = λ i. keys_of-lent_pairs row i ∷ row_keys-lent_pairs R i
+
+  -- rows with other values have their keys
+  pub row_keys-rows_with : (R : List (List (K × V))) (vs : List V) → row_keys (rows_with R vs) ≡ row_keys R
+  row_keys-rows_with [] vs = refl
+  row_keys-rows_with (row ∷ R) vs = λ i. keys_of-with_values row (take (length row) vs) i ∷ row_keys-rows_with R (drop (length row) vs) i
+
+  -- and there are as many
+  pub length-rows_with : (R : List (List (K × V))) (vs : List V) → length (rows_with R vs) ≡ length R
+  length-rows_with [] vs = refl
+  length-rows_with (row ∷ R) vs = ap suc (length-rows_with R (drop (length row) vs))

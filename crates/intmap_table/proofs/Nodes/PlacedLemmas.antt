@@ -5,15 +5,14 @@ use Rattle.std.proofs.lemmas.Bool.{lt-ltb}
 use Rattle.std.proofs.lemmas.List.{reverse-append, length-set, get_or-set_same, get_or-set_other}
 use Rattle.std.proofs.lemmas.List.Elements.{filter-append}
 use Rattle.std.proofs.lemmas.List.Sums.{sum_by-cons}
-use Rattle.intmap_table.specs.Classes.{IsCapacity, slot_number}
+use Rattle.intmap_table.specs.Classes.{slot_number}
 use Rattle.intmap_table.specs.Walk.{slot_of}
 use Rattle.intmap_table.specs.Tables.Nodes.{AreHome, further}
-use Rattle.intmap_table.specs.Tables.Moves.{IsGrown, IsOldRows}
+use Rattle.intmap_table.specs.Tables.Rows.{IsGrown}
 use Rattle.intmap_table.specs.Tables.Slots.{joined, IsNextRow}
 use Rattle.intmap_table.specs.Tables.Rows.{turned, put_second, IsPlaced}
 use Rattle.intmap_table.proofs.Tables.AroundLemmas.{joined-taken}
-use Rattle.intmap_table.proofs.Tables.GrownLemmas.{slot_of-elsewhere, slot_of-old, slot_number-grown}
-use Rattle.intmap_table.proofs.SlotNumberLemmas.{slot_number-below}
+use Rattle.intmap_table.proofs.Tables.GrownLemmas.{slot_of-elsewhere}
 use Rattle.intmap_table.proofs.Nodes.LinkedLemmas.{same_or_not, home-join}
 
 module _ {P : Type 0} where
@@ -32,34 +31,29 @@ module _ {P : Type 0} where
   put_second-turned (q ∷ ps) p = ap (λ qs. q ∷ qs) (sym (reverse-append ps (p ∷ [])))
 
 module _ {K X : Type 0} (number : K → ℕ) where
-  -- another pair has its slot
-  pub Placed-next : (C : ℕ) (L : List (K × X)) (R : List (List (K × X))) (p : K × X) (S : List (List (K × X))) → IsCapacity C → IsPlaced number C L R
-      → S ≡ set R (slot_number number p.0 (length R)) (put_second (get_or R (slot_number number p.0 (length R)) []) p) → IsPlaced number C (L ++ p ∷ []) S
-  Placed-next C L R p S cap placed is = record {
-    len = ap length is ∙ length-set R (slot_number number p.0 (length R)) (put_second (get_or R (slot_number number p.0 (length R)) []) p) ∙ placed.len;
-    rows = λ j below. ⊎_elim (here j below) (other j below) (same_or_not j (slot_number number p.0 C));
+  -- another pair has its slot, i
+  pub Placed-next : (C : ℕ) (L : List (K × X)) (R : List (List (K × X))) (p : K × X) (i : ℕ) (S : List (List (K × X))) → IsPlaced number C L R
+      → slot_number number p.0 C ≡ i → S ≡ set R i (put_second (get_or R i []) p) → IsPlaced number C (L ++ p ∷ []) S
+  Placed-next C L R p i S placed own is = record {
+    len = ap length is ∙ length-set R i (put_second (get_or R i []) p) ∙ placed.len;
+    rows = λ j below. ⊎_elim (here j below) (other j below) (same_or_not j i);
   }
     where
-      changed : S ≡ set R (slot_number number p.0 C) (put_second (get_or R (slot_number number p.0 C) []) p)
-      changed = is ∙ ap (λ n. set R (slot_number number p.0 n) (put_second (get_or R (slot_number number p.0 n) []) p)) placed.len
-
       split : (j : ℕ) → slot_of number (L ++ p ∷ []) C j ≡ slot_of number L C j ++ cond (slot_number number p.0 C == j) (p ∷ []) []
       split j = filter-append (λ q. slot_number number q.0 C == j) L (p ∷ [])
 
-      here : (j : ℕ) → j < C → j ≡ slot_number number p.0 C → get_or S j [] ≡ turned (slot_of number (L ++ p ∷ []) C j)
+      here : (j : ℕ) → j < C → j ≡ i → get_or S j [] ≡ turned (slot_of number (L ++ p ∷ []) C j)
       here j below e =
-          let i = slot_number number p.0 C in
-          let less : i < length R = let b = slot_number-below number p.0 C cap in let len = placed.len in omega (arith, b, len) in
-          let yes : (slot_number number p.0 C == j) ≡ true = grind (arith, e) in
-          ap (λ T. get_or T j []) changed ∙ ap (λ k. get_or (set R i (put_second (get_or R i []) p)) k []) e ∙ get_or-set_same R i (put_second (get_or R i []) p) [] less
+          let less : i < length R = let len = placed.len in omega (arith, below, e, len) in
+          let yes : (slot_number number p.0 C == j) ≡ true = grind (arith, own, e) in
+          ap (λ T. get_or T j []) is ∙ ap (λ k. get_or (set R i (put_second (get_or R i []) p)) k []) e ∙ get_or-set_same R i (put_second (get_or R i []) p) [] less
           ∙ ap (λ k. put_second (get_or R k []) p) (sym e) ∙ ap (λ ps. put_second ps p) (placed.rows j below) ∙ put_second-turned (slot_of number L C j) p
           ∙ ap turned (sym (split j ∙ ap (λ b. slot_of number L C j ++ cond b (p ∷ []) []) yes))
 
-      other : (j : ℕ) → j < C → j ≢ slot_number number p.0 C → get_or S j [] ≡ turned (slot_of number (L ++ p ∷ []) C j)
+      other : (j : ℕ) → j < C → j ≢ i → get_or S j [] ≡ turned (slot_of number (L ++ p ∷ []) C j)
       other j below apart =
-          let i = slot_number number p.0 C in
-          let no : (slot_number number p.0 C == j) ≡ false = grind (arith, apart) in
-          ap (λ T. get_or T j []) changed ∙ get_or-set_other R i j (put_second (get_or R i []) p) [] apart ∙ placed.rows j below
+          let no : (slot_number number p.0 C == j) ≡ false = grind (arith, own, apart) in
+          ap (λ T. get_or T j []) is ∙ get_or-set_other R i j (put_second (get_or R i []) p) [] apart ∙ placed.rows j below
           ∙ ap turned (sym (split j ∙ ap (λ b. slot_of number L C j ++ cond b (p ∷ []) []) no ∙ append-nil (slot_of number L C j)))
 
   -- no pair has
@@ -95,16 +89,16 @@ module _ {K X : Type 0} (number : K → ℕ) where
     pub pairs : row ≡ done ++ left
     pub put : (L : List (K × X)) → IsPlaced number C L R → IsPlaced number C (L ++ done) S
 
-  pub Moving-first : (C : ℕ) (row left : List (K × X)) (R S : List (List (K × X))) (p : K × X) → IsCapacity C → row ≡ p ∷ left
-      → S ≡ set R (slot_number number p.0 (length R)) (put_second (get_or R (slot_number number p.0 (length R)) []) p) → Moving C row left R S
-  Moving-first C row left R S p cap is placed = record { done = p ∷ []; pairs = is; put = λ L before. Placed-next number C L R p S cap before placed }
+  pub Moving-first : (C : ℕ) (row left : List (K × X)) (R S : List (List (K × X))) (p : K × X) (i : ℕ) → row ≡ p ∷ left
+      → slot_number number p.0 C ≡ i → S ≡ set R i (put_second (get_or R i []) p) → Moving C row left R S
+  Moving-first C row left R S p i is own placed = record { done = p ∷ []; pairs = is; put = λ L before. Placed-next number C L R p i S before own placed }
 
-  pub Moving-next : (C : ℕ) (row left : List (K × X)) (R S : List (List (K × X))) (p : K × X) (rest : List (K × X)) (T : List (List (K × X))) → IsCapacity C → Moving C row left R S → left ≡ p ∷ rest
-      → T ≡ set S (slot_number number p.0 (length S)) (put_second (get_or S (slot_number number p.0 (length S)) []) p) → Moving C row rest R T
-  Moving-next C row left R S p rest T cap moving is placed = record {
+  pub Moving-next : (C : ℕ) (row left : List (K × X)) (R S : List (List (K × X))) (p : K × X) (rest : List (K × X)) (i : ℕ) (T : List (List (K × X))) → Moving C row left R S → left ≡ p ∷ rest
+      → slot_number number p.0 C ≡ i → T ≡ set S i (put_second (get_or S i []) p) → Moving C row rest R T
+  Moving-next C row left R S p rest i T moving is own placed = record {
     done = moving.done ++ p ∷ [];
     pairs = moving.pairs ∙ ap (λ ps. moving.done ++ ps) is ∙ sym (append_assoc moving.done (p ∷ []) rest);
-    put = λ L before. subst (λ M. IsPlaced number C M T) (append_assoc L moving.done (p ∷ [])) (Placed-next number C (L ++ moving.done) S p T cap (moving.put L before) placed);
+    put = λ L before. subst (λ M. IsPlaced number C M T) (append_assoc L moving.done (p ∷ [])) (Placed-next number C (L ++ moving.done) S p i T (moving.put L before) own placed);
   }
 
   pub Moving-end : (C : ℕ) (row left : List (K × X)) (R S : List (List (K × X))) → Moving C row left R S → left ≡ [] → (L : List (K × X)) → IsPlaced number C L R → IsPlaced number C (L ++ row) S
@@ -112,13 +106,18 @@ module _ {K X : Type 0} (number : K → ℕ) where
       let all : row ≡ moving.done = moving.pairs ∙ ap (λ ps. moving.done ++ ps) none ∙ append-nil moving.done in
       subst (λ ps. IsPlaced number C (L ++ ps) S) (sym all) (moving.put L before)
 
-  -- a pair goes to its own slot
-  pub first-there : (p : K × X) (ps : List (K × X)) (C : ℕ) → 0 < length (slot_of number (p ∷ ps) C (slot_number number p.0 C))
-  first-there p ps C =
-      let yes : (slot_number number p.0 C == slot_number number p.0 C) ≡ true = grind arith in
-      let here : slot_of number (p ∷ ps) C (slot_number number p.0 C) ≡ p ∷ slot_of number ps C (slot_number number p.0 C) = ap (λ b. cond b (p ∷ slot_of number ps C (slot_number number p.0 C)) (slot_of number ps C (slot_number number p.0 C))) yes in
-      let len = ap length here in
+  -- a pair that goes to slot j is there
+  pub first-there : (p : K × X) (ps : List (K × X)) (C j : ℕ) → slot_number number p.0 C ≡ j → 0 < length (slot_of number (p ∷ ps) C j)
+  first-there p ps C j own =
+      let yes : (slot_number number p.0 C == j) ≡ true = grind (arith, own) in
+      let len = ap (λ b. length (cond b (p ∷ slot_of number ps C j) (slot_of number ps C j))) yes in
       omega (arith, len)
+
+  -- one that doesn't isn't
+  pub first-elsewhere : (p : K × X) (ps : List (K × X)) (C j : ℕ) → slot_number number p.0 C ≢ j → slot_of number (p ∷ ps) C j ≡ slot_of number ps C j
+  first-elsewhere p ps C j apart =
+      let no : (slot_number number p.0 C == j) ≡ false = grind (arith, apart) in
+      ap (λ b. cond b (p ∷ slot_of number ps C j) (slot_of number ps C j)) no
 
 module _ {P : Type 0} where
   -- how many pairs are behind the first ones of the rows up to the next one
@@ -175,13 +174,6 @@ module _ {K X : Type 0} (number : K → ℕ) (C D : ℕ) (grown : IsGrown C D) w
       ap (λ k. slot_of number (joined (take k R)) D j) one ∙ ap (λ L. slot_of number L D j) (joined-taken n R)
       ∙ filter-append (λ p. slot_number number p.0 D == j) (joined (take n R)) (get_or R n [])
       ∙ ap (λ ps. ps ++ slot_of number (get_or R n []) D j) rest ∙ last
-
-  -- if the old slot of a key holds no pair, no old pair goes to its new slot
-  pub none-there : (R : List (List (K × X))) → IsOldRows number R C → (k : K) → get_or R (slot_number number k C) [] ≡ [] → slot_of number (joined R) D (slot_number number k D) ≡ []
-  none-there R is k none =
-      slot_of-old number C D grown R is (slot_number number k D)
-      ∙ ap (λ i. slot_of number (get_or R i []) D (slot_number number k D)) (slot_number-grown number C D k grown)
-      ∙ ap (λ ps. slot_of number ps D (slot_number number k D)) none
 
 module _ {K X : Type 0} (number : K → ℕ) where
   -- once all slots are turned, each has its pairs in their order

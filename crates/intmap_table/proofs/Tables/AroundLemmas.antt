@@ -1,15 +1,11 @@
 -- The pairs of a table around a slot: those before it, its own, and those behind it.
-use Rattle.std.proofs.Common.{◌≡◌, ℕ, zero, suc, ◌+◌, ◌<◌, ◌≤◌, List, [], ◌∷◌, ◌++◌, length, get_or, set, take, drop, refl, sym, ap, ◌∙◌, arith, append-nil, append_assoc, length-append}
-use Rattle.std.specs.Prelude.{nat_lt}
-use Rattle.std.specs.List.{FoldsTo}
-use Rattle.std.proofs.lemmas.List.{append_cancel_left, drop-set-lt, get_or-drop, map-set, take-append-drop, take-set-le}
+use Rattle.std.proofs.Common.{◌≡◌, ℕ, zero, suc, ◌+◌, ◌<◌, ◌≤◌, List, [], ◌∷◌, ◌++◌, length, get_or, take, drop, refl, sym, ap, ◌∙◌, arith, append-nil, append_assoc, length-append}
+use Rattle.std.proofs.lemmas.List.{append_cancel_left, get_or-drop, take-append-drop}
 use Rattle.std.proofs.lemmas.Grind.{flat_map-append}
-use Rattle.intmap_table.specs.Tables.Slots.{Held, rows, row_of, joined, IsNextRow, IsRowSet, IsSlotWord}
-use Rattle.intmap_table.specs.Taking.{Passes, TakesEach}
-use Rattle.intmap_table.proofs.LeadsLemmas.{Leads, Leads-next, Leads-end}
-use Rattle.intmap_table.proofs.TakingLemmas.{TakesEach-behind}
+use Rattle.intmap_table.specs.Tables.Slots.{joined, IsNextRow}
+use Rattle.intmap_table.proofs.LeadsLemmas.{Leads, Leads-end}
 use Rattle.intmap_table.proofs.Tables.FilledLemmas.{joined-emptied}
-use Rattle.intmap_table.proofs.Tables.TableLemmas.{joined-take, length-rows, row-set, row-set_other}
+use Rattle.intmap_table.proofs.Tables.TableLemmas.{joined-take}
 
 module _ {P : Type 0} where
   -- the rows before an index, and those from there on
@@ -59,62 +55,6 @@ module _ {P : Type 0} (R : List (List P)) (from i : ℕ) (next : IsNextRow R fro
   next-left =
       append_cancel_left (joined (take from R)) _ _
       (sym (joined-cut from R) ∙ joined-around i R ∙ ap (λ Z. Z ++ (get_or R i [] ++ joined (drop (i + 1) R))) next-taken)
-
--- the slots with another row of slot i
-module _ {K X : Type 0} (S : List (Held K X)) (i : ℕ) (row : List (K × X)) (T : List (Held K X)) (below : i < length S) (is : IsRowSet S i row T) where
-  rows-set : rows T ≡ set (rows S) i row
-  rows-set = ap rows is.others ∙ map-set (λ (t : Held K X). t.pairs) S i is.slot ∙ ap (set (rows S) i) is.pairs
-
-  -- its row is that one, and those before it and those behind it are as they were
-  pub row-same : row_of T i ≡ row
-  row-same = ap (λ U. row_of U i) is.others ∙ row-set S i is.slot below ∙ is.pairs
-
-  pub taken-same : joined (take i (rows T)) ≡ joined (take i (rows S))
-  taken-same = ap (λ R. joined (take i R)) rows-set ∙ ap joined (take-set-le i (rows S) i row (omega arith))
-
-  pub left-same : joined (drop (i + 1) (rows T)) ≡ joined (drop (i + 1) (rows S))
-  left-same = ap (λ R. joined (drop (i + 1) R)) rows-set ∙ ap joined (drop-set-lt (i + 1) (rows S) i row (omega arith))
-
-  -- and so is what is held of those behind it
-  pub IsSlotWord-row_set : (at word : ℕ) → IsSlotWord S (i + 1) at word → IsSlotWord T (i + 1) at word
-  IsSlotWord-row_set at word held =
-      let same : (j : ℕ) → i + 1 ≤ j → row_of T j ≡ row_of S j = λ j le. ap (λ U. row_of U j) is.others ∙ row-set_other S i is.slot j (λ e. omega (arith, le, e)) in
-      record {
-        fits = held.fits;
-        reached = held.reached;
-        before = λ j le lt. ap (λ r. nat_lt 0 (length r)) (same j le) ∙ held.before j le lt;
-        bit = λ j own le. ap (λ r. nat_lt 0 (length r)) (same j le) ∙ held.bit j own le;
-        none = held.none;
-      }
-
--- its index is one of the slots'
-pub next-within : {K X : Type 0} (S : List (Held K X)) (from i : ℕ) → IsNextRow (rows S) from i → i < length S
-next-within S from i next = omega (arith, next.within, length-rows S)
-
--- slot i is the next one with a pair, and its row is changed
-module _ {K X : Type 0} (S : List (Held K X)) (from i : ℕ) (row : List (K × X)) (T : List (Held K X))
-    (next : IsNextRow (rows S) from i) (is : IsRowSet S i row T) where
-  pub row-taken : joined (take (i + 1) (rows T)) ≡ joined (take from (rows S)) ++ row
-  row-taken =
-      let within = next-within S from i next in
-      joined-taken i (rows T) ∙ (λ k. (taken-same S i row T within is ∙ next-taken (rows S) from i next) k ++ row-same S i row T within is k)
-
-  pub row-left : joined (drop from (rows S)) ≡ row_of S i ++ joined (drop (i + 1) (rows T))
-  row-left = next-left (rows S) from i next ∙ ap (λ Z. row_of S i ++ Z) (sym (left-same S i row T (next-within S from i next) is))
-
-  module _ {F : Type 0} (f₀ f h : F) (L : List (K × X)) where
-    -- what went over the pairs before it goes over its own
-    pub Leads-row : (Goes : F → List (K × X) → List (K × X) → F → Type 0)
-        → ((f g h : F) (L L' M M' : List (K × X)) → Goes f L M g → Goes g L' M' h → Goes f (L ++ L') (M ++ M') h)
-        → Leads Goes f₀ L f (joined (take from (rows S))) (joined (drop from (rows S))) → Goes f (row_of S i) row h
-        → Leads Goes f₀ L h (joined (take (i + 1) (rows T))) (joined (drop (i + 1) (rows T)))
-    Leads-row Goes append leads run =
-        rw row-taken (Leads-next Goes append f₀ f h L _ (row_of S i) row (joined (drop (i + 1) (rows T))) (rw row-left at leads) run)
-
-  -- and what takes all of those takes those behind them
-  pub TakesEach-row : {F Y : Type 0} (R : F → K × X → Y → F → Type 0) (Q : F → K × X → Type 0) (f h : F)
-      → TakesEach R Q f (joined (drop from (rows S))) → FoldsTo (Passes R) f (row_of S i) h → TakesEach R Q h (joined (drop (i + 1) (rows T)))
-  TakesEach-row R Q f h takes passed = TakesEach-behind R Q f h (row_of S i) (joined (drop (i + 1) (rows T))) (rw row-left at takes) passed
 
 -- it went over all if no row holds a pair from there on
 pub Leads-all : {F P : Type 0} (Goes : F → List P → List P → F → Type 0) (f₀ f : F) (L : List P) (R : List (List P)) (from : ℕ)

@@ -6,8 +6,6 @@ use Rattle.std.specs.Map.{keys_of}
 use Rattle.intmap_table.specs.Bindings.{value_of}
 use Rattle.intmap_table.specs.Classes.{same_key}
 use Rattle.intmap_table.specs.Cloning.{IsPairClone, BindsClones}
-use Rattle.intmap_table.specs.Tables.Slots.{Held, rows, joined}
-use Rattle.intmap_table.proofs.Tables.SameKeysLemmas.{row_keys}
 
 module _ {P Q : Type 0} (R : P → Q → Type 0) where
   -- two runs alike, one behind the other
@@ -22,30 +20,12 @@ module _ {K X : Type 0} (clones : X → X → Type 0) where
   abbrev pub AreClones : List (K × X) → List (K × X) → Type 0
   AreClones L M = AllZip (IsPairClone clones) L M
 
-  -- the same of two slots
-  abbrev pub IsSlotClone : Held K X → Held K X → Type 0
-  IsSlotClone h g = AreClones h.pairs g.pairs
-
   -- clones have the keys
   pub keys_of-AreClones : (L M : List (K × X)) → AreClones L M → keys_of L ≡ keys_of M
   keys_of-AreClones [] [] all = refl
   keys_of-AreClones [] (q ∷ M) all = absurd all
   keys_of-AreClones (p ∷ L) [] all = absurd all
   keys_of-AreClones (p ∷ L) (q ∷ M) all = λ i. sym all.0.0 i ∷ keys_of-AreClones L M all.1 i
-
-  -- slots that are cloned one by one hold clones
-  pub AreClones-joined : (S T : List (Held K X)) → AllZip IsSlotClone S T → AreClones (joined (rows S)) (joined (rows T))
-  AreClones-joined [] [] all = tt
-  AreClones-joined [] (g ∷ T) all = absurd all
-  AreClones-joined (h ∷ S) [] all = absurd all
-  AreClones-joined (h ∷ S) (g ∷ T) all = AllZip-append (IsPairClone clones) h.pairs (joined (rows S)) g.pairs (joined (rows T)) all.0 (AreClones-joined S T all.1)
-
-  -- and have the keys, slot by slot
-  pub row_keys-AllZip : (S T : List (Held K X)) → AllZip IsSlotClone S T → row_keys S ≡ row_keys T
-  row_keys-AllZip [] [] all = refl
-  row_keys-AllZip [] (g ∷ T) all = absurd all
-  row_keys-AllZip (h ∷ S) [] all = absurd all
-  row_keys-AllZip (h ∷ S) (g ∷ T) all = λ i. keys_of-AreClones h.pairs g.pairs all.0 i ∷ row_keys-AllZip S T all.1 i
 
 module _ {K V : Type 0} (clones : V → V → Type 0) where
   -- each key has a clone of its value

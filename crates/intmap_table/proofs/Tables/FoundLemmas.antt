@@ -7,13 +7,10 @@ use Rattle.std.proofs.lemmas.List.Sums.{passes_at_first}
 use Rattle.std.proofs.lemmas.List.Elements.{All-filter}
 use Rattle.intmap_table.specs.Classes.{slot_number, same_key}
 use Rattle.intmap_table.specs.Locations.{IsAt, IsFound, key_at}
-use Rattle.intmap_table.specs.Tables.Slots.{Held, rows, row_of, joined, IsTable}
 use Rattle.intmap_table.specs.Walk.{slot_of}
 use Rattle.intmap_table.proofs.WrittenLemmas.{the_key-same}
 use Rattle.intmap_table.specs.declared.table.locate.Location.{Location}
-use Rattle.intmap_table.proofs.LocationLemmas.{place-within}
 use Rattle.intmap_table.proofs.PositionLemmas.{position-within}
-use Rattle.intmap_table.proofs.Tables.TableLemmas.{slot_of-joined}
 
 module _ {K X : Type 0} where
   pub key_at-get_or : (L : List (K × X)) (i : ℕ) (k : K) → i < length L → ((p : K × X) → k ≡ (get_or L i p).0) → Some k ≡ key_at L i
@@ -59,11 +56,3 @@ module _ {K V : Type 0} (number : K → ℕ) where
         some = some;
         at = subst (λ q. IsAt number W C (record { key = q; slot = at.slot; place = at.place })) (is ∙ sym (the_key-same _ (Some k) some refl here)) located;
       }
-
--- a pair of a table was found
-module _ {K X : Type 0} (number : K → ℕ) (S : List (Held K X)) (slot place : ℕ) (table : IsTable number S) (is : IsFound number (joined (rows S)) (length S) slot place) where
-  pub place-found : place < length (row_of S slot)
-  place-found = place-within number S _ table is.at
-
-  pub key_at-here : (k : K) → ((p : K × X) → k ≡ (get_or (row_of S slot) place p).0) → Some k ≡ key_at (slot_of number (joined (rows S)) (length S) slot) place
-  key_at-here k e = key_at-get_or (row_of S slot) place k place-found e ∙ ap (λ L. key_at L place) (sym (slot_of-joined number S table slot))

@@ -1,5 +1,5 @@
 -- Slots in a table that has become longer: which of them keys have, and which of them the pairs of an old slot go to.
-use Rattle.std.proofs.Common.{◌≡◌, ◌≢◌, ℕ, ◌+◌, ◌-◌, ◌*◌, ◌/◌, ◌%◌, ◌^◌, ◌<◌, ◌≤◌, Bool, false, ◌==◌, filter, List, [], ◌∷◌, length, get_or, refl, sym, ap, ◌∙◌, subst, arith, mul_comm, zero-mul, zero-add, pow_pos, All}
+use Rattle.std.proofs.Common.{◌≡◌, ◌≢◌, ℕ, ◌+◌, ◌-◌, ◌*◌, ◌/◌, ◌%◌, ◌^◌, ◌<◌, ◌≤◌, Bool, false, ◌==◌, filter, List, [], ◌∷◌, length, get_or, refl, sym, ap, ◌∙◌, subst, arith, mul_comm, zero-add, pow_pos, All}
 use Rattle.std.proofs.Math.Nat.{le-mul_of_pos_right}
 use Rattle.std.proofs.lemmas.Nat.{pow-add, mod-pow-add, mod-mul-add}
 use Rattle.std.proofs.lemmas.Bool.{ne_eqb}
@@ -7,7 +7,7 @@ use Rattle.std.proofs.lemmas.List.Elements.{All-weaker, All-head, All-tail}
 use Rattle.intmap_table.specs.Classes.{multiplier, IsCapacity, slot_number}
 use Rattle.intmap_table.specs.Walk.{slot_of}
 use Rattle.intmap_table.specs.Tables.Slots.{joined}
-use Rattle.intmap_table.specs.Tables.Moves.{IsGrown, IsOldRows}
+use Rattle.intmap_table.specs.Tables.Rows.{IsGrown, IsOldRows}
 use Rattle.intmap_table.proofs.SlotNumberLemmas.{slot_number-below}
 use Rattle.intmap_table.proofs.ClassLemmas.{class-joined}
 use Rattle.intmap_table.proofs.RegroupLemmas.{exponent_from_power, slot_of-slot_of}
@@ -44,10 +44,6 @@ IsGrown-from C D old new le =
       new = new;
       times = (f - e, new.3 ∙ ap (λ n. 2 ^ n) (sym sum) ∙ pow-add 2 (f - e) e ∙ mul_comm (2 ^ (f - e)) (2 ^ e) ∙ ap (λ c. c * 2 ^ (f - e)) (sym old.3));
     }
-
--- an old slot is itself modulo their number
-pub modulo-below : (C j : ℕ) → j < C → j % C ≡ j
-modulo-below C j below = ap (λ n. n % C) (sym (zero-add j) ∙ ap (λ n. n + j) (sym (zero-mul C))) ∙ mod-mul-add 0 C j below
 
 module _ {P : Type 0} where
   -- no element passes

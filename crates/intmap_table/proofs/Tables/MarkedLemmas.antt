@@ -1,13 +1,12 @@
 -- What marked indices say of rows, if each row that holds something is marked.
 use Rattle.std.proofs.Common.{◌≡◌, ℕ, zero, suc, ◌+◌, ◌-◌, ◌<◌, ◌≤◌, Bool, true, false, List, [], ◌∷◌, ◌++◌, length, map, get_or, replicate, refl, sym, ap, ◌∙◌, arith, add-zero, zero-add, append-nil}
-use Rattle.std.specs.Prelude.{filter, All, AllPairs, count_by, nat_lt}
+use Rattle.std.specs.Prelude.{filter, All, count_by, nat_lt}
 use Rattle.std.specs.List.{flat_map, range_with_len}
 use Rattle.std.proofs.lemmas.Bool.{lt-ltb, false≢true}
 use Rattle.std.proofs.lemmas.Grind.{flat_map-append}
 use Rattle.std.proofs.lemmas.List.{get_or_past}
 use Rattle.std.proofs.lemmas.List.Elements.{All-from_get_or, All-get_or, All-filter, filter-append, filter_passes}
 use Rattle.std.proofs.lemmas.List.FromFn.{get_or-range_with_len, length-range_with_len}
-use Rattle.std.proofs.lemmas.List.Kept.{AllPairs-filter}
 use Rattle.std.proofs.lemmas.List.Sums.{length-filter}
 use Rattle.intmap_table.specs.Tables.Bits.{marked, marked_indices}
 use Rattle.intmap_table.proofs.ClassLemmas.{range-next, flat_map-rows}
@@ -51,15 +50,6 @@ pub get_or-of_default : {X : Type 0} (n i : ℕ) (d : X) → get_or (replicate n
 get_or-of_default zero i d = refl
 get_or-of_default (suc n) zero d = refl
 get_or-of_default (suc n) (suc i) d = get_or-of_default n i d
-
--- the marked indices ascend
-pub AllPairs-marked_indices : (marks : List Bool) → AllPairs (λ i j. i < j) (marked_indices marks)
-AllPairs-marked_indices marks =
-    AllPairs-filter (λ i j. i < j) (marked marks) (range_with_len 0 (length marks)) (λ i j d lt below.
-    let n = length-range_with_len 0 (length marks) in
-    let a = get_or-range_with_len 0 (length marks) i d (omega (arith, lt, below, n)) in
-    let b = get_or-range_with_len 0 (length marks) j d (omega (arith, below, n)) in
-    omega (arith, a, b, lt))
 
 -- each marked index is one of the indices, and marked
 pub All-marked_indices : (marks : List Bool) → All (λ i. (i < length marks) × (marked marks i ≡ true)) (marked_indices marks)

@@ -1,29 +1,25 @@
--- What lists of pairs, slots and tables are by their keys alone: so are others with these keys.
-use Rattle.std.proofs.Common.{arith, ◌≡◌, inl, inr, ℕ, zero, suc, ◌+◌, ◌*◌, ◌/◌, ◌<◌, Bool, List, [], ◌∷◌, ◌++◌, length, map, get_or, set, take, drop, refl, sym, ap, ◌∙◌, subst}
-use Rattle.std.specs.Prelude.{All, nat_lt}
+-- What lists of pairs and tables are by their keys alone: so are others with these keys.
+use Rattle.std.proofs.Common.{◌≡◌, ℕ, zero, suc, ◌+◌, ◌<◌, List, [], ◌∷◌, ◌++◌, length, map, get_or, take, drop, refl, sym, ap, ◌∙◌, subst}
+use Rattle.std.specs.Prelude.{All}
 use Rattle.std.specs.List.{flat_map, range_with_len}
 use Rattle.std.specs.Map.{keys_of}
-use Rattle.std.proofs.lemmas.List.{get_or-map, length-map, map-append, map-set, nil_from_length, set-get_or, take-append-drop}
+use Rattle.std.proofs.lemmas.List.{get_or-map, length-map, take-append-drop}
 use Rattle.std.proofs.lemmas.List.Elements.{All-map}
 use Rattle.std.proofs.lemmas.List.FromFn.{length-map-range_with_len}
 use Rattle.std.proofs.lemmas.Map.Entries.{length-keys_of}
 use Rattle.intmap_table.specs.Classes.{IsCapacity, slot_number}
-pub use Rattle.intmap_table.specs.Tables.Slots.{row_keys}
-use Rattle.intmap_table.specs.Tables.Slots.{Held, rows, row_of, AreMarked, IsTable, IsDirectory, AreSlots, IsRowSet}
+use Rattle.intmap_table.specs.Tables.Rows.{IsTable}
 use Rattle.intmap_table.specs.Walk.{slot_of, walk_of}
 use Rattle.intmap_table.proofs.ClassLemmas.{AreClasses, AreClasses-map, flat_map-classes, flat_map-joined}
 
-get_or-row_keys : {K X : Type 0} (S : List (Held K X)) (i : ℕ) → get_or (row_keys S) i [] ≡ keys_of (get_or (rows S) i [])
-get_or-row_keys [] i = refl
-get_or-row_keys (h ∷ S) zero = refl
-get_or-row_keys (h ∷ S) (suc i) = get_or-row_keys S i
+-- the keys of each row
+abbrev pub row_keys : {K X : Type 0} → List (List (K × X)) → List (List K)
+row_keys R = map keys_of R
 
--- with another row of the same keys they stay
-pub row_keys-set : {K X : Type 0} (S : List (Held K X)) (i : ℕ) (row : List (K × X)) (T : List (Held K X))
-    → IsRowSet S i row T → keys_of row ≡ keys_of (row_of S i) → row_keys T ≡ row_keys S
-row_keys-set S i row T is same =
-    ap row_keys is.others ∙ map-set (λ (h : Held _ _). keys_of h.pairs) S i is.slot
-    ∙ ap (set (row_keys S) i) (ap keys_of is.pairs ∙ same ∙ sym (get_or-row_keys S i)) ∙ set-get_or (row_keys S) i []
+get_or-row_keys : {K X : Type 0} (R : List (List (K × X))) (i : ℕ) → get_or (row_keys R) i [] ≡ keys_of (get_or R i [])
+get_or-row_keys [] i = refl
+get_or-row_keys (row ∷ R) zero = refl
+get_or-row_keys (row ∷ R) (suc i) = get_or-row_keys R i
 
 module _ {K X Y : Type 0} where
   pub length-same_keys : (L : List (K × X)) (M : List (K × Y)) → keys_of L ≡ keys_of M → length L ≡ length M
@@ -86,54 +82,19 @@ module _ {K X Y : Type 0} where
       let N : List (K × Y) = flat_map (λ s. s) T in
       subst (λ Z. walk_of number Z C ≡ Z) (joined-cut S M rows_same) (subst (λ m. flat_map (slot_of number N C) (range_with_len 0 m) ≡ N) n (flat_map-classes slot T classes))
 
-module _ {K X Y : Type 0} (S : List (Held K X)) (T : List (Held K Y)) (same : row_keys S ≡ row_keys T) where
-  pub length-row_keys : length S ≡ length T
-  length-row_keys = sym (length-map S (λ h. keys_of h.pairs)) ∙ ap length same ∙ length-map T (λ h. keys_of h.pairs)
+module _ {K X Y : Type 0} (R : List (List (K × X))) (T : List (List (K × Y))) (same : row_keys R ≡ row_keys T) where
+  length-row_keys : length R ≡ length T
+  length-row_keys = sym (length-map R keys_of) ∙ ap length same ∙ length-map T keys_of
 
-  row-same : (i : ℕ) → keys_of (get_or (rows S) i []) ≡ keys_of (get_or (rows T) i [])
-  row-same i = sym (get_or-row_keys S i) ∙ ap (λ ks. get_or ks i []) same ∙ get_or-row_keys T i
+  row-same : (i : ℕ) → keys_of (get_or R i []) ≡ keys_of (get_or T i [])
+  row-same i = sym (get_or-row_keys R i) ∙ ap (λ ks. get_or ks i []) same ∙ get_or-row_keys T i
 
-  -- and as many pairs
-  pub length-row_same : (i : ℕ) → length (get_or (rows S) i []) ≡ length (get_or (rows T) i [])
-  length-row_same i = length-same_keys (get_or (rows S) i []) (get_or (rows T) i []) (row-same i)
-
-  -- slots with the keys of a table are one
-  pub IsTable-same_keys : (number : K → ℕ) → IsTable number S → IsTable number T
+  -- rows with the keys of a table are one
+  pub IsTable-same_keys : (number : K → ℕ) → IsTable number R → IsTable number T
   IsTable-same_keys number table = record {
     capacity = subst IsCapacity length-row_keys table.capacity;
     in_place = λ i below.
-        let InPlace : ℕ → Type 0 = λ n. All (λ p. slot_number number p.0 n ≡ i) (get_or (rows S) i []) in
-        All-same_keys (λ k. slot_number number k (length T) ≡ i) (get_or (rows S) i []) (get_or (rows T) i []) (row-same i)
+        let InPlace : ℕ → Type 0 = λ n. All (λ p. slot_number number p.0 n ≡ i) (get_or R i []) in
+        All-same_keys (λ k. slot_number number k (length T) ≡ i) (get_or R i []) (get_or T i []) (row-same i)
         (subst InPlace length-row_keys (table.in_place i (subst (λ n. i < n) (sym length-row_keys) below)));
   }
-
-  -- and the same of them are marked
-  pub AreMarked-same_keys : (marks : List Bool) → AreMarked (rows S) marks → AreMarked (rows T) marks
-  AreMarked-same_keys marks are =
-      let len : length (rows S) ≡ length (rows T) = length-map S (λ h. h.pairs) ∙ length-row_keys ∙ sym (length-map T (λ h. h.pairs)) in
-      record {
-        words = are.words ∙ ap (λ n. 64 * ((n + 63) / 64)) len;
-        own = λ i. are.own i ∙ ap (nat_lt 0) (length-row_same i);
-      }
-
-  -- if those are none, so are these
-  none-same_keys : S ≡ [] → T ≡ []
-  none-same_keys none = nil_from_length T (sym length-row_keys ∙ ap length none)
-
-  pub IsDirectory-same_keys : (marks : List Bool) (mask : ℕ) → IsDirectory S marks mask → IsDirectory T marks mask
-  IsDirectory-same_keys marks mask is = record { marks = AreMarked-same_keys marks is.marks; count = is.count ∙ length-row_keys }
-
--- slots of either form with these keys are of that form
-pub AreSlots-same_keys : {K X Y : Type 0} (L S : List (Held K X)) (M T : List (Held K Y)) → row_keys L ≡ row_keys M → row_keys S ≡ row_keys T
-    → {bits : List Bool} {mask : ℕ} → AreSlots L S bits mask → AreSlots M T bits mask
-AreSlots-same_keys L S M T lone shared {bits} {mask} are =
-    let all = map-append (λ (h : Held _ _). keys_of h.pairs) L S ∙ (λ i. lone i ++ shared i) ∙ sym (map-append (λ h. keys_of h.pairs) M T) in
-    record {
-      directory = IsDirectory-same_keys (L ++ S) (M ++ T) all bits mask are.directory;
-      form = elim are.form [
-        | inl none ↦ inl (none-same_keys L M lone none)
-        | inr none ↦ inr (none-same_keys S T shared none)
-      ];
-      few = λ i lt.
-          let n = length-row_same (L ++ S) (M ++ T) all i in let old = are.few i (rw (length-row_keys L M lone) lt) in omega (arith, n, old);
-    }

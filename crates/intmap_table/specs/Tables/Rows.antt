@@ -1,5 +1,5 @@
 -- What contracts see of slots whose further pairs lie in nodes. No public clause cites this module.
-use Rattle.std.specs.Prelude.{◌≡◌, ℕ, zero, suc, ◌+◌, ◌<◌, nat_lt, Bool, List, [], ◌∷◌, length, get_or, reverse, slice_index_or}
+use Rattle.std.specs.Prelude.{◌≡◌, ℕ, zero, suc, ◌+◌, ◌*◌, ◌^◌, ◌<◌, nat_lt, Bool, List, [], ◌∷◌, length, get_or, reverse, slice_index_or}
 use Rattle.std.specs.List.{All, AllZip}
 use Rattle.intmap_table.specs.Classes.{IsCapacity, slot_number}
 use Rattle.intmap_table.specs.Cloning.{IsPairClone}
@@ -37,7 +37,18 @@ write_rows (row ∷ R) (suc i) j v = row ∷ write_rows R i j v
 abbrev pub IsRowWord : {P : Type 0} → List (List P) → ℕ → ℕ → ℕ → Type 0
 IsRowWord R from at word = IsHeldWord (λ i. nat_lt 0 (length (slice_index_or R i []))) from at word
 
+-- D slots in place of C, and no fewer
+pub record IsGrown (C D : ℕ) : Type 0 where
+  pub old : IsCapacity C
+  pub new : IsCapacity D
+  pub times : (a : ℕ) × (D ≡ C * 2 ^ a)
+
 module _ {K X : Type 0} (number : K → ℕ) where
+  -- each of the C rows has pairs of its slot alone
+  pub record IsOldRows (R : List (List (K × X))) (C : ℕ) : Type 0 where
+    pub len : length R ≡ C
+    pub own : (i : ℕ) → i < C → All (λ p. slot_number number p.0 C ≡ i) (get_or R i [])
+
   -- each row has pairs of its own slot alone, and the number of rows is one that a table may have
   pub record IsTable (R : List (List (K × X))) : Type 0 where
     pub capacity : IsCapacity (length R)

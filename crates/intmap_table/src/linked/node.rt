@@ -73,17 +73,6 @@ impl<P> Model for Node<P> {
 }
 
 impl<P> Node<P> {
-    /// A node without a pair, and the link to the next such node.
-    #[inline(always)]
-    pub(crate) fn free(link: usize) -> Node<P>
-        requires { link < 2 ^ 48 }
-        ensures { result ≡ Free link }
-    {
-        Node {
-            form: NodeForm::Free(high_part(link), low_part(link)),
-        }
-    }
-
     /// A node with a pair, and the link to the node behind it.
     #[inline(always)]
     pub(crate) fn held(link: usize, pair: P) -> Node<P>

@@ -180,17 +180,6 @@ impl<P: Drop, A: Allocator> Pool<P, A> {
             spare: 0,
         })
     }
-
-    /// Drops all pairs, and keeps the memory of the nodes.
-    pub(crate) fn clear(&mut self)
-        ensures nodes { self.new.nodes ≡ [] }
-        ensures held { self.new.held ≡ 0 }
-        ensures room { self.old.room ≤ self.new.room }
-    {
-        self.nodes.clear();
-        self.free = NOWHERE;
-        self.spare = 0;
-    }
 }
 
 impl<K: IntKey, X, A: Allocator> Pool<(Stored<K>, X), A> {

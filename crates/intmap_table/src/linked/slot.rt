@@ -141,13 +141,13 @@ impl<P> Slot<P> {
 
 impl<K: IntKey, X> Slot<(Stored<K>, X)> {
     ghost use Rattle.std.specs.Borrow.{sem};
-    ghost use Rattle.intmap_table.specs.Lending.{slot_head_lends};
+    ghost use Rattle.intmap_table.specs.Lending.{slot_lends};
 
     /// A mutable reference to the value of the first pair.
     #[inline(always)]
     pub(crate) fn value_mut(&mut self) -> &mut X
         requires { (l : ℕ) × (p : K × X) × (self.old ≡ Filled l p) }
-        ensures* writes_back { sem 𝓛 (slot_head_lends K.row X.row K.IntKey.own K.PartialEq
+        ensures* writes_back { sem 𝓛 (slot_lends K.row X.row K.IntKey.own K.PartialEq
             self.entry result) }
         ensures value { (l : ℕ) × (p : K × X) × (self.old ≡ Filled l p) × (result.now ≡ p.1) }
     {

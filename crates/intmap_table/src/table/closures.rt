@@ -2,7 +2,8 @@
 //! value.
 ghost use Rattle.std.specs.Prelude.{◌≡◌, ◌^◌, ◌<◌, length, drop};
 ghost use Rattle.intmap_table.specs.Walk.{walk_of};
-ghost use Rattle.intmap_table.specs.Tables.Slots.{rows, joined, IsTable};
+ghost use Rattle.intmap_table.specs.Tables.Slots.{joined};
+ghost use Rattle.intmap_table.specs.Tables.Rows.{IsTable};
 ghost use Rattle.intmap_table.specs.Retaining.{Retains, KeepsAt, TakesPair};
 ghost use Rattle.intmap_table.specs.Taking.{TakesEach};
 ghost use Rattle.intmap_table.specs.Writes.{Writes, WritesAt, TakesPairMut};
@@ -21,14 +22,14 @@ fn retain_slots<K: IntKey, V: Drop, A: Allocator, F: FnMut(K, &V) -> bool>(
     f: &mut F,
 ) -> usize
     requires callable { TakesEach (KeepsAt F.FnMut) (TakesPair F.FnMut) f.old
-        (joined (rows slots.old)) }
-    requires table { IsTable K.number_of slots.old }
-    requires count { length (joined (rows slots.old)) < 2 ^ 64 }
-    ensures pairs { Retains (KeepsAt F.FnMut) f.old (joined (rows slots.old))
-        (joined (rows slots.new)) f.new }
-    ensures table { IsTable K.number_of slots.new }
-    ensures len { length slots.new ≡ length slots.old }
-    ensures count { result ≡ length (joined (rows slots.new)) }
+        (joined slots.old.rows) }
+    requires table { IsTable K.number_of slots.old.rows }
+    requires count { length (joined slots.old.rows) < 2 ^ 64 }
+    ensures pairs { Retains (KeepsAt F.FnMut) f.old (joined slots.old.rows)
+        (joined slots.new.rows) f.new }
+    ensures table { IsTable K.number_of slots.new.rows }
+    ensures len { length slots.new.rows ≡ length slots.old.rows }
+    ensures count { result ≡ length (joined slots.new.rows) }
 {
     let mut count = 0;
     let mut from = 0;
@@ -38,6 +39,27 @@ fn retain_slots<K: IntKey, V: Drop, A: Allocator, F: FnMut(K, &V) -> bool>(
         from = index + 1;
     }
     count
+}
+
+/// Calls the closure at each pair, slot after slot, with a mutable reference to its value.
+fn write_slots<K: IntKey, V, A: Allocator, F: FnMut(K, &mut V)>(
+    slots: &mut Slots<K, Kept<V>, A>,
+    f: &mut F,
+)
+    requires callable { TakesEach (WritesAt F.FnMut) (TakesPairMut F.FnMut) f.old
+        (joined slots.old.rows) }
+    requires table { IsTable K.number_of slots.old.rows }
+    ensures pairs { Writes (WritesAt F.FnMut) f.old (joined slots.old.rows)
+        (joined slots.new.rows) f.new }
+    ensures table { IsTable K.number_of slots.new.rows }
+    ensures len { length slots.new.rows ≡ length slots.old.rows }
+{
+    let mut from = 0;
+    let mut held = slots.hold(from);
+    while let Some(index) = slots.next_in(&mut held, from) {
+        slots.write_at(index, f);
+        from = index + 1;
+    }
 }
 
 impl<K: IntKey, V: Drop, A: Allocator> Table<K, Kept<V>, A> {
@@ -85,18 +107,18 @@ fn extract_slots<K: IntKey, V, A: Allocator, F: FnMut(K, &mut V) -> bool>(
     at: &mut Progress,
     f: &mut F,
 ) -> Option<(Stored<K>, Kept<V>)>
-    requires table { IsTable K.number_of slots.old }
-    requires reached { IsReached K.number_of (joined (rows slots.old))
-        (length slots.old) at.old.slot at.old.place at.old.passed }
-    requires count { length (joined (rows slots.old)) < 2 ^ 64 }
+    requires table { IsTable K.number_of slots.old.rows }
+    requires reached { IsReached K.number_of (joined slots.old.rows)
+        (length slots.old.rows) at.old.slot at.old.place at.old.passed }
+    requires count { length (joined slots.old.rows) < 2 ^ 64 }
     requires callable { TakesEach (AsksAt F.FnMut) (TakesPairMut F.FnMut) f.old
-        (drop at.old.passed (joined (rows slots.old))) }
-    ensures step { ExtractsBehind (PicksAt F.FnMut) f.old (joined (rows slots.old))
-        at.old.passed result f.new (joined (rows slots.new)) at.new.passed }
-    ensures table { IsTable K.number_of slots.new }
-    ensures reached { IsReached K.number_of (joined (rows slots.new))
-        (length slots.new) at.new.slot at.new.place at.new.passed }
-    ensures len { length slots.new ≡ length slots.old }
+        (drop at.old.passed (joined slots.old.rows)) }
+    ensures step { ExtractsBehind (PicksAt F.FnMut) f.old (joined slots.old.rows)
+        at.old.passed result f.new (joined slots.new.rows) at.new.passed }
+    ensures table { IsTable K.number_of slots.new.rows }
+    ensures reached { IsReached K.number_of (joined slots.new.rows)
+        (length slots.new.rows) at.new.slot at.new.place at.new.passed }
+    ensures len { length slots.new.rows ≡ length slots.old.rows }
 {
     while let Some(slot) = slots.next_filled(at.slot) {
         at.slot = slot;
@@ -148,6 +170,6 @@ impl<K: IntKey, V, A: Allocator> Table<K, Kept<V>, A> {
         ensures capacity { self.new.capacity ≡ self.old.capacity }
         ensures own { walk_of K.number_of self.new.walk self.new.capacity ≡ self.new.walk }
     {
-        self.slots.write_each(f);
+        write_slots(&mut self.slots, f);
     }
 }

@@ -3,7 +3,8 @@ ghost use Rattle.std.specs.Bool.{OnFalse, OnTrue};
 ghost use Rattle.std.specs.Prelude.{◌≡◌, ◌+◌, ◌<◌, ◌≤◌, ◌^◌, [], ◌∷◌, cond, drop, is_some, length, take, MatchOption, IfNone, IfSome};
 ghost use Rattle.std.specs.Iterator.{YieldsFirst};
 ghost use Rattle.intmap_table.specs.Picking.{position};
-ghost use Rattle.intmap_table.specs.Tables.Slots.{rows, row_of, joined, count_before};
+ghost use Rattle.intmap_table.specs.Tables.Slots.{joined, count_before};
+ghost use Rattle.intmap_table.specs.Tables.Rows.{row_at};
 ghost use Rattle.intmap_table.specs.Walk.{walk_of, ArePassed};
 ghost use Rattle.intmap_table.specs.Classes.{slot_number};
 
@@ -35,14 +36,14 @@ impl Cursor {
 /// passed.
 #[inline(always)]
 fn seek<K: IntKey, X, A: Allocator>(slots: &Slots<K, X, A>, at: &mut Cursor) -> bool
-    requires slots { length slots.now ≤ 2 ^ 63 }
-    requires count { length (joined (rows slots.now)) < 2 ^ 64 }
-    ensures pair { OnTrue result (at.new.place < length (row_of slots.now at.new.slot)) }
-    ensures none { OnFalse result (drop (count_before (rows slots.now) at.old.slot at.old.place)
-        (joined (rows slots.now)) ≡ []) }
+    requires slots { length slots.now.rows ≤ 2 ^ 63 }
+    requires count { length (joined slots.now.rows) < 2 ^ 64 }
+    ensures pair { OnTrue result (at.new.place < length (row_at slots.now at.new.slot)) }
+    ensures none { OnFalse result (drop (count_before slots.now.rows at.old.slot at.old.place)
+        (joined slots.now.rows) ≡ []) }
     ensures stays { OnFalse result (at.new ≡ at.old) }
-    ensures same { count_before (rows slots.now) at.new.slot at.new.place
-        ≡ count_before (rows slots.now) at.old.slot at.old.place }
+    ensures same { count_before slots.now.rows at.new.slot at.new.place
+        ≡ count_before slots.now.rows at.old.slot at.old.place }
 {
     if slots.has_pair(at.slot, at.place) {
         return true;

@@ -17,8 +17,10 @@ impl<K: IntKey, V, A: Allocator + Copy> IntMap<K, V, A> {
     /// slots behind. So after an insertion or a removal in a slot that was passed, the walk goes on
     /// as before. A removal in the cursor's own slot may move a pair to a place that was passed, and
     /// it isn't shown then. After an insertion that made the map grow, pairs are in other slots, and
-    /// some may be shown again or not at all. The call allocates nothing and never fails. A whole
-    /// walk looks once at each pair, and at one bit a slot.
+    /// some may be shown again or not at all. The call allocates nothing and never fails.
+    ///
+    /// Each call goes past the pairs of the cursor's slot, to count them. So a whole walk takes time
+    /// in the numbers of pairs and slots, and in the square of the pairs of each crowded slot.
     ///
     /// ```text
     /// let map = IntMap::from_array(alloc, [(0, 10), (1, 11), (4, 14)])?;
@@ -50,8 +52,8 @@ impl<K: IntKey, V, A: Allocator + Copy> IntMap<K, V, A> {
     /// [`step`](IntMap::step), any cursor will do.
     ///
     /// The other pairs of the slot behind the removed one move up by one place. The capacity, the
-    /// load factor and both counts stay, and the slots keep their memory. It allocates nothing and
-    /// never fails.
+    /// load factor and both counts stay, and the map keeps its memory. It allocates nothing and never
+    /// fails. It goes past the pairs of the cursor's slot, as `step` does.
     ///
     /// ```text
     /// let mut map = IntMap::from_array(alloc, [(0, 10), (4, 14), (8, 18)])?;

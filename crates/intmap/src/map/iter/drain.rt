@@ -51,12 +51,11 @@ impl<K: IntKey, V, A: Allocator + Copy> IntMap<K, V, A> {
 
     /// An iterator that removes one pair at each step and returns it, in iteration order. At every
     /// moment, the pairs that it returned and then the pairs that the map has are the walk at the
-    /// start. The capacity, the load factor and both counts stay, and the slots keep their memory.
+    /// start. The capacity, the load factor and both counts stay, and the map keeps its memory.
     /// It allocates nothing and never fails.
     ///
-    /// Each step moves the other pairs of its slot up by one place, so that the map has them even if
-    /// the iterator is forgotten. Where thousands of keys share a slot that is slow: exchange the map
-    /// for a new one by `mem::replace`, and take its pairs by `into_iter`.
+    /// After each step the other pairs of the slot are in their order, so that the map has them even
+    /// if the iterator is forgotten. The time of a step doesn't depend on how many share a slot.
     ///
     /// ```text
     /// let mut map = IntMap::from_array(alloc, [(0, 10), (4, 14), (8, 18)])?;

@@ -158,11 +158,11 @@ impl<K: IntKey, A: Allocator + Copy> IntSet<K, A> {
     /// call before left. Nothing is required of other keys and calls.
     ///
     /// The members that stay, those that the closure didn't pick and those that weren't reached,
-    /// keep their order. The capacity, the load factor and both counts stay, and the slots keep
-    /// their memory. It allocates nothing and never fails.
+    /// keep their order. The capacity, the load factor and both counts stay, and the set keeps its
+    /// memory. It allocates nothing and never fails.
     ///
-    /// Each step moves the members behind the removed one, in its slot, up by one place. Where
-    /// thousands share a slot that is slow; `retain` moves each member at most once.
+    /// For each member that it asks about, a step goes past all members of the slot. Where thousands
+    /// share a slot that is slow; `retain` goes past each member once.
     ///
     /// ```text
     /// let mut set = IntSet::from_array(alloc, [0, 1, 4])?;

@@ -17,9 +17,9 @@ use Rattle.std.proofs.vec.Vec.TheLaws as V-laws
 use Rattle.std.specs.declared.alloc.Allocator as allocator
 use Rattle.std.specs.declared.cmp.PartialEq as eq
 use Rattle.intmap_table.specs.declared.key.IntKey as key
-use Rattle.intmap_table.specs.declared.table.linked.Slots as declared
-use Rattle.intmap_table.specs.contracts.table.linked.Slots as L-type
-use Rattle.intmap_table.specs.contracts.table.linked.Slots.TheInside as I-type
+use Rattle.intmap_table.specs.declared.table.slots.Slots as declared
+use Rattle.intmap_table.specs.contracts.table.slots.Slots as L-type
+use Rattle.intmap_table.specs.contracts.table.slots.Slots.TheInside as I-type
 use Rattle.intmap_table.specs.contracts.bits.Bits as B-type
 use Rattle.intmap_table.specs.Tables.Rows.{Contents}
 use Rattle.intmap_table.proofs.bits.Bits.TheLaws as B-laws

@@ -2,11 +2,10 @@
 use Rattle.std.proofs.Common.{◌≡◌, ℕ, zero, suc, ◌-◌, List, [], ◌∷◌, ◌++◌, length, get_or, set, take, drop, refl, sym, ap, ◌∙◌, arith}
 use Rattle.std.proofs.lemmas.List.{length-append, length-map, length-set, length-take-le, length-drop, set-set, set-get_or, map-set, take-append-drop}
 use Rattle.std.proofs.Math.Seq.{take-append_seam, drop-append_seam}
-use Rattle.std.specs.Map.{values_of}
 use Rattle.intmap_table.specs.Tables.Slots.{joined}
 use Rattle.intmap_table.specs.Values.{with_values, rows_with}
 use Rattle.intmap_table.proofs.Lending.ChosenLemmas.{at_place, emptied, drained, refilled, sizes, row_size, sizes-emptied}
-use Rattle.intmap_table.proofs.Lending.ValuesLemmas.{with_values-append, length-with_values, values_of-with_values}
+use Rattle.intmap_table.proofs.Lending.ValuesLemmas.{with_values-append, length-with_values}
 
 nothing_in : {X : Type 0} (xs : List X) → length xs ≡ 0 → xs ≡ []
 nothing_in [] e = refl
@@ -126,7 +125,3 @@ module _ {K V : Type 0} where
   pub sizes-rows_with : (R : List (List (K × V))) (ws : List V) → sizes (rows_with R ws) ≡ sizes R
   sizes-rows_with [] ws = refl
   sizes-rows_with (r ∷ R) ws = λ i. length-with_values r (take (length r) ws) i ∷ sizes-rows_with R (drop (length r) ws) i
-
-  -- as many values as pairs are their values then
-  pub values_of-rows_with : (R : List (List (K × V))) (ws : List V) → length ws ≡ length (joined R) → values_of (joined (rows_with R ws)) ≡ ws
-  values_of-rows_with R ws long = ap values_of (joined-rows_with R ws) ∙ values_of-with_values (joined R) ws long

@@ -1,105 +1,94 @@
 //! Single pairs are put into a slot, replaced and removed.
-ghost use Rattle.std.specs.Prelude.{◌≡◌, ◌+◌, ◌<◌, [], ◌∷◌, ◌++◌, List, drop, get_or, length, swap_remove, take, slice_index_or, OnOk, OnErr, IfOk, IfErr};
-ghost use Rattle.std.specs.Vec.Iter.{into_iter_items};
-ghost use Rattle.intmap_table.specs.Tables.Moves.{rooms};
-ghost use Rattle.intmap_table.specs.Tables.Slots.{rows, row_of, IsRowSet};
+ghost use Rattle.std.specs.Prelude.{◌≡◌, ◌+◌, ◌<◌, ◌≤◌, [], ◌∷◌, ◌++◌, List, drop, length, set, swap_remove, take, slice_index_or, slice_set, cond, false, IfOk, IfErr, IsOk, OnErr, OnOk};
+ghost use Rattle.intmap_table.specs.Classes.{slot_number};
+ghost use Rattle.intmap_table.specs.Tables.Rows.{row_at};
 
+use crate::bits::Bits;
 use crate::key::IntKey;
-use crate::table::slots::{Slots, unmark_unless};
+use crate::linked::row;
+use crate::table::slots::Slots;
 use crate::table::stored::Stored;
 use std::alloc::Allocator;
-use std::vec::IntoIter;
 
-impl<K: IntKey, X: Drop, A: Allocator + Copy> Slots<K, X, A> {
-    /// Puts a pair last in a slot, and returns its place. If an allocation fails, it returns the
-    /// value. A slot without a pair needs no allocation.
-    #[inline(always)]
-    pub(crate) fn push(&mut self, index: usize, key: Stored<K>, value: X) -> Result<usize, X>
-        requires { index < length self.old }
-        ensures place { IfOk result (λ place. place ≡ length (row_of self.old index)) }
-        ensures ok { OnOk result
-            (IsRowSet self.old index (row_of self.old index ++ (key, value) ∷ []) self.new) }
-        ensures err { OnErr result (rows self.new ≡ rows self.old) }
-        ensures value_returned { IfErr result (λ returned. returned ≡ value) }
-        ensures memory { OnErr result (0 < length (row_of self.old index)) }
-    {
-        if index < self.lone.len() {
-            if self.lone[index].is_filled() {
-                return self.push_second(index, key, value);
-            }
-            self.directory.bits.set(index);
-            self.lone[index].put((key, value));
-            return Ok(0);
-        }
-        let slot = &mut self.shared[index];
-        if self.directory.bits.set(index) {
-            return slot.push(key, value);
-        }
-        slot.put_first((key, value));
-        Ok(0)
+/// Clears the bit of a slot if it holds no pair.
+#[inline(always)]
+pub(super) fn unmark_if<A: Allocator>(bits: &mut Bits<A>, is_empty: bool, index: usize)
+    requires { index < length bits.old }
+    ensures { bits.new ≡ cond is_empty (slice_set bits.old index false) bits.old }
+{
+    if is_empty {
+        bits.clear(index);
     }
 }
 
 impl<K: IntKey, X, A: Allocator> Slots<K, X, A> {
+    /// Puts a pair last in its slot, and returns its place. If an allocation fails, it returns the
+    /// pair, and nothing changes. A slot without a pair needs no allocation.
+    #[inline(always)]
+    pub(crate) fn push(
+        &mut self,
+        index: usize,
+        pair: (Stored<K>, X),
+    ) -> Result<usize, (Stored<K>, X)>
+        requires within { index < length self.old.rows }
+        requires own { slot_number K.number_of pair.0 (length self.old.rows) ≡ index }
+        ensures place { IfOk result (λ place. place ≡ length (row_at self.old index)) }
+        ensures ok { OnOk result
+            (self.new.rows ≡ set self.old.rows index (row_at self.old index ++ pair ∷ [])) }
+        ensures err { OnErr result (self.new ≡ self.old) }
+        ensures pair_returned { IfErr result (λ returned. returned ≡ pair) }
+        ensures room { OnOk result (self.old.room ≤ self.new.room + 1) }
+        ensures memory { OnErr result (0 < length (row_at self.old index)) }
+        ensures succeeds { 0 < self.old.room → IsOk result }
+    {
+        let slot = &mut self.slots[index];
+        let place = row::push(slot, &mut self.pool, pair)?;
+        self.bits.set(index);
+        Ok(place)
+    }
+
+    /// Puts a pair last in its slot. If the slot holds a pair there is room for one more, so it
+    /// allocates nothing.
+    pub(crate) fn put_back(&mut self, index: usize, pair: (Stored<K>, X))
+        requires within { index < length self.old.rows }
+        requires own { slot_number K.number_of pair.0 (length self.old.rows) ≡ index }
+        requires ready { 0 < length (row_at self.old index) → 0 < self.old.room }
+        ensures { self.new.rows ≡ set self.old.rows index (row_at self.old index ++ pair ∷ []) }
+    {
+        match self.push(index, pair) {
+            Ok(_) => {}
+            Err(_) => unreachable!(),
+        }
+    }
+
     /// Removes the pair at a place of a slot. The last pair of the slot takes its place.
     #[inline(always)]
     pub(crate) fn take_at(&mut self, index: usize, place: usize) -> (Stored<K>, X)
-        requires { place < length (row_of self.old index) }
-        ensures value { result ≡ slice_index_or (row_of self.old index) place result }
-        ensures row { IsRowSet self.old index
-            (swap_remove (row_of self.old index) place result) self.new }
-        ensures room { length (row_of self.new index) < get_or (rooms self.new) index 0 }
+        requires { place < length (row_at self.old index) }
+        ensures value { result ≡ slice_index_or (row_at self.old index) place result }
+        ensures rows { self.new.rows
+            ≡ set self.old.rows index (swap_remove (row_at self.old index) place result) }
+        ensures room { self.old.room ≤ self.new.room }
+        ensures ready { 0 < length (row_at self.new index) → 0 < self.new.room }
     {
-        // read before the slot changes, so that the read needn't wait for the slot's write
-        let word = self.directory.bits.word(index);
-        if index < self.lone.len() {
-            let pair = self.lone[index].take();
-            self.directory.bits.clear_in(word, index);
-            return pair;
-        }
-        let slot = &mut self.shared[index];
-        if let Some(pair) = slot.take_only() {
-            self.directory.bits.clear_in(word, index);
-            return pair;
-        }
-        slot.take_at(place)
+        let slot = &mut self.slots[index];
+        let pair = row::take(slot, &mut self.pool, place);
+        unmark_if(&mut self.bits, slot.is_empty(), index);
+        pair
     }
 
     /// Removes the pair at a place of a slot. Those behind it move up by one place.
     pub(crate) fn remove_at(&mut self, index: usize, place: usize) -> (Stored<K>, X)
-        requires { place < length (row_of self.old index) }
-        ensures value { result ≡ slice_index_or (row_of self.old index) place result }
-        ensures row { IsRowSet self.old index (take place (row_of self.old index)
-            ++ drop (place + 1) (row_of self.old index)) self.new }
+        requires { place < length (row_at self.old index) }
+        ensures value { result ≡ slice_index_or (row_at self.old index) place result }
+        ensures rows { self.new.rows ≡ set self.old.rows index
+            (take place (row_at self.old index) ++ drop (place + 1) (row_at self.old index)) }
+        ensures room { self.old.room ≤ self.new.room }
     {
-        if index < self.lone.len() {
-            let pair = self.lone[index].take();
-            self.directory.bits.clear(index);
-            return pair;
-        }
-        let slot = &mut self.shared[index];
-        let pair = slot.remove_at(place);
-        unmark_unless(&mut self.directory.bits, slot.is_filled(), index);
+        let slot = &mut self.slots[index];
+        let pair = row::remove(slot, &mut self.pool, place);
+        unmark_if(&mut self.bits, slot.is_empty(), index);
         pair
-    }
-
-    /// Puts a pair last in a slot that has room for it. It allocates nothing.
-    pub(crate) fn put_back(&mut self, index: usize, pair: (Stored<K>, X))
-        requires within { index < length self.old }
-        requires room { length (row_of self.old index) < get_or (rooms self.old) index 0 }
-        ensures { IsRowSet self.old index (row_of self.old index ++ pair ∷ []) self.new }
-    {
-        let was_filled = self.directory.bits.set(index);
-        if index < self.lone.len() {
-            self.lone[index].put(pair);
-            return;
-        }
-        let slot = &mut self.shared[index];
-        if was_filled {
-            slot.put_back(pair);
-            return;
-        }
-        slot.put_back_first(pair);
     }
 
     /// Removes the pair at a place of a slot, moves the last pair of the slot into that place, and
@@ -111,53 +100,27 @@ impl<K: IntKey, X, A: Allocator> Slots<K, X, A> {
         place: usize,
         new: (Stored<K>, X),
     ) -> (Stored<K>, X)
-        requires { place < length (row_of self.old index) }
-        ensures value { result ≡ slice_index_or (row_of self.old index) place result }
-        ensures row { IsRowSet self.old index
-            (swap_remove (row_of self.old index) place result ++ new ∷ []) self.new }
+        requires place { place < length (row_at self.old index) }
+        requires own { slot_number K.number_of new.0 (length self.old.rows) ≡ index }
+        ensures value { result ≡ slice_index_or (row_at self.old index) place result }
+        ensures rows { self.new.rows ≡ set self.old.rows index
+            (swap_remove (row_at self.old index) place result ++ new ∷ []) }
+        ensures room { self.new.room ≡ self.old.room }
     {
-        if index < self.lone.len() {
-            return self.lone[index].replace(new);
-        }
-        self.shared[index].replace_at(place, new)
+        row::replace(&mut self.slots[index], &mut self.pool, place, new)
     }
 
     /// Removes the first pair of a slot. The others move up by one place.
     #[inline(always)]
     pub(crate) fn take_front(&mut self, index: usize) -> (Stored<K>, X)
-        requires { 0 < length (row_of self.old index) }
-        ensures { (row : List (K × X)) × (row_of self.old index ≡ result ∷ row)
-            × IsRowSet self.old index row self.new }
+        requires { 0 < length (row_at self.old index) }
+        ensures row { (row : List (K × X)) × (row_at self.old index ≡ result ∷ row)
+            × (self.new.rows ≡ set self.old.rows index row) }
+        ensures room { self.old.room ≤ self.new.room }
     {
-        if index < self.lone.len() {
-            self.directory.bits.clear(index);
-            return self.lone[index].take();
-        }
-        let slot = &mut self.shared[index];
-        let first = slot.take_front();
-        unmark_unless(&mut self.directory.bits, slot.is_filled(), index);
-        first
-    }
-}
-
-impl<K: IntKey, X: Drop, A: Allocator + Copy> Slots<K, X, A> {
-    /// Removes all pairs of a slot, and returns the first of them. `rest`, which has none, gets the
-    /// others with their block. No pair moves.
-    #[inline(always)]
-    pub(crate) fn take_all(
-        &mut self,
-        index: usize,
-        rest: &mut IntoIter<(Stored<K>, X), A>,
-    ) -> (Stored<K>, X)
-        requires filled { 0 < length (row_of self.old index) }
-        requires empty { into_iter_items rest.old ≡ [] }
-        ensures pairs { row_of self.old index ≡ result ∷ into_iter_items rest.new }
-        ensures row { IsRowSet self.old index [] self.new }
-    {
-        self.directory.bits.clear(index);
-        if index < self.lone.len() {
-            return self.lone[index].take();
-        }
-        self.shared[index].take_all(rest)
+        let slot = &mut self.slots[index];
+        let pair = row::take_front(slot, &mut self.pool);
+        unmark_if(&mut self.bits, slot.is_empty(), index);
+        pair
     }
 }

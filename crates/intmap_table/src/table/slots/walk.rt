@@ -4,30 +4,34 @@ ghost use Rattle.std.specs.Iterator.{YieldsFirstBy, item_count};
 
 use crate::bits::Indices;
 use crate::key::IntKey;
-use crate::table::slots::Slots;
+use crate::linked::pool::Pool;
+use crate::linked::slot::Slot;
 use crate::table::stored::Stored;
 use std::alloc::{AllocError, Allocator};
 use std::marker::Model;
 
-/// The pairs that are left: those of the current slot, then those of the slots behind it that hold
-/// a pair, by their numbers.
+/// The pairs that are left: those that a link leads through, then those of the slots that hold a
+/// pair, by their numbers.
 #[derive(Drop)]
 pub struct Pairs<'a, K: IntKey, X, A: Allocator> {
-    pub(super) rest: &'a [(Stored<K>, X)],
+    pub(super) link: usize,
     pub(super) filled: Indices<'a>,
-    pub(super) slots: &'a Slots<K, X, A>,
+    pub(super) slots: &'a [Slot<(Stored<K>, X)>],
+    pub(super) pool: &'a Pool<(Stored<K>, X), A>,
 }
 
-// Invariant: each number that is left is that of a slot.
+// Invariant: the links lead through pairs, and each number that is left is that of a slot with a pair.
 impl<'a, K: IntKey, X, A: Allocator> Model for Pairs<'a, K, X, A> {
-    ghost use Rattle.std.specs.Prelude.{List, All, ◌<◌, ◌++◌, length};
-    ghost use Rattle.intmap_table.specs.Tables.Slots.{rows, pairs_at};
+    ghost use Rattle.std.specs.Prelude.{List, ◌++◌};
+    ghost use Rattle.intmap_table.specs.Tables.Nodes.{chain_of, rows_in, IsWalk};
+    ghost use Rattle.intmap_table.specs.Tables.Slots.{pairs_at};
 
     ghost Value = { List (K × X) };
 
-    ghost view = { λ it. it.rest.now ++ pairs_at (rows it.slots.now) it.filled };
+    ghost view = { λ it. chain_of it.pool.now.nodes it.link
+        ++ pairs_at (rows_in it.slots.now it.pool.now.nodes) it.filled };
 
-    ghost invariant = { λ it. All (λ index. index < length it.slots.now) it.filled };
+    ghost invariant = { λ it. IsWalk it.slots.now it.pool.now.nodes it.link it.filled };
 }
 
 impl<'a, K: IntKey, X, A: Allocator> Clone for Pairs<'a, K, X, A> {
@@ -37,9 +41,10 @@ impl<'a, K: IntKey, X, A: Allocator> Clone for Pairs<'a, K, X, A> {
 
     fn clone(&self) -> Result<Pairs<'a, K, X, A>, AllocError> {
         Ok(Pairs {
-            rest: self.rest,
+            link: self.link,
             filled: self.filled.clone()?,
             slots: self.slots,
+            pool: self.pool,
         })
     }
 }
@@ -50,20 +55,18 @@ impl<'a, K: IntKey, X, A: Allocator> Pairs<'a, K, X, A> {
     fn next_pair(&mut self) -> Option<&'a (Stored<K>, X)>
         ensures { YieldsFirstBy (λ pair. pair.now) (λ rest. rest) self.old result self.new }
     {
-        loop {
-            if let Some((pair, rest)) = self.rest.split_first() {
-                self.rest = rest;
-                return Some(pair);
-            }
-            let Some(index) = self.filled.next() else {
-                return None;
-            };
-            let (first, rest) = self.slots.first_and_rest(index);
-            self.rest = rest;
-            if let Some(pair) = first {
-                return Some(pair);
-            }
+        if let Some((next, pair)) = self.pool.get(self.link) {
+            self.link = next;
+            return Some(pair);
         }
+        let Some(index) = self.filled.next() else {
+            return None;
+        };
+        let Some((next, first)) = self.slots[index].get() else {
+            unreachable!();
+        };
+        self.link = next;
+        Some(first)
     }
 }
 

@@ -3,7 +3,6 @@ use Rattle.std.specs.Prelude.{get_or}
 use Rattle.intmap_table.specs.Tables.Nodes.{Filled, row_in}
 use Rattle.intmap_table.proofs.Nodes.SlotLemmas.{relinked, slot_is, Remove-front, Remove-value, Remove-behind}
 use Rattle.intmap_table.proofs.linked.row.remove.Goals as goal
-use Rattle.intmap_table.proofs.linked.row.remove.Goals.{In-Some}
 
 pub returns-then-place-eq0-clause-value : goal.returns-then-place-eq0-clause-value
 returns-then-place-eq0-clause-value g c =

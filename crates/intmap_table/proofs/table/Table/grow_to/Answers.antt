@@ -1,28 +1,32 @@
-use Rattle.std.proofs.Common.{◌≡◌, ◌∙◌, length, sym}
+use Rattle.std.proofs.Common.{◌≡◌, ◌∙◌, length, sym, subst}
+use Rattle.std.specs.Prelude.{OnOk}
 use Rattle.std.proofs.lemmas.Result.{on_ok_weaker, on_err_weaker}
-use Rattle.intmap_table.proofs.Tables.MemoryLemmas.{OnOk-or}
-use Rattle.intmap_table.proofs.Tables.MovingLemmas.{joined-moved, IsTable-moved}
-use Rattle.intmap_table.proofs.Tables.TableLemmas.{walk_of-joined, IsTable-same_rows, Grid-same_rows}
+use Rattle.intmap_table.specs.Tables.Slots.{joined}
+use Rattle.intmap_table.specs.Tables.Rows.{HasMoved, IsTable}
+use Rattle.intmap_table.proofs.Tables.GrownLemmas.{IsGrown-from}
+use Rattle.intmap_table.proofs.Tables.MemoryLemmas.{OnOk-or, OnOk-both}
+use Rattle.intmap_table.proofs.Rows.MovedLemmas.{joined-moved, IsTable-moved}
+use Rattle.intmap_table.proofs.Rows.TableLemmas.{walk_of-joined}
 use Rattle.intmap_table.proofs.table.Table.grow_to.Goals as goal
+use Rattle.intmap_table.proofs.table.Table.grow_to.Goals.{After-grow}
+
+-- the rows once all pairs have moved
+moved : (g : _) (c : After-grow g) → OnOk c.grow.result (HasMoved g.K.IntKey.number_of (joined c.self.inside.slots.rows) c.args.capacity c.grow.new.self.rows)
+moved g c =
+    on_ok_weaker c.grow.result (λ both. record { capacity = c.requires.capacity; len = both.0; rows = both.1 }) (OnOk-both c.grow.result _ _ c.grow.ensures.len c.grow.ensures.rows)
 
 pub returns-then-capacity-len-clause-walk : goal.returns-then-capacity-len-clause-walk
 returns-then-capacity-len-clause-walk g c =
-    let own : c.args.capacity ≡ length c.self.inside.slots = c.if-capacity-len.true ∙ c.len.ensures in
-    rw (← c.self.view_is, own) (sym (walk_of-joined g.K.IntKey.number_of c.self.inside.slots c.self.invariant))
+    let own : c.args.capacity ≡ length c.self.inside.slots.rows = c.if-capacity-len.true ∙ c.len.ensures in
+    rw (← c.self.view_is, own) (sym (walk_of-joined g.K.IntKey.number_of c.self.inside.slots.rows c.self.invariant))
 
-pub grow-requires-clause-ready : goal.grow-requires-clause-ready
-grow-requires-clause-ready g c = record { table = c.self.invariant; capacity = c.requires.capacity; larger = rw (← c.self.view_is) at c.requires.larger }
+pub grow-requires-clause-grown : goal.grow-requires-clause-grown
+grow-requires-clause-grown g c = IsGrown-from _ _ c.self.invariant.capacity c.requires.capacity (rw (← c.self.view_is) at c.requires.larger)
 
 pub invariant_of-self : goal.invariant_of-self
 invariant_of-self g c =
-    OnOk-or c.grow.result (on_ok_weaker c.grow.result (λ grown. IsTable-moved _ _ _ _ grown.moved) c.grow.ensures.grown)
-    (on_err_weaker c.grow.result (λ same. IsTable-same_rows _ c.self.inside.slots c.grow.new.self same c.self.invariant) c.grow.ensures.err)
+    OnOk-or c.grow.result (on_ok_weaker c.grow.result (λ m. IsTable-moved _ _ _ _ m) (moved g (goal.at.invariant_of-self g c).After-grow))
+    (on_err_weaker c.grow.result (λ same. subst (λ s. IsTable g.K.IntKey.number_of s.rows) (sym same) c.self.invariant) c.grow.ensures.err)
 
 pub returns-clause-walk : goal.returns-clause-walk
-returns-clause-walk g c = rw (← c.self.view_is) (on_ok_weaker c.grow.result (λ grown. joined-moved _ _ _ _ grown.moved) c.grow.ensures.grown)
-
-pub returns-clause-capacity : goal.returns-clause-capacity
-returns-clause-capacity g c = on_ok_weaker c.grow.result (λ grown. grown.moved.len) c.grow.ensures.grown
-
-pub returns-clause-err : goal.returns-clause-err
-returns-clause-err g c = on_err_weaker c.grow.result (λ same. Grid-same_rows c.self.inside.slots c.grow.new.self same ∙ c.self.view_is) c.grow.ensures.err
+returns-clause-walk g c = rw (← c.self.view_is) (on_ok_weaker c.grow.result (λ m. joined-moved _ _ _ _ m) (moved g (goal.at.returns-clause-walk g c).After-grow))

@@ -1,14 +1,14 @@
-use Rattle.std.proofs.Common.{◌≡◌, ◌+◌, sym, ap, refl, ◌∙◌}
+use Rattle.std.proofs.Common.{[], ◌≡◌, ◌+◌, get_or, sym, ap, refl, ◌∙◌}
 use Rattle.std.specs.Prelude.{position}
 use Rattle.intmap_table.specs.Classes.{slot_number, same_key}
 use Rattle.intmap_table.specs.Reach.{reach}
-use Rattle.intmap_table.specs.Tables.Slots.{Grid, row_of}
+use Rattle.intmap_table.specs.Tables.Slots.{Grid}
 use Rattle.intmap_table.proofs.PositionLemmas.{first_value-none}
-use Rattle.intmap_table.proofs.Tables.TableLemmas.{IsSlot, reach-here, value_of-here, slot_of-here}
+use Rattle.intmap_table.proofs.Rows.TableLemmas.{IsSlot, reach-here, value_of-here, slot_of-here}
 use Rattle.intmap_table.proofs.table.Table.locate.Goals as goal
 use Rattle.intmap_table.proofs.table.Table.locate.Goals.{After-find}
 
-here : (g : _) (c : After-find g) → IsSlot g.K.IntKey.number_of c.self.inside.slots c.index_of-slot.result c.args.key
+here : (g : _) (c : After-find g) → IsSlot g.K.IntKey.number_of c.self.inside.slots.rows c.index_of-slot.result c.args.key
 here g c = record {
   table = c.self.invariant;
   slot = c.index_of-slot.ensures.slot ∙ ap (λ (t : Grid _ _). slot_number g.K.IntKey.number_of c.args.key t.capacity) (sym c.self.view_is);
@@ -22,7 +22,7 @@ counted g c =
 pub returns-in_default-clause-missing : goal.returns-in_default-clause-missing
 returns-in_default-clause-missing g c =
     let at = here g (goal.at.returns-in_default-clause-missing g c).After-find in
-    rw (← c.self.view_is) (value_of-here _ _ _ _ at ∙ first_value-none (same_key g.K.IntKey.number_of c.args.key) (row_of c.self.inside.slots c.index_of-slot.result) (sym c.in_default.ensures.place))
+    rw (← c.self.view_is) (value_of-here _ _ _ _ at ∙ first_value-none (same_key g.K.IntKey.number_of c.args.key) (get_or c.self.inside.slots.rows c.index_of-slot.result []) (sym c.in_default.ensures.place))
 
 pub returns-in_default-clause-counted : goal.returns-in_default-clause-counted
 returns-in_default-clause-counted g c = counted g (goal.at.returns-in_default-clause-counted g c).After-find

@@ -1,20 +1,21 @@
-use Rattle.std.proofs.Common.{◌≡◌, ◌+◌, ◌∷◌, ◌∙◌, get_or, length, drop, sym, ap, arith}
+use Rattle.std.proofs.Common.{◌≡◌, ◌+◌, ◌∷◌, ◌∙◌, [], get_or, length, drop, sym, ap, arith}
 use Rattle.intmap_table.specs.Picking.{position}
-use Rattle.intmap_table.specs.Tables.Slots.{Grid, rows, row_of, joined, count_before}
+use Rattle.intmap_table.specs.Tables.Slots.{Grid, joined, count_before}
 use Rattle.intmap_table.specs.declared.table.walk.Cursor.{Cursor}
 use Rattle.intmap_table.proofs.Tables.AroundLemmas.{length-around}
 use Rattle.intmap_table.proofs.SlotNumberLemmas.{capacity-greatest}
-use Rattle.intmap_table.proofs.Tables.CursorLemmas.{before-here, drop-here, position-before}
+use Rattle.intmap_table.proofs.Tables.CursorLemmas.{before-here, drop-here}
+use Rattle.intmap_table.proofs.Rows.CursorLemmas.{position-before}
 use Rattle.intmap_table.proofs.table.Table.step.Goals as goal
 use Rattle.intmap_table.proofs.table.Table.step.Goals.{After-seek}
 
 module _ (g : _) (c : After-seek g) where
   -- where a cursor is in the slots
-  before : (at : Cursor) → position g.K.IntKey.number_of (joined (rows c.self.inside.slots)) (length c.self.inside.slots) at ≡ count_before (rows c.self.inside.slots) at.slot at.place
-  before = position-before g.K.IntKey.number_of c.self.inside.slots c.self.invariant
+  before : (at : Cursor) → position g.K.IntKey.number_of (joined c.self.inside.slots.rows) (length c.self.inside.slots.rows) at ≡ count_before c.self.inside.slots.rows at.slot at.place
+  before = position-before g.K.IntKey.number_of c.self.inside.slots.rows c.self.invariant
 
   -- the call of `seek` left it there
-  sought : count_before (rows c.self.inside.slots) c.seek.new.at.slot c.seek.new.at.place ≡ count_before (rows c.self.inside.slots) c.args.at.now.slot c.args.at.now.place
+  sought : count_before c.self.inside.slots.rows c.seek.new.at.slot c.seek.new.at.place ≡ count_before c.self.inside.slots.rows c.args.at.now.slot c.args.at.now.place
   sought = c.seek.ensures.same
 
 pub seek-requires-clause-slots : goal.seek-requires-clause-slots
@@ -23,7 +24,7 @@ seek-requires-clause-slots g c = capacity-greatest _ c.self.invariant.capacity
 pub returns-then-not-seek-clause-first : goal.returns-then-not-seek-clause-first
 returns-then-not-seek-clause-first g c =
     let at = (goal.at.returns-then-not-seek-clause-first g c).After-seek in
-    rw (← c.self.view_is) (ap (λ n. drop n (joined (rows c.self.inside.slots))) (before g at c.args.at.now) ∙ c.if-not-seek.ensures.none)
+    rw (← c.self.view_is) (ap (λ n. drop n (joined c.self.inside.slots.rows)) (before g at c.args.at.now) ∙ c.if-not-seek.ensures.none)
 
 pub returns-then-not-seek-clause-passed : goal.returns-then-not-seek-clause-passed
 returns-then-not-seek-clause-passed g c =
@@ -32,20 +33,20 @@ returns-then-not-seek-clause-passed g c =
 
 pub overflow_add-at : goal.overflow_add-at
 overflow_add-at g c =
-    let parts = length-around c.seek.new.at.slot (rows c.self.inside.slots) in let all = ap (λ (t : Grid _ _). length t.walk) c.self.view_is in
+    let parts = length-around c.seek.new.at.slot c.self.inside.slots.rows in let all = ap (λ (t : Grid _ _). length t.walk) c.self.view_is in
     omega (arith, parts, all, c.requires.count, c.if-not-seek.ensures.pair)
 
 pub returns-clause-first : goal.returns-clause-first
 returns-clause-first g c =
-    let at = (goal.at.returns-clause-first g c).After-seek in let S = c.self.inside.slots in let i = c.seek.new.at.slot in let j = c.seek.new.at.place in
+    let at = (goal.at.returns-clause-first g c).After-seek in let S = c.self.inside.slots.rows in let i = c.seek.new.at.slot in let j = c.seek.new.at.place in
     let p : g.row.K.Denot × g.row.X.Denot = (c.key.result.now, c.value_at.result.now) in
-    let pair : get_or (row_of S i) j p ≡ p = (λ k. (sym (c.key.ensures.value ∙ c.key_at-key.ensures p) k, sym (c.value_at.ensures p) k)) in
+    let pair : get_or (get_or S i []) j p ≡ p = (λ k. (sym (c.key.ensures.value ∙ c.key_at-key.ensures p) k, sym (c.value_at.ensures p) k)) in
     rw (← c.self.view_is)
-    (ap (λ n. drop n (joined (rows S))) (before g at c.args.at.now ∙ sym (sought g at)) ∙ drop-here (rows S) i j p c.if-not-seek.ensures.pair
-    ∙ (λ k. pair k ∷ drop (sym (before g at (record { slot = i; place = j + 1 })) k) (joined (rows S))))
+    (ap (λ n. drop n (joined (S))) (before g at c.args.at.now ∙ sym (sought g at)) ∙ drop-here (S) i j p c.if-not-seek.ensures.pair
+    ∙ (λ k. pair k ∷ drop (sym (before g at (record { slot = i; place = j + 1 })) k) (joined (S))))
 
 pub returns-clause-passed : goal.returns-clause-passed
 returns-clause-passed g c =
-    let at = (goal.at.returns-clause-passed g c).After-seek in let S = c.self.inside.slots in let i = c.seek.new.at.slot in let j = c.seek.new.at.place in
+    let at = (goal.at.returns-clause-passed g c).After-seek in let S = c.self.inside.slots.rows in let i = c.seek.new.at.slot in let j = c.seek.new.at.place in
     rw (← c.self.view_is)
-    (before g at (record { slot = i; place = j + 1 }) ∙ before-here (rows S) i j c.if-not-seek.ensures.pair ∙ ap (λ n. n + 1) (sought g at ∙ sym (before g at c.args.at.now)))
+    (before g at (record { slot = i; place = j + 1 }) ∙ before-here (S) i j c.if-not-seek.ensures.pair ∙ ap (λ n. n + 1) (sought g at ∙ sym (before g at c.args.at.now)))

@@ -1,50 +1,51 @@
-use Rattle.std.proofs.Common.{◌∙◌, arith}
-use Rattle.std.proofs.lemmas.List.{take_all}
-use Rattle.std.proofs.lemmas.List.Elements.{all_zip_more}
+use Rattle.std.proofs.Common.{◌∙◌, length, ap, sym, arith}
 use Rattle.std.specs.List.{AllZip}
-use Rattle.intmap_table.proofs.Tables.CloneLemmas.{IsSlotClone, AllZip-append, row_keys-AllZip}
-use Rattle.intmap_table.proofs.Tables.SameKeysLemmas.{AreSlots-same_keys}
+use Rattle.intmap_table.specs.Tables.Nodes.{rows_in}
+use Rattle.intmap_table.proofs.Nodes.CloneLemmas.{First-start, First-next, First-done, First-all, Row-read}
+use Rattle.intmap_table.proofs.Tables.CloneLemmas.{AreClones}
 use Rattle.intmap_table.proofs.table.slots.Slots.clone.Goals as goal
-use Rattle.intmap_table.proofs.table.slots.Slots.clone.Goals.{After-loop-slot-2}
+use Rattle.intmap_table.proofs.table.slots.Slots.clone.Goals.{After-loop-slot}
+
+pub loop-slot-init : goal.loop-slot-init
+loop-slot-init g c =
+    let slots = c.in_ok-slots.ensures in let pool = c.in_ok-pool.ensures in
+    record {
+      pushed = slots.len;
+      room = omega (arith, slots.exact, c.len.ensures, c.deref-slot-items.ensures.len);
+      full = pool.held ∙ sym (ap length pool.nodes);
+      cloned = rw slots.items (First-start g.X.Clone.is_clone g.K.IntKey.number_of _ c.in_ok-pool.pool pool.held);
+    }
+
+pub clone_slot-requires-clause-leads : goal.clone_slot-requires-clause-leads
+clone_slot-requires-clause-leads g c =
+    (Row-read g.K.IntKey.number_of c.self.inside.slots.items c.self.inside.pool c.self.inside.bits c.self.inside.mask c.deref-slot-items.result.now c.loop-slot.slot-index c.slot-item.result c.self.invariant
+    c.deref-slot-items.ensures.value c.loop-slot-test.true c.slot-item.is).chain
 
 pub loop-slot-preserved : goal.loop-slot-preserved
 loop-slot-preserved g c =
     let loop = c.loop-slot in let put = c.push_reserved.ensures in
+    let row = Row-read g.K.IntKey.number_of c.self.inside.slots.items c.self.inside.pool c.self.inside.bits c.self.inside.mask c.deref-slot-items.result.now loop.slot-index c.slot-item.result c.self.invariant
+    c.deref-slot-items.ensures.value c.loop-slot-test.true c.slot-item.is in
     record {
       pushed = omega (arith, put.len, loop.invariant.pushed);
       room = put.capacity ∙ loop.invariant.room;
-      slots = rw put.items (all_zip_more (IsSlotClone g.X.Clone.is_clone) c.deref-slot-items.result.now loop.lone.items loop.slot-index _ _
-          c.loop-slot-test.true c.slot-item.is loop.invariant.slots c.in_ok-clone.ensures.pairs);
+      full = c.in_ok-clone_slot.ensures.none;
+      cloned = rw (put.items, ← c.self.view_is)
+          (First-next g.X.Clone.is_clone g.K.IntKey.number_of c.self.inside.slots.items c.self.inside.pool loop.slot-index c.slot-item.result loop.slots.items loop.pool _ c.clone_slot.new.made row
+          c.in_ok-clone_slot.ensures.row (rw (← c.self.view_is) at loop.invariant.cloned) (omega (arith, loop.invariant.pushed)));
     }
 
-pub loop-slot-2-preserved : goal.loop-slot-2-preserved
-loop-slot-2-preserved g c =
-    let loop = c.loop-slot-2 in let put = c.push_reserved-in-loop-slot-2.ensures in
-    record {
-      pushed = omega (arith, put.len, loop.invariant.pushed);
-      room = put.capacity ∙ loop.invariant.room;
-      slots = rw put.items (all_zip_more (IsSlotClone g.X.Clone.is_clone) c.deref-slot-items-2.result.now loop.shared.items
-          loop.slot-index _ _ c.loop-slot-2-test.true c.slot-item-in-loop-slot-2.is loop.invariant.slots c.in_ok-clone-2.ensures.pairs);
-    }
-
--- once the loops are done, each slot has its clone
-module _ (g : _) (c : After-loop-slot-2 g) where
-  lone : AllZip (IsSlotClone g.X.Clone.is_clone) c.self.inside.lone.items c.loop-slot.lone.items
-  lone =
-      let slots = c.deref-slot-items in let all = take_all c.loop-slot.slot-index slots.result.now c.loop-slot-test.false in
-      rw (all, slots.ensures.value) at c.loop-slot.invariant.slots
-
-  shared : AllZip (IsSlotClone g.X.Clone.is_clone) c.self.inside.shared.items c.loop-slot-2.shared.items
-  shared =
-      let slots = c.deref-slot-items-2 in let all = take_all c.loop-slot-2.slot-index slots.result.now c.loop-slot-2-test.false in
-      rw (all, slots.ensures.value) at c.loop-slot-2.invariant.slots
+-- once the loop is done, each row has its clone
+all : (g : _) (c : After-loop-slot g) → AllZip (AreClones g.X.Clone.is_clone) (rows_in c.self.inside.slots.items c.self.inside.pool.nodes) (rows_in c.loop-slot.slots.items c.loop-slot.pool.nodes)
+all g c =
+    First-done g.X.Clone.is_clone g.K.IntKey.number_of c.self.inside.slots.items c.deref-slot-items.result.now c.self.inside.pool.nodes c.loop-slot.slot-index c.loop-slot.slots.items c.loop-slot.pool
+    (rw (← c.self.view_is) at c.loop-slot.invariant.cloned) c.deref-slot-items.ensures.value c.loop-slot-test.false
 
 pub invariant_of-result : goal.invariant_of-result
 invariant_of-result g c =
-    let at = (goal.at.invariant_of-result g c).After-loop-slot-2 in let keys = row_keys-AllZip g.X.Clone.is_clone in
-    rw c.in_ok-bits.ensures (AreSlots-same_keys _ _ _ _ (keys _ _ (lone g at)) (keys _ _ (shared g at)) c.self.invariant)
+    rw c.in_ok-bits.ensures
+    (First-all g.X.Clone.is_clone g.K.IntKey.number_of c.self.inside.slots.items c.self.inside.pool c.self.inside.bits c.self.inside.mask c.loop-slot.slot-index c.loop-slot.slots.items c.loop-slot.pool c.self.invariant
+    (rw (← c.self.view_is) at c.loop-slot.invariant.cloned) (all g (goal.at.invariant_of-result g c).After-loop-slot))
 
 pub returns : goal.returns
-returns g c =
-    let at = (goal.at.returns g c).After-loop-slot-2 in
-    rw (← c.self.view_is) (AllZip-append (IsSlotClone g.X.Clone.is_clone) _ _ _ _ (lone g at) (shared g at))
+returns g c = rw (← c.self.view_is) (all g (goal.at.returns g c).After-loop-slot)

@@ -1,14 +1,10 @@
-use Rattle.std.proofs.Common.{◌++◌}
-use Rattle.intmap_table.specs.Tables.Slots.{rows}
-use Rattle.intmap_table.proofs.Tables.FilledLemmas.{pairs_at-marked, indices-within}
+use Rattle.intmap_table.proofs.Nodes.WalkLemmas.{Walk-start, Walk-all}
 use Rattle.intmap_table.proofs.table.slots.Slots.pairs.Goals as goal
 
 pub invariant_of-result : goal.invariant_of-result
 invariant_of-result g c =
-    rw (c.iter.ensures, ← c.self.view_is)
-    (indices-within (c.self.inside.lone.items ++ c.self.inside.shared.items) c.self.inside.directory.bits c.self.invariant.directory.marks)
+    rw (c.iter.ensures, c.deref.ensures.value) (Walk-start g.K.IntKey.number_of c.self.inside.slots.items c.self.inside.pool c.self.inside.bits c.self.inside.mask c.self.invariant)
 
 pub returns : goal.returns
 returns g c =
-    rw (c.iter.ensures, ← c.self.view_is)
-    (pairs_at-marked (rows (c.self.inside.lone.items ++ c.self.inside.shared.items)) c.self.inside.directory.bits c.self.invariant.directory.marks)
+    rw (c.iter.ensures, c.deref.ensures.value, ← c.self.view_is) (Walk-all g.K.IntKey.number_of c.self.inside.slots.items c.self.inside.pool c.self.inside.bits c.self.inside.mask c.self.invariant)

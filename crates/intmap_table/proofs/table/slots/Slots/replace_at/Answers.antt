@@ -1,21 +1,45 @@
-use Rattle.std.proofs.Common.{◌<◌, ◌∙◌, ◌++◌, length, sym, ap, arith}
-use Rattle.std.specs.Prelude.{nat_lt}
-use Rattle.std.proofs.lemmas.Bool.{lt-ltb}
-use Rattle.intmap_table.specs.Tables.Slots.{row_of}
-use Rattle.intmap_table.proofs.Tables.FilledLemmas.{slot-within, filled-pushed}
-use Rattle.intmap_table.proofs.Tables.FormLemmas.{AreSlots-lone_kept, AreSlots-shared_kept}
+use Rattle.std.proofs.Common.{◌≡◌, ◌<◌, ◌++◌, [], ◌∷◌, length, ap, sym, ◌∙◌, length-append, arith}
+use Rattle.std.specs.Prelude.{get_or, set, swap_remove}
+use Rattle.std.proofs.lemmas.List.{length-map}
+use Rattle.intmap_table.specs.Classes.{slot_number}
+use Rattle.intmap_table.specs.Tables.Nodes.{rows_in, row_in}
+use Rattle.intmap_table.proofs.Tables.FilledLemmas.{row-within}
+use Rattle.intmap_table.proofs.Nodes.LinkedLemmas.{HaveRows, IsRow, Row-of, Row-kept, home-swap_remove, home-append}
 use Rattle.intmap_table.proofs.table.slots.Slots.replace_at.Goals as goal
+use Rattle.intmap_table.proofs.table.slots.Slots.replace_at.Goals.{After-index_mut, After-replace}
+
+module _ (g : _) (c : After-index_mut g) where
+  -- the slot holds a pair
+  some : 0 < length (get_or (rows_in c.self.inside.slots.items c.self.inside.pool.nodes) c.args.index [])
+  some = let place = rw (← c.self.view_is) at c.requires.place in omega (arith, place)
+
+  row : IsRow g.K.IntKey.number_of c.self.inside.slots.items c.self.inside.pool (rows_in c.self.inside.slots.items c.self.inside.pool.nodes) c.args.index c.index_mut.result.now
+  row = Row-of g.K.IntKey.number_of c.self.inside.slots.items c.self.inside.pool c.self.inside.bits c.self.inside.mask c.args.index c.index_mut.result.now c.self.invariant (row-within (rows_in c.self.inside.slots.items c.self.inside.pool.nodes) c.args.index some) c.index_mut.ensures.value
+
+pub replace-requires-clause-leads : goal.replace-requires-clause-leads
+replace-requires-clause-leads g c = (row g (goal.at.replace-requires-clause-leads g c).After-index_mut).chain
+
+-- the slots with the new row
+done : (g : _) (c : After-replace g) → 0 < length (get_or (rows_in c.self.inside.slots.items c.self.inside.pool.nodes) c.args.index []) → IsRow g.K.IntKey.number_of c.self.inside.slots.items c.self.inside.pool (rows_in c.self.inside.slots.items c.self.inside.pool.nodes) c.args.index c.index_mut.result.now
+    → HaveRows g.K.IntKey.number_of (set c.self.inside.slots.items c.args.index c.replace.new.slot) c.replace.new.pool c.self.inside.bits c.self.inside.mask (set (rows_in c.self.inside.slots.items c.self.inside.pool.nodes) c.args.index (swap_remove (get_or (rows_in c.self.inside.slots.items c.self.inside.pool.nodes) c.args.index []) c.args.place c.replace.result ++ c.args.new ∷ []))
+done g c some r =
+    let place = rw (← c.self.view_is) at c.requires.place in
+    let own = rw (← c.self.view_is) at c.requires.own in
+    let all : length c.self.inside.slots.items ≡ length (rows_in c.self.inside.slots.items c.self.inside.pool.nodes) = sym (length-map c.self.inside.slots.items (row_in c.self.inside.pool.nodes)) in
+    let len = ap length r.is in
+    let more = length-append (swap_remove (get_or (rows_in c.self.inside.slots.items c.self.inside.pool.nodes) c.args.index []) c.args.place c.replace.result) (c.args.new ∷ []) in
+    Row-kept g.K.IntKey.number_of c.self.inside.slots.items c.self.inside.pool c.self.inside.bits c.self.inside.mask c.args.index c.index_mut.result.now (λ ps. swap_remove (ps) c.args.place c.replace.result ++ c.args.new ∷ []) c.replace.new.pool c.replace.new.slot c.self.invariant r c.replace.ensures.row
+    (home-append (λ p. slot_number g.K.IntKey.number_of p.0 (length c.self.inside.slots.items)) c.args.index (swap_remove (row_in c.self.inside.pool.nodes c.index_mut.result.now) c.args.place c.replace.result) c.args.new
+    (home-swap_remove (λ p. slot_number g.K.IntKey.number_of p.0 (length c.self.inside.slots.items)) c.args.index (row_in c.self.inside.pool.nodes c.index_mut.result.now) c.args.place c.replace.result r.own (omega (arith, place, len)))
+    (ap (slot_number g.K.IntKey.number_of c.args.new.0) all ∙ own))
+    some (omega (arith, more))
 
 pub invariant_of-self : goal.invariant_of-self
 invariant_of-self g c =
-    let place : c.args.place < length (row_of (c.self.inside.lone.items ++ c.self.inside.shared.items) c.args.index) = rw (← c.self.view_is) at c.requires in
-    let below : c.args.index < length c.self.inside.lone.items = omega (arith, c.if-index-len.true, c.len.ensures) in
-    let few = c.self.invariant.few c.args.index below in let one = ap length c.replace.ensures.replaced in
-    AreSlots-lone_kept _ _ c.self.invariant c.args.index c.replace.new.self below (omega (arith, place, few, one))
+    let at = (goal.at.invariant_of-self g c).After-index_mut in
+    (done g (goal.at.invariant_of-self g c).After-replace (some g at) (row g at)).are
 
-pub invariant_of-self-2 : goal.invariant_of-self-2
-invariant_of-self-2 g c =
-    let place : c.args.place < length (row_of (c.self.inside.lone.items ++ c.self.inside.shared.items) c.args.index) = rw (← c.self.view_is) at c.requires in
-    let filled = ap (λ ps. nat_lt 0 (length ps)) c.replace_at.ensures.pairs ∙ filled-pushed _ c.args.new in
-    AreSlots-shared_kept _ _ c.self.invariant c.args.index c.replace_at.new.self (omega (arith, c.if-index-len.false, c.len.ensures)) (slot-within _ _ (omega (arith, place)))
-    (lt-ltb 0 _ (omega (arith, place)) ∙ sym filled)
+pub returns-clause-rows : goal.returns-clause-rows
+returns-clause-rows g c =
+    let at = (goal.at.returns-clause-rows g c).After-index_mut in
+    rw (← c.self.view_is) (done g (goal.at.returns-clause-rows g c).After-replace (some g at) (row g at)).rows

@@ -1,46 +1,44 @@
-use Rattle.std.proofs.Common.{◌<◌, ◌≤◌, ◌∙◌, ◌++◌, false, length, sym, ap, arith}
-use Rattle.std.specs.Prelude.{nat_lt}
-use Rattle.std.proofs.lemmas.Bool.{lt-ltb}
-use Rattle.intmap_table.specs.Tables.Slots.{row_of}
-use Rattle.intmap_table.proofs.Tables.FilledLemmas.{slot-within}
-use Rattle.intmap_table.proofs.Tables.FormLemmas.{AreSlots-lone_emptied, AreSlots-shared_set, AreSlots-shared_kept, lone_set-leaves_room, shared_set-leaves_room}
+use Rattle.std.proofs.Common.{◌<◌, [], length, false, cond, ap, arith}
+use Rattle.std.specs.Prelude.{get_or, set, swap_remove}
+use Rattle.intmap_table.specs.Classes.{slot_number}
+use Rattle.intmap_table.specs.Tables.Nodes.{is_empty, rows_in, row_in}
+use Rattle.intmap_table.proofs.Tables.FilledLemmas.{row-within}
+use Rattle.intmap_table.proofs.Nodes.LinkedLemmas.{HaveRows, IsRow, Row-of, Row-changed, Row-here, home-swap_remove}
 use Rattle.intmap_table.proofs.table.slots.Slots.take_at.Goals as goal
-use Rattle.intmap_table.proofs.table.slots.Slots.take_at.Goals.{After-index_mut-slot}
+use Rattle.intmap_table.proofs.table.slots.Slots.take_at.Goals.{After-index_mut-slot, After-take-pair}
 
 module _ (g : _) (c : After-index_mut-slot g) where
-  past : length c.self.inside.lone.items ≤ c.args.index
-  past = omega (arith, c.if-index-len.false, c.len.ensures)
-
   -- the slot holds a pair
-  some : 0 < length (row_of (c.self.inside.lone.items ++ c.self.inside.shared.items) c.args.index)
-  some = let place : c.args.place < length (row_of (c.self.inside.lone.items ++ c.self.inside.shared.items) c.args.index) = rw (← c.self.view_is) at c.requires in omega (arith, place)
+  some : 0 < length (get_or (rows_in c.self.inside.slots.items c.self.inside.pool.nodes) c.args.index [])
+  some = let place = rw (← c.self.view_is) at c.requires in omega (arith, place)
+
+  row : IsRow g.K.IntKey.number_of c.self.inside.slots.items c.self.inside.pool (rows_in c.self.inside.slots.items c.self.inside.pool.nodes) c.args.index c.index_mut-slot.result.now
+  row = Row-of g.K.IntKey.number_of c.self.inside.slots.items c.self.inside.pool c.self.inside.bits c.self.inside.mask c.args.index c.index_mut-slot.result.now c.self.invariant (row-within (rows_in c.self.inside.slots.items c.self.inside.pool.nodes) c.args.index some) c.index_mut-slot.ensures.value
+
+pub take-pair-requires-clause-leads : goal.take-pair-requires-clause-leads
+take-pair-requires-clause-leads g c = (row g (goal.at.take-pair-requires-clause-leads g c).After-index_mut-slot).chain
+
+-- the slots with what is left of the row
+done : (g : _) (c : After-take-pair g) → 0 < length (get_or (rows_in c.self.inside.slots.items c.self.inside.pool.nodes) c.args.index []) → IsRow g.K.IntKey.number_of c.self.inside.slots.items c.self.inside.pool (rows_in c.self.inside.slots.items c.self.inside.pool.nodes) c.args.index c.index_mut-slot.result.now
+    → HaveRows g.K.IntKey.number_of (set c.self.inside.slots.items c.args.index c.take-pair.new.slot) c.take-pair.new.pool (cond (is_empty c.take-pair.new.slot) (set c.self.inside.bits c.args.index false) c.self.inside.bits) c.self.inside.mask (set (rows_in c.self.inside.slots.items c.self.inside.pool.nodes) c.args.index (swap_remove (get_or (rows_in c.self.inside.slots.items c.self.inside.pool.nodes) c.args.index []) c.args.place c.take-pair.result))
+done g c some r =
+    let place = rw (← c.self.view_is) at c.requires in
+    let len = ap length r.is in
+    Row-changed g.K.IntKey.number_of c.self.inside.slots.items c.self.inside.pool c.self.inside.bits c.self.inside.mask c.args.index c.index_mut-slot.result.now (λ ps. swap_remove (ps) c.args.place c.take-pair.result) c.take-pair.new.pool c.take-pair.new.slot c.self.invariant r c.take-pair.ensures.row
+    (home-swap_remove (λ p. slot_number g.K.IntKey.number_of p.0 (length c.self.inside.slots.items)) c.args.index (row_in c.self.inside.pool.nodes c.index_mut-slot.result.now) c.args.place c.take-pair.result r.own (omega (arith, place, len))) some
 
 pub invariant_of-self : goal.invariant_of-self
 invariant_of-self g c =
-    rw c.clear_in.ensures
-    (AreSlots-lone_emptied _ _ c.self.invariant c.args.index c.take-pair.new.self (omega (arith, c.if-index-len.true, c.len.ensures)) c.take-pair.ensures.emptied)
+    let at = (goal.at.invariant_of-self g c).After-index_mut-slot in
+    rw (c.unmark_if.ensures, c.is_empty.ensures) (done g (goal.at.invariant_of-self g c).After-take-pair (some g at) (row g at)).are
 
-pub returns-then-index-len-clause-room : goal.returns-then-index-len-clause-room
-returns-then-index-len-clause-room g c =
-    lone_set-leaves_room _ _ c.self.invariant c.args.index c.take-pair.new.self (omega (arith, c.if-index-len.true, c.len.ensures)) (rw (c.take-pair.ensures.emptied, c.take-pair.ensures.room) (omega arith))
+pub returns-clause-rows : goal.returns-clause-rows
+returns-clause-rows g c =
+    let at = (goal.at.returns-clause-rows g c).After-index_mut-slot in
+    rw (← c.self.view_is) (done g (goal.at.returns-clause-rows g c).After-take-pair (some g at) (row g at)).rows
 
-pub invariant_of-self-in-Some : goal.invariant_of-self-in-Some
-invariant_of-self-in-Some g c =
-    let at = (goal.at.invariant_of-self-in-Some g c).After-index_mut-slot in
-    rw c.clear_in-in-Some.ensures
-    (AreSlots-shared_set _ _ c.self.invariant c.args.index c.take_only.new.self (past g at) (slot-within _ _ (some g at)) false (ap (λ ps. nat_lt 0 (length ps)) (sym c.in-Some.ensures.emptied)))
-
-pub returns-in-Some-clause-room : goal.returns-in-Some-clause-room
-returns-in-Some-clause-room g c =
-    let at = (goal.at.returns-in-Some-clause-room g c).After-index_mut-slot in
-    shared_set-leaves_room _ _ c.self.invariant c.args.index c.take_only.new.self (past g at) (slot-within _ _ (some g at)) (rw c.in-Some.ensures.emptied c.in-Some.ensures.some_room)
-
-pub invariant_of-self-2 : goal.invariant_of-self-2
-invariant_of-self-2 g c =
-    let at = (goal.at.invariant_of-self-2 g c).After-index_mut-slot in
-    AreSlots-shared_kept _ _ c.self.invariant c.args.index c.take_at.new.self (past g at) (slot-within _ _ (some g at)) (lt-ltb 0 _ (some g at) ∙ sym (lt-ltb 0 _ c.take_at.ensures.left))
-
-pub returns-clause-room : goal.returns-clause-room
-returns-clause-room g c =
-    let at = (goal.at.returns-clause-room g c).After-index_mut-slot in
-    shared_set-leaves_room _ _ c.self.invariant c.args.index c.take_at.new.self (past g at) (slot-within _ _ (some g at)) c.take_at.ensures.room
+pub returns-clause-ready : goal.returns-clause-ready
+returns-clause-ready g c =
+    let r = row g (goal.at.returns-clause-ready g c).After-index_mut-slot in
+    let here = ap length (Row-here g.K.IntKey.number_of c.self.inside.slots.items c.take-pair.new.pool c.args.index c.take-pair.new.slot r.within) in
+    λ filled. c.take-pair.ensures.ready (omega (arith, here, filled))

@@ -1,76 +1,67 @@
-use Rattle.std.proofs.Common.{◌≡◌, ℕ, ◌<◌, ◌≤◌, ◌∙◌, List, ◌++◌, length, get_or, refl, sym, ap, arith}
-use Rattle.std.specs.Prelude.{nat_lt}
-use Rattle.intmap_table.specs.Tables.Slots.{Held, row_of, write_at}
-use Rattle.intmap_table.proofs.Tables.FilledLemmas.{slot-within}
-use Rattle.intmap_table.proofs.Tables.FormLemmas.{lone-at, lone-set, shared-at, shared-set, AreSlots-lone_kept, AreSlots-shared_kept}
-use Rattle.intmap_table.proofs.Tables.RowLemmas.{length-write_at, set-write_row}
-use Rattle.intmap_table.proofs.Tables.TableLemmas.{row-at}
+use Rattle.std.proofs.Common.{◌<◌, [], length, get_or, refl, arith}
+use Rattle.intmap_table.specs.Tables.Nodes.{rows_in}
+use Rattle.intmap_table.proofs.Nodes.LentLemmas.{same_contents, Lent-first, Lent-chain, Lent-node, Lent-in_slot, Lent-in_node, Lent-first_value, Lent-node_value}
 use Rattle.intmap_table.proofs.table.slots.Slots.value_mut_at.Goals as goal
 
--- slot i is h
-module _ {K X : Type 0} (S : List (Held K X)) (i j : ℕ) (h : Held K X) (place : j < length (row_of S i)) (here : h ≡ get_or S i h) where
-  within : i < length S
-  within = slot-within S i (omega (arith, place))
-
-  -- the pairs of the slot are its row
-  row : h.pairs ≡ row_of S i
-  row = row-at S i h within here
-
-  -- with a value written it holds as many
-  kept : (k : ℕ) (w : X) → length (row_of S i) ≡ length (write_at h.pairs k w)
-  kept k w = ap length (sym row) ∙ sym (length-write_at h.pairs k w)
+pub value_mut-requires : goal.value_mut-requires
+value_mut-requires g c =
+    let within = rw (← c.self.view_is) at c.requires in
+    Lent-first g.K.IntKey.number_of c.self.inside.slots.items c.self.inside.pool c.self.inside.bits c.self.inside.mask c.args.index c.args.place c.index_mut.result.now c.self.invariant c.index_mut.ensures.value within
 
 pub invariant_of-self-lent : goal.invariant_of-self-lent
 invariant_of-self-lent g c w =
-    let L = c.self.inside.lone.items in let S = c.self.inside.shared.items in let i = c.args.index in let h = c.index_mut.result.now in
-    let below : i < length L = omega (arith, c.if-index-len.true) in
-    let place : c.args.place < length (row_of (L ++ S) i) = rw (← c.self.view_is) at c.requires in
-    let here = lone-at L S c.self.invariant.form i h below c.index_mut.ensures.value in
-    AreSlots-lone_kept L S c.self.invariant i _ below (kept (L ++ S) i c.args.place h place here 0 w)
+    let within = rw (← c.self.view_is) at c.requires in
+    (Lent-in_slot g.K.IntKey.number_of c.self.inside.slots.items c.self.inside.pool c.self.inside.bits c.self.inside.mask c.args.index c.args.place c.index_mut.result.now c.self.invariant c.index_mut.ensures.value within
+    w c.if-place-eq0.true).are
 
-pub returns-then-index-len : goal.returns-then-index-len
-returns-then-index-len g c =
-    let L = c.self.inside.lone.items in let S = c.self.inside.shared.items in let i = c.args.index in let h = c.index_mut.result.now in
-    let below : i < length L = omega (arith, c.if-index-len.true) in
-    let place : c.args.place < length (row_of (L ++ S) i) = rw (← c.self.view_is) at c.requires in
-    let here = lone-at L S c.self.invariant.form i h below c.index_mut.ensures.value in (
+pub returns-then-place-eq0 : goal.returns-then-place-eq0
+returns-then-place-eq0 g c =
+    let within : c.args.place < length (get_or (rows_in c.self.inside.slots.items c.self.inside.pool.nodes) c.args.index []) = rw (← c.self.view_is) at c.requires in (
       (
         refl,
-        λ w. rw (← c.self.view_is) (rw c.value_mut_at.ensures.first
-            (lone-set L S c.self.invariant.form i _ below
-            ∙ set-write_row (L ++ S) i 0 w h (within (L ++ S) i c.args.place h place here) here)),
+        λ w. rw (← c.self.view_is) (same_contents _ _ c.self.inside.pool.room
+            (Lent-in_slot g.K.IntKey.number_of c.self.inside.slots.items c.self.inside.pool c.self.inside.bits c.self.inside.mask c.args.index c.args.place c.index_mut.result.now c.self.invariant c.index_mut.ensures.value within
+            w c.if-place-eq0.true).rows),
       ),
       record {
         writes_back = tt;
-        value = λ p. rw (← c.self.view_is) (c.value_mut_at.ensures.value p
-            ∙ ap (λ ps. (get_or ps c.args.place p).1) (row (L ++ S) i c.args.place h place here));
+        value = λ p. rw (← c.self.view_is) (Lent-first_value g.K.IntKey.number_of c.self.inside.slots.items c.self.inside.pool c.self.inside.bits c.self.inside.mask c.args.index c.args.place c.index_mut.result.now c.self.invariant c.index_mut.ensures.value within
+            c.value_mut.result.now c.if-place-eq0.true c.value_mut.ensures.value p);
       },
     )
 
+pub seek-at-requires-clause-leads : goal.seek-at-requires-clause-leads
+seek-at-requires-clause-leads g c =
+    let within = rw (← c.self.view_is) at c.requires in
+    Lent-chain g.K.IntKey.number_of c.self.inside.slots.items c.self.inside.pool c.self.inside.bits c.self.inside.mask c.args.index c.args.place c.index.result.now c.self.invariant c.index.ensures within
+    c.in-Some.link c.in-Some.field-0-1.now c.in-Some.ensures.some
+
+pub value_mut-requires-2 : goal.value_mut-requires-2
+value_mut-requires-2 g c =
+    let within = rw (← c.self.view_is) at c.requires in
+    Lent-node g.K.IntKey.number_of c.self.inside.slots.items c.self.inside.pool c.self.inside.bits c.self.inside.mask c.args.index c.args.place c.index.result.now c.self.invariant c.index.ensures within
+    c.in-Some.link c.in-Some.field-0-1.now c.seek-at.result c.in-Some.ensures.some (omega (arith, c.if-place-eq0.false)) c.seek-at.ensures
+
 pub invariant_of-self-lent-2 : goal.invariant_of-self-lent-2
 invariant_of-self-lent-2 g c w =
-    let L = c.self.inside.lone.items in let S = c.self.inside.shared.items in let i = c.args.index in let h = c.index_mut-2.result.now in
-    let past : length L ≤ i = omega (arith, c.if-index-len.false) in
-    let place : c.args.place < length (row_of (L ++ S) i) = rw (← c.self.view_is) at c.requires in
-    let all = slot-within (L ++ S) i (omega (arith, place)) in
-    let here = shared-at L S c.self.invariant.form i h past all c.index_mut-2.ensures.value in
-    AreSlots-shared_kept L S c.self.invariant i _ past all (ap (nat_lt 0) (kept (L ++ S) i c.args.place h place here c.args.place w))
+    let within = rw (← c.self.view_is) at c.requires in
+    let held = c.value_mut-2.ensures.value in
+    (Lent-in_node g.K.IntKey.number_of c.self.inside.slots.items c.self.inside.pool c.self.inside.bits c.self.inside.mask c.args.index c.args.place c.index.result.now c.self.invariant c.index.ensures within
+    w c.in-Some.link c.in-Some.field-0-1.now c.seek-at.result held.0 held.1 c.in-Some.ensures.some (omega (arith, c.if-place-eq0.false)) c.seek-at.ensures held.2).are
 
 pub returns : goal.returns
 returns g c =
-    let L = c.self.inside.lone.items in let S = c.self.inside.shared.items in let i = c.args.index in let h = c.index_mut-2.result.now in
-    let past : length L ≤ i = omega (arith, c.if-index-len.false) in
-    let place : c.args.place < length (row_of (L ++ S) i) = rw (← c.self.view_is) at c.requires in
-    let all = slot-within (L ++ S) i (omega (arith, place)) in
-    let here = shared-at L S c.self.invariant.form i h past all c.index_mut-2.ensures.value in (
+    let within : c.args.place < length (get_or (rows_in c.self.inside.slots.items c.self.inside.pool.nodes) c.args.index []) = rw (← c.self.view_is) at c.requires in
+    let held = c.value_mut-2.ensures.value in (
       (
         refl,
-        λ w. rw (← c.self.view_is) (shared-set L S c.self.invariant.form i _ past all
-            ∙ set-write_row (L ++ S) i c.args.place w h all here),
+        λ w. rw (← c.self.view_is) (same_contents _ _ c.self.inside.pool.room
+            (Lent-in_node g.K.IntKey.number_of c.self.inside.slots.items c.self.inside.pool c.self.inside.bits c.self.inside.mask c.args.index c.args.place c.index.result.now c.self.invariant c.index.ensures within
+            w c.in-Some.link c.in-Some.field-0-1.now c.seek-at.result held.0 held.1 c.in-Some.ensures.some (omega (arith, c.if-place-eq0.false)) c.seek-at.ensures held.2).rows),
       ),
       record {
         writes_back = tt;
-        value = λ p. rw (← c.self.view_is) (c.value_mut_at-2.ensures.value p
-            ∙ ap (λ ps. (get_or ps c.args.place p).1) (row (L ++ S) i c.args.place h place here));
+        value = λ p. rw (← c.self.view_is) (Lent-node_value g.K.IntKey.number_of c.self.inside.slots.items c.self.inside.pool c.self.inside.bits c.self.inside.mask c.args.index c.args.place c.index.result.now c.self.invariant c.index.ensures within
+            c.value_mut-2.result.now c.in-Some.link c.in-Some.field-0-1.now c.seek-at.result c.in-Some.ensures.some (omega (arith, c.if-place-eq0.false)) c.seek-at.ensures held p);
       },
     )

@@ -1,65 +1,38 @@
-use Rattle.std.proofs.Common.{◌<◌, ◌≤◌, ◌++◌, length, refl, arith}
-use Rattle.intmap_table.specs.Picking.{ExtractsBehind, PicksAt}
-use Rattle.intmap_table.specs.Tables.Slots.{row_of}
-use Rattle.intmap_table.proofs.ExtractLemmas.{length-ExtractsBehind}
-use Rattle.intmap_table.proofs.Tables.FormLemmas.{lone-row, shared-row, AreSlots-lone_changed, AreSlots-shared_changed, IsRowSet-shared}
+use Rattle.std.proofs.Common.{length, false, cond, subst}
+use Rattle.std.specs.Prelude.{set}
+use Rattle.intmap_table.specs.Picking.{PicksAt, ExtractsBehind}
+use Rattle.intmap_table.specs.Tables.Nodes.{is_empty, rows_in, row_in}
+use Rattle.intmap_table.proofs.Tables.FilledLemmas.{row-within}
+use Rattle.intmap_table.proofs.Nodes.LinkedLemmas.{HaveRows, IsRow, Row-of, Row-changed}
+use Rattle.intmap_table.proofs.Nodes.HomeLemmas.{Home-extracted}
 use Rattle.intmap_table.proofs.table.slots.closures.Slots+K+Kept+V+A.extract_at.Goals as goal
-use Rattle.intmap_table.proofs.table.slots.closures.Slots+K+Kept+V+A.extract_at.Goals.{After-extract_next-found, After-extract_next-found-2}
+use Rattle.intmap_table.proofs.table.slots.closures.Slots+K+Kept+V+A.extract_at.Goals.{After-index_mut-slot, After-extract-found}
 
-module _ (g : _) (c : After-extract_next-found g) where
-  below : c.args.index < length c.self.inside.lone.items
-  below = omega (arith, c.if-index-len.true, c.len.ensures)
+module _ (g : _) (c : After-index_mut-slot g) where
+  row : IsRow g.K.IntKey.number_of c.self.inside.slots.items c.self.inside.pool (rows_in c.self.inside.slots.items c.self.inside.pool.nodes) c.args.index c.index_mut-slot.result.now
+  row =
+      let some = rw (← c.self.view_is) at c.requires.filled in
+      Row-of g.K.IntKey.number_of c.self.inside.slots.items c.self.inside.pool c.self.inside.bits c.self.inside.mask c.args.index c.index_mut-slot.result.now c.self.invariant (row-within (rows_in c.self.inside.slots.items c.self.inside.pool.nodes) c.args.index some) c.index_mut-slot.ensures.value
 
-  -- the closure was asked about the pair of the lone slot, from the place on
-  lone : let S = c.self.inside.lone.items ++ c.self.inside.shared.items in let asked = c.extract_next-found in
-      ExtractsBehind (PicksAt g.F.FnMut) c.args.f.now (row_of S c.args.index) c.args.place.now
-      asked.result asked.new.f asked.new.self.pairs asked.new.place
-  lone =
-      let slot = c.index_mut-slot.result.now in
-      rw (lone-row _ _ c.self.invariant.form c.args.index slot below c.index_mut-slot.ensures.value) at c.extract_next-found.ensures.step
+pub extract-found-requires-clause-leads : goal.extract-found-requires-clause-leads
+extract-found-requires-clause-leads g c = (row g (goal.at.extract-found-requires-clause-leads g c).After-index_mut-slot).chain
 
-module _ (g : _) (c : After-extract_next-found-2 g) where
-  past : length c.self.inside.lone.items ≤ c.args.index
-  past = omega (arith, c.if-index-len.false, c.len.ensures)
-
-  within : c.args.index < length (c.self.inside.lone.items ++ c.self.inside.shared.items)
-  within = rw (← c.self.view_is) at c.requires.index
-
-  -- or about those of the shared one
-  shared : let S = c.self.inside.lone.items ++ c.self.inside.shared.items in let asked = c.extract_next-found-2 in
-      ExtractsBehind (PicksAt g.F.FnMut) c.args.f.now (row_of S c.args.index) c.args.place.now
-      asked.result asked.new.f asked.new.self.pairs asked.new.place
-  shared =
-      let slot = c.index_mut-slot-2.result.now in
-      rw (shared-row _ _ c.self.invariant.form c.args.index slot past within c.index_mut-slot-2.ensures.value)
-      at c.extract_next-found-2.ensures.step
+-- the slots with what is left of the row
+done : (g : _) (c : After-extract-found g) → IsRow g.K.IntKey.number_of c.self.inside.slots.items c.self.inside.pool (rows_in c.self.inside.slots.items c.self.inside.pool.nodes) c.args.index c.index_mut-slot.result.now
+    → HaveRows g.K.IntKey.number_of (set c.self.inside.slots.items c.args.index c.extract-found.new.slot) c.extract-found.new.pool (cond (is_empty c.extract-found.new.slot) (set c.self.inside.bits c.args.index false) c.self.inside.bits) c.self.inside.mask (set (rows_in c.self.inside.slots.items c.self.inside.pool.nodes) c.args.index c.extract-found.ensures.step.0)
+done g c r =
+    let some = rw (← c.self.view_is) at c.requires.filled in
+    Row-changed g.K.IntKey.number_of c.self.inside.slots.items c.self.inside.pool c.self.inside.bits c.self.inside.mask c.args.index c.index_mut-slot.result.now (λ ps. c.extract-found.ensures.step.0) c.extract-found.new.pool c.extract-found.new.slot c.self.invariant r c.extract-found.ensures.step.1
+    (Home-extracted g.K.IntKey.number_of (length c.self.inside.slots.items) c.args.index g.F.FnMut c.args.f.now (row_in c.self.inside.pool.nodes c.index_mut-slot.result.now) c.args.place.now c.extract-found.result c.extract-found.new.f c.extract-found.ensures.step.0 c.extract-found.new.place c.extract-found.ensures.step.2 r.own) some
 
 pub invariant_of-self : goal.invariant_of-self
 invariant_of-self g c =
-    let at = (goal.at.invariant_of-self g c).After-extract_next-found in let slot = c.extract_next-found.new.self in
-    let few = length-ExtractsBehind (PicksAt g.F.FnMut) _ _ _ _ _ _ _ (lone g at) in
-    rw (c.unmark_unless.ensures, c.is_filled.ensures.filled)
-    (AreSlots-lone_changed _ _ c.self.invariant c.args.index slot (below g at) (omega (arith, few)))
-
-pub extract_next-found-requires-2-clause-callable : goal.extract_next-found-requires-2-clause-callable
-extract_next-found-requires-2-clause-callable g c =
-    let L = c.self.inside.lone.items in let S = c.self.inside.shared.items in let slot = c.index_mut-slot-2 in
-    let past : length L ≤ c.args.index = omega (arith, c.if-index-len.false, c.len.ensures) in
-    let within : c.args.index < length (L ++ S) = rw (← c.self.view_is) at c.requires.index in
-    rw (shared-row L S c.self.invariant.form c.args.index slot.result.now past within slot.ensures.value, c.self.view_is) c.requires.callable
-
-pub invariant_of-self-2 : goal.invariant_of-self-2
-invariant_of-self-2 g c =
-    let at = (goal.at.invariant_of-self-2 g c).After-extract_next-found-2 in let slot = c.extract_next-found-2.new.self in
-    let few = length-ExtractsBehind (PicksAt g.F.FnMut) _ _ _ _ _ _ _ (shared g at) in
-    rw (c.unmark_unless-2.ensures, c.is_filled-2.ensures)
-    (AreSlots-shared_changed _ _ c.self.invariant c.args.index slot (past g at) (within g at) (λ some. omega (arith, some, few)))
+    let at = (goal.at.invariant_of-self g c).After-index_mut-slot in
+    rw (c.unmark_if.ensures, c.is_empty.ensures) (done g (goal.at.invariant_of-self g c).After-extract-found (row g at)).are
 
 pub returns-clause-step : goal.returns-clause-step
 returns-clause-step g c =
-    let at = (goal.at.returns-clause-step g c).After-extract_next-found-2 in let slot = c.extract_next-found-2.new.self in (
-      slot.pairs,
-      rw (← c.self.view_is) (IsRowSet-shared _ _ c.self.invariant c.args.index slot (past g at) (within g at) _ refl),
-      rw (← c.self.view_is) (shared g at),
-      c.extract_next-found-2.ensures.within,
-    )
+    let at = (goal.at.returns-clause-step g c).After-index_mut-slot in
+    let r = row g at in
+    let step = subst (λ ps. ExtractsBehind (PicksAt g.F.FnMut) c.args.f.now ps c.args.place.now c.extract-found.result c.extract-found.new.f c.extract-found.ensures.step.0 c.extract-found.new.place) r.is c.extract-found.ensures.step.2 in
+    rw (← c.self.view_is) (c.extract-found.ensures.step.0, (done g (goal.at.returns-clause-step g c).After-extract-found r).rows, step, c.extract-found.ensures.step.3)

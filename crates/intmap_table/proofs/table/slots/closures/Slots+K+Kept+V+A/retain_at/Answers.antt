@@ -1,68 +1,39 @@
-use Rattle.std.proofs.Common.{◌<◌, ◌≤◌, ◌++◌, length, refl, ap, arith}
+use Rattle.std.proofs.Common.{length, false, cond, subst}
+use Rattle.std.specs.Prelude.{set}
+use Rattle.intmap_table.specs.Classes.{slot_number}
 use Rattle.intmap_table.specs.Retaining.{KeepsAt, Retains}
-use Rattle.intmap_table.specs.Tables.Slots.{row_of}
-use Rattle.intmap_table.proofs.RetainLemmas.{length-Retains}
-use Rattle.intmap_table.proofs.Tables.FormLemmas.{lone-row, shared-row, AreSlots-lone_changed, AreSlots-shared_changed, IsRowSet-lone, IsRowSet-shared}
+use Rattle.intmap_table.specs.Tables.Nodes.{is_empty, rows_in, row_in}
+use Rattle.intmap_table.proofs.Tables.FilledLemmas.{row-within}
+use Rattle.intmap_table.proofs.Nodes.LinkedLemmas.{HaveRows, IsRow, Row-of, Row-changed}
+use Rattle.intmap_table.proofs.Nodes.HomeLemmas.{Home-retained}
 use Rattle.intmap_table.proofs.table.slots.closures.Slots+K+Kept+V+A.retain_at.Goals as goal
-use Rattle.intmap_table.proofs.table.slots.closures.Slots+K+Kept+V+A.retain_at.Goals.{After-retain, After-retain-2}
+use Rattle.intmap_table.proofs.table.slots.closures.Slots+K+Kept+V+A.retain_at.Goals.{After-index_mut-slot, After-retain-count}
 
-module _ (g : _) (c : After-retain g) where
-  below : c.args.index < length c.self.inside.lone.items
-  below = omega (arith, c.if-index-len.true, c.len.ensures)
+module _ (g : _) (c : After-index_mut-slot g) where
+  row : IsRow g.K.IntKey.number_of c.self.inside.slots.items c.self.inside.pool (rows_in c.self.inside.slots.items c.self.inside.pool.nodes) c.args.index c.index_mut-slot.result.now
+  row =
+      let some = rw (← c.self.view_is) at c.requires.filled in
+      Row-of g.K.IntKey.number_of c.self.inside.slots.items c.self.inside.pool c.self.inside.bits c.self.inside.mask c.args.index c.index_mut-slot.result.now c.self.invariant (row-within (rows_in c.self.inside.slots.items c.self.inside.pool.nodes) c.args.index some) c.index_mut-slot.ensures.value
 
-  -- the closure was asked about the pair of the lone slot
-  lone : let S = c.self.inside.lone.items ++ c.self.inside.shared.items in
-      Retains (KeepsAt g.F.FnMut) c.args.f.now (row_of S c.args.index) c.retain.new.self.pairs c.retain.new.f
-  lone =
-      let slot = c.index_mut-slot.result.now in
-      rw (lone-row _ _ c.self.invariant.form c.args.index slot below c.index_mut-slot.ensures.value) at c.retain.ensures.pairs
+pub retain-count-requires-clause-leads : goal.retain-count-requires-clause-leads
+retain-count-requires-clause-leads g c = (row g (goal.at.retain-count-requires-clause-leads g c).After-index_mut-slot).chain
 
-module _ (g : _) (c : After-retain-2 g) where
-  past : length c.self.inside.lone.items ≤ c.args.index
-  past = omega (arith, c.if-index-len.false, c.len.ensures)
-
-  within : c.args.index < length (c.self.inside.lone.items ++ c.self.inside.shared.items)
-  within = rw (← c.self.view_is) at c.requires.within
-
-  -- or about those of the shared one
-  shared : let S = c.self.inside.lone.items ++ c.self.inside.shared.items in
-      Retains (KeepsAt g.F.FnMut) c.args.f.now (row_of S c.args.index) c.retain-2.new.self.pairs c.retain-2.new.f
-  shared =
-      let slot = c.index_mut-slot-2.result.now in
-      rw (shared-row _ _ c.self.invariant.form c.args.index slot past within c.index_mut-slot-2.ensures.value) at c.retain-2.ensures.pairs
+-- the slots with what is left of the row
+done : (g : _) (c : After-retain-count g) → IsRow g.K.IntKey.number_of c.self.inside.slots.items c.self.inside.pool (rows_in c.self.inside.slots.items c.self.inside.pool.nodes) c.args.index c.index_mut-slot.result.now
+    → HaveRows g.K.IntKey.number_of (set c.self.inside.slots.items c.args.index c.retain-count.new.slot) c.retain-count.new.pool (cond (is_empty c.retain-count.new.slot) (set c.self.inside.bits c.args.index false) c.self.inside.bits) c.self.inside.mask (set (rows_in c.self.inside.slots.items c.self.inside.pool.nodes) c.args.index c.retain-count.ensures.row.0)
+done g c r =
+    let some = rw (← c.self.view_is) at c.requires.filled in
+    Row-changed g.K.IntKey.number_of c.self.inside.slots.items c.self.inside.pool c.self.inside.bits c.self.inside.mask c.args.index c.index_mut-slot.result.now (λ ps. c.retain-count.ensures.row.0) c.retain-count.new.pool c.retain-count.new.slot c.self.invariant r c.retain-count.ensures.row.1
+    (Home-retained (λ p. slot_number g.K.IntKey.number_of p.0 (length c.self.inside.slots.items)) c.args.index (KeepsAt g.F.FnMut) c.args.f.now (row_in c.self.inside.pool.nodes c.index_mut-slot.result.now) c.retain-count.ensures.row.0 c.retain-count.new.f c.retain-count.ensures.row.2 r.own) some
 
 pub invariant_of-self : goal.invariant_of-self
 invariant_of-self g c =
-    let at = (goal.at.invariant_of-self g c).After-retain in let few = length-Retains (KeepsAt g.F.FnMut) _ _ _ _ (lone g at) in
-    rw (c.unmark_unless.ensures, c.is_filled.ensures.filled)
-    (AreSlots-lone_changed _ _ c.self.invariant c.args.index c.retain.new.self (below g at) few)
+    let at = (goal.at.invariant_of-self g c).After-index_mut-slot in
+    rw (c.unmark_if.ensures, c.is_empty.ensures) (done g (goal.at.invariant_of-self g c).After-retain-count (row g at)).are
 
-pub returns-then-index-len : goal.returns-then-index-len
-returns-then-index-len g c =
-    let at = (goal.at.returns-then-index-len g c).After-retain in (
-      c.retain.new.self.pairs,
-      rw (← c.self.view_is) (IsRowSet-lone _ _ c.self.invariant c.args.index c.retain.new.self (below g at) _ refl),
-      rw (← c.self.view_is) (lone g at),
-      c.len-then-index-len.ensures,
-    )
-
-pub len-requires-2 : goal.len-requires-2
-len-requires-2 g c =
-    let few = length-Retains (KeepsAt g.F.FnMut) _ _ _ _ (shared g (goal.at.len-requires-2 g c).After-retain-2) in
-    let same = ap (λ S. length (row_of S c.args.index)) c.self.view_is in omega (arith, few, c.requires.few, same)
-
-pub invariant_of-self-2 : goal.invariant_of-self-2
-invariant_of-self-2 g c =
-    let at = (goal.at.invariant_of-self-2 g c).After-retain-2 in let few = length-Retains (KeepsAt g.F.FnMut) _ _ _ _ (shared g at) in
-    let slot = c.retain-2.new.self in
-    rw (c.unmark_unless-2.ensures, c.is_filled-2.ensures)
-    (AreSlots-shared_changed _ _ c.self.invariant c.args.index slot (past g at) (within g at) (λ some. omega (arith, some, few)))
-
-pub returns : goal.returns
-returns g c =
-    let at = (goal.at.returns g c).After-retain-2 in let slot = c.retain-2.new.self in (
-      slot.pairs,
-      rw (← c.self.view_is) (IsRowSet-shared _ _ c.self.invariant c.args.index slot (past g at) (within g at) _ refl),
-      rw (← c.self.view_is) (shared g at),
-      c.len-2.ensures,
-    )
+pub returns-clause-row : goal.returns-clause-row
+returns-clause-row g c =
+    let at = (goal.at.returns-clause-row g c).After-index_mut-slot in
+    let r = row g at in
+    let run = subst (λ ps. Retains (KeepsAt g.F.FnMut) c.args.f.now ps c.retain-count.ensures.row.0 c.retain-count.new.f) r.is c.retain-count.ensures.row.2 in
+    rw (← c.self.view_is) (c.retain-count.ensures.row.0, (done g (goal.at.returns-clause-row g c).After-retain-count r).rows, run, c.retain-count.ensures.row.3)

@@ -1,0 +1,20 @@
+use Rattle.std.proofs.Common.{◌≡◌, ◌-◌, length, take, drop}
+use Rattle.intmap_table.specs.Writes.{Writes, WritesAt, TakesPairMut}
+use Rattle.intmap_table.specs.Taking.{TakesEach}
+use Rattle.intmap_table.specs.Tables.Slots.{joined}
+use Rattle.intmap_table.specs.Tables.Rows.{IsRowWord, IsTable}
+use Rattle.intmap_table.proofs.LeadsLemmas.{Leads}
+use Rattle.intmap_table.proofs.table.closures.write_slots.Given as goal
+
+-- the closure wrote the values in the slots before this one, the rows are a table, and the word that is held says which of those left hold a pair
+abbrev pub invariant-loop-index : goal.invariant-loop-index
+invariant-loop-index g l = record {
+  callable : TakesEach (WritesAt g.F.FnMut) (TakesPairMut g.F.FnMut) l.f (joined (drop l.from l.slots.rows));
+  table : IsTable g.K.IntKey.number_of l.slots.rows;
+  len : length l.slots.rows ≡ length l.initial.slots.rows;
+  held : IsRowWord l.slots.rows l.from l.held.at l.held.word;
+  leads : Leads (Writes (WritesAt g.F.FnMut)) l.initial.f (joined l.initial.slots.rows) l.f (joined (take l.from l.slots.rows)) (joined (drop l.from l.slots.rows));
+}
+
+abbrev pub decreases-loop-index : goal.decreases-loop-index
+decreases-loop-index g l = length l.slots.rows - l.from

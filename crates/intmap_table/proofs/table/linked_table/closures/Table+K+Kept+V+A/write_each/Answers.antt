@@ -1,8 +1,0 @@
-use Rattle.intmap_table.proofs.Rows.TableLemmas.{walk_of-joined}
-use Rattle.intmap_table.proofs.table.linked_table.closures.Table+K+Kept+V+A.write_each.Goals as goal
-
-pub returns-clause-own : goal.returns-clause-own
-returns-clause-own g c = walk_of-joined g.K.IntKey.number_of c.write_slots.new.slots.rows c.write_slots.ensures.table
-
-pub returns-clause-pairs : goal.returns-clause-pairs
-returns-clause-pairs g c = rw (← c.self.view_is) c.write_slots.ensures.pairs

@@ -1,0 +1,14 @@
+use Rattle.std.proofs.Common.{◌≤◌, length}
+use Rattle.intmap_table.specs.Tables.Nodes.{row_in}
+use Rattle.intmap_table.proofs.Nodes.DroppedLemmas.{IsDropped}
+use Rattle.intmap_table.proofs.table.slots.writing.drop_row.Given as goal
+
+-- some of the pairs are left
+abbrev pub invariant-loop-slot : goal.invariant-loop-slot
+invariant-loop-slot g l = record {
+  left : IsDropped l.fn.pool l.fn.slot l.pool l.slot;
+  room : l.fn.pool.room ≤ l.pool.room;
+}
+
+abbrev pub decreases-loop-slot : goal.decreases-loop-slot
+decreases-loop-slot g l = length (row_in l.pool.nodes l.slot)

@@ -1,0 +1,84 @@
+//! A value of one slot is lent to be written, and all pairs are dropped.
+ghost use Rattle.std.specs.Prelude.{◌≡◌, ◌<◌, ◌≤◌, [], ℕ, length, slice_index_or};
+ghost use Rattle.intmap_table.specs.Classes.{slot_number};
+ghost use Rattle.intmap_table.specs.Tables.Nodes.{rows_in, AreLinked, IsSlot, IsSlotSet};
+ghost use Rattle.intmap_table.specs.Tables.Rows.{row_at};
+ghost use Rattle.intmap_table.specs.Tables.Slots.{AreMarked};
+
+use crate::bits::Bits;
+use crate::key::IntKey;
+use crate::linked::chain::seek;
+use crate::linked::pool::Pool;
+use crate::linked::row;
+use crate::linked::slot::Slot;
+use crate::table::slots::Slots;
+use crate::table::stored::Stored;
+use std::alloc::Allocator;
+
+/// Drops the pairs of a slot, from its front.
+fn drop_row<P: Drop, A: Allocator>(slot: &mut Slot<P>, pool: &mut Pool<P, A>)
+    requires { IsSlot pool.old.nodes slot.old }
+    ensures row { IsSlotSet pool.old slot.old [] pool.new slot.new }
+    ensures room { pool.old.room ≤ pool.new.room }
+{
+    while !slot.is_empty() {
+        row::take_front(slot, pool);
+    }
+}
+
+/// Drops the pairs of all slots, slot after slot. The bits mark those that hold a pair.
+fn drop_rows<K: IntKey, X: Drop, A: Allocator>(
+    bits: &Bits<A>,
+    slots: &mut Vec<Slot<(Stored<K>, X)>, A>,
+    pool: &mut Pool<(Stored<K>, X), A>,
+)
+    requires marks { AreMarked (rows_in slots.old.items pool.old.nodes) bits.now }
+    requires linked { AreLinked (λ p. slot_number K.number_of p.0 (length slots.old.items))
+        slots.old.items pool.old }
+    ensures linked { AreLinked (λ p. slot_number K.number_of p.0 (length slots.new.items))
+        slots.new.items pool.new }
+    ensures len { length slots.new.items ≡ length slots.old.items }
+    ensures empty { (i : ℕ)
+        → slice_index_or (rows_in slots.new.items pool.new.nodes) i [] ≡ [] }
+    ensures room { pool.old.room ≤ pool.new.room }
+{
+    for index in bits.iter() {
+        drop_row(&mut slots[index], pool);
+    }
+}
+
+impl<K: IntKey, X, A: Allocator> Slots<K, X, A> {
+    ghost use Rattle.std.specs.Borrow.{sem};
+    ghost use Rattle.intmap_table.specs.Lending.{slots_lends};
+
+    /// A mutable reference to the value of the pair at a place of a slot.
+    #[inline(always)]
+    pub(crate) fn value_mut_at(&mut self, index: usize, place: usize) -> &mut X
+        requires { place < length (row_at self.old index) }
+        ensures* writes_back { sem 𝓛 (slots_lends K.row X.row A.row K.IntKey.own K.PartialEq
+            A.Allocator self.entry index place result) }
+        ensures value { (p : K × X) → result.now ≡ (slice_index_or (row_at self.old index) place p).1 }
+    {
+        if place == 0 {
+            return self.slots[index].value_mut();
+        }
+        let Some((link, _)) = self.slots[index].get() else {
+            unreachable!();
+        };
+        let at = seek(&self.pool, link, place - 1);
+        self.pool.value_mut(at)
+    }
+}
+
+impl<K: IntKey, X: Drop, A: Allocator> Slots<K, X, A> {
+    /// Drops all pairs, slot after slot, and keeps the slots and the memory that they and the nodes
+    /// have.
+    pub(crate) fn clear(&mut self)
+        ensures len { length self.new.rows ≡ length self.old.rows }
+        ensures empty { (i : ℕ) → row_at self.new i ≡ [] }
+        ensures room { self.old.room ≤ self.new.room }
+    {
+        drop_rows(&self.bits, &mut self.slots, &mut self.pool);
+        self.bits.clear_all();
+    }
+}
