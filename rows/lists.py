@@ -1,19 +1,16 @@
 """Calls and commands on plain lists of pairs, and what they answer. A list has the bytes of each request for
 memory that a map makes, in their order, and so knows which call a refused one belongs to, and how much the
-call got before it. It keeps the room of each slot, and so knows how many bytes a map has."""
+call got before it. It keeps the room of its nodes, and so knows how many bytes a map has."""
 import copy
 import itertools
 
 MULTIPLIER = 11400714819323198549
 GREATEST = 2**64 - 1
 GREATEST_CAPACITY = 2**63
-# how many pairs behind the first of its slot the second block of a slot has room for
+# how many nodes there is at least room for where an insertion asks for nodes
 LEAST_ROOM = 4
-# the fewest slots that become lone ones
-LEAST_LONE = 16
-# the bytes of a word, of a pair of two numbers, and of the vector of a shared slot: three words, and a
-# reference to the allocator of the tests
-WORD, PAIR, VECTOR = 8, 16, 32
+# the bytes of a word, and of a pair of two numbers
+WORD, PAIR = 8, 16
 
 
 class TooLarge(Exception):
@@ -25,13 +22,12 @@ class NoMemory(Exception):
 
 
 class PlainList:
-    """Pairs by their places in a list that no growth touches, a number of slots, whether these are lone, and
-    a load factor. A pair takes `pair` bytes. And the bytes of each request for memory that a map would have
-    made, `asked`: those of a new one, and those of its calls since then, or since it was last emptied.
+    """Pairs by their places in a list that no growth touches, a number of slots, and a load factor. A pair
+    takes `pair` bytes. And the bytes of each request for memory that a map would have made, `asked`: those of
+    a new one, and those of its calls since then, or since it was last emptied.
 
-    A lone slot has room for one pair. A shared one has a vector for the others too. Slots are shared at first.
-    An insertion that grows them makes them lone where it may. One that puts a second pair into a lone slot
-    makes all of them shared. No other call changes that."""
+    A slot has room for its first pair. The further pairs of all slots have a node each, and there is room for
+    `room` nodes. An insertion, a growth and a clone ask for nodes. No call but a growth gives any back."""
 
     def __init__(self, slots=4, pair=PAIR):
         self.pairs = {}
@@ -39,9 +35,9 @@ class PlainList:
         self.next_place = 0
         self.factor = 909
         self.pair = pair
-        self.lone = False
+        self.room = 0
         self.set_slots(slots)
-        self.asked = self.table()
+        self.asked = self.blocks()
 
     def slot_of(self, key):
         return key * MULTIPLIER % self.slots
@@ -52,80 +48,36 @@ class PlainList:
             self.classes.setdefault(self.slot_of(key), []).append(place)
 
     def set_slots(self, slots):
-        """Each slot then has room for the pairs behind its first one, and for no more."""
         self.slots = slots
         self.sort_into_slots()
-        self.room = {slot: len(places) - 1 for slot, places in self.classes.items()}
 
-    def grow(self, slots, may_part=False):
-        """The slots are asked for, and their words of bits. Lone ones need nothing else."""
-        self.lone = self.lone or may_part and self.parts(slots)
-        if self.lone:
-            self.set_slots(slots)
-            self.asked += self.table()
-        else:
-            self.grow_shared(slots)
+    def further(self):
+        """How many pairs aren't the first ones of their slots."""
+        return len(self.pairs) - len(self.classes)
 
-    def parts(self, slots):
-        """Whether shared slots become lone ones where there are to be so many: none holds three pairs,
-        and no two of one slot stay together."""
-        if slots < LEAST_LONE:
-            return False
-        numbers = [[self.pairs[place][0] for place in places] for places in self.classes.values()]
-        return all(len(keys) < 2 or len(keys) == 2 and (keys[0] - keys[1]) % slots for keys in numbers)
-
-    def grow_shared(self, slots):
-        """The slots are asked for, their words of bits, a count for each part of the size before, a block
-        for each further slot that is to hold several pairs of an old one, and a buffer where an old slot
-        holds several, for the most behind a first one. The first slot that is to hold several of them
-        takes the block of the old slot."""
-        several = [(slot, places) for slot, places in sorted(self.classes.items()) if len(places) > 1]
-        parts = slots // self.slots
-        self.slots = slots
-        self.sort_into_slots()
-        self.asked += [*self.table(), WORD * parts]
-        for old, places in several:
-            block = self.room.pop(old)
-            numbers = {self.slot_of(self.pairs[place][0]) for place in places}
-            needing = sorted(slot for slot in numbers if len(self.classes[slot]) > 1)
-            self.room.update((slot, len(self.classes[slot]) - 1) for slot in needing)
-            self.asked += [self.room[slot] * self.pair for slot in needing[1:]]
-            if needing:
-                self.room[needing[0]] = block
-        if several:
-            self.asked.append((max(len(places) for _, places in several) - 1) * self.pair)
+    def grow(self, slots, more=0):
+        """The slots are asked for, their words of bits, and nodes for as many further pairs as there were before,
+        and for so many more."""
+        self.room = self.further() + more
+        self.set_slots(slots)
+        self.asked += self.blocks()
 
     def grow_with(self, slots, key, value):
-        """Adds a pair and grows. Where none of its slot goes to the same new slot, the others move first, and
-        it gets a slot of its own. Otherwise room is made for it, as without a growth. Lone slots then become
-        shared: a block is asked for, shared slots, and their words of bits."""
-        if not any((self.pairs[place][0] - key) % slots == 0 for place in self.classes.get(self.slot_of(key), [])):
-            self.grow(slots, True)
-            self.append(key, value)
-        elif self.lone:
-            self.lone = False
-            self.set_slots(slots)
-            self.asked += [self.pair, *self.table()]
-            self.room[self.slot_of(key)] = 1
-            self.append(key, value)
-        else:
-            self.make_room(key)
-            self.append(key, value)
-            self.grow(slots)
+        """Grows and adds a pair. Where one of its slot goes to the same new slot, there is room for one node more."""
+        others = self.classes.get(self.slot_of(key), [])
+        stays = any((self.pairs[place][0] - key) % slots == 0 for place in others)
+        self.grow(slots, 1 if stays else 0)
+        self.append(key, value)
+
+    def needs_room(self, key):
+        """Whether the pair of a new key needs a node, and all nodes have a pair."""
+        return self.slot_of(key) in self.classes and self.further() == self.room
 
     def make_room(self, key):
-        """A block is asked for where the slot holds a pair and is full. It has room for one pair more
-        where it is the first one, and else for twice as many. If the slot is a lone one, shared slots are
-        asked for too."""
-        slot = self.slot_of(key)
-        held = len(self.classes.get(slot, []))
-        room = self.room.get(slot, 0)
-        if held and held > room:
-            self.room[slot] = held if held == 1 else max(2 * room, LEAST_ROOM)
-            self.asked.append(self.room[slot] * self.pair)
-            if self.lone:
-                self.asked.append(self.shared_bytes(self.slots))
-                self.lone = False
+        """Twice as many nodes are asked for where that is so."""
+        if self.needs_room(key):
+            self.room = max(2 * self.room, LEAST_ROOM)
+            self.asked += self.nodes()
 
     def get(self, key):
         return self.pairs[self.place_of[key]][1] if key in self.place_of else None
@@ -135,7 +87,10 @@ class PlainList:
         if key not in self.place_of:
             return None
         place, value = self.place_of.pop(key), self.get_at(key)
-        last = self.classes[self.slot_of(key)].pop()
+        slot = self.slot_of(key)
+        last = self.classes[slot].pop()
+        if not self.classes[slot]:
+            del self.classes[slot]
         if last != place:
             self.pairs[place] = self.pairs[last]
             self.place_of[self.pairs[place][0]] = place
@@ -150,8 +105,7 @@ class PlainList:
         return old
 
     def retain(self, keeps):
-        """Each pair is asked about once, in the order of the walk. Those that stay keep their places,
-        and each slot the room that it has."""
+        """Each pair is asked about once, in the order of the walk. Those that stay keep their places."""
         kept = [(key, value) for key, value in self.walk() if keeps(key, value)]
         self.place_of = {key: self.place_of[key] for key, _ in kept}
         self.pairs = {place: self.pairs[place] for place in sorted(self.place_of.values())}
@@ -200,16 +154,14 @@ class PlainList:
         return taken
 
     def cloned(self):
-        """The same list, of which each slot has room for as many pairs as it holds, and for no more."""
+        """The same list, with room for as many nodes as it has further pairs, and for no more."""
         made = copy.deepcopy(self)
-        made.set_slots(self.slots)
+        made.room = self.further()
         return made
 
     def requests_of_a_clone(self):
-        """The bytes of the slots, of the words of bits, and of a block for each slot that holds two pairs
-        or more."""
-        behind = [len(places) - 1 for _, places in sorted(self.classes.items())]
-        return [*self.table(), *[count * self.pair for count in behind if count > 0]]
+        """The bytes of all that the clone has."""
+        return self.cloned().blocks()
 
     def bindings(self):
         return dict(self.pairs.values())
@@ -271,7 +223,7 @@ class PlainList:
         """Adds the pair of a key that has none."""
         length = len(self.pairs) + 1
         slots = self.wanted(length, self.factor) if length // 4 % 2 else self.slots
-        if refuses and (slots > self.slots or self.classes.get(self.slot_of(key))):
+        if refuses and (slots > self.slots or self.needs_room(key)):
             raise NoMemory
         if slots > self.slots:
             self.grow_with(slots, key, value)
@@ -300,22 +252,17 @@ class PlainList:
             self.grow(slots)
         self.factor = factor
 
-    def lone_bytes(self, slots):
-        """The bytes of lone slots, each with a pair and a word that says whether it has one."""
-        return (self.pair + WORD) * slots
-
-    def shared_bytes(self, slots):
-        """The bytes of shared slots, each with a vector too."""
-        return self.lone_bytes(slots) + VECTOR * slots
-
     def table(self):
-        """The bytes of the slots, and of the words of bits."""
-        slots = self.lone_bytes(self.slots) if self.lone else self.shared_bytes(self.slots)
-        return [slots, WORD * -(-self.slots // 64)]
+        """The bytes of the slots, each with a pair and a word that has its link, and of the words of bits."""
+        return [(self.pair + WORD) * self.slots, WORD * -(-self.slots // 64)]
+
+    def nodes(self):
+        """The bytes of the nodes, each of which is as large as a slot. None are asked for where there are none."""
+        return [(self.pair + WORD) * self.room] if self.room else []
 
     def blocks(self):
-        """The bytes of each block that a map has: of its table, and of the rooms."""
-        return [*self.table(), *[room * self.pair for room in self.room.values() if room]]
+        """The bytes of each block that a map has."""
+        return [*self.table(), *self.nodes()]
 
     def shown(self, key):
         return key
@@ -579,7 +526,7 @@ CALLS = {
     ("len", 0): lambda it, _: str(len(it.pairs)),
     ("is_empty", 0): lambda it, _: truth(not it.pairs),
     ("capacity", 0): lambda it, _: str(it.slots),
-    ("load", 0): lambda it, _: str(sum(1 for places in it.classes.values() if places)),
+    ("load", 0): lambda it, _: str(len(it.classes)),
     ("load_rate", 0): lambda it, _: str(len(it.pairs) * 1000 // it.slots),
     ("assert_count", 0): lambda it, _: "true",
     ("collisions", 0): lambda it, refuses: collisions(it, refuses, walk),
