@@ -3,8 +3,8 @@
 The eraser works on tokens. This check works on lines: `rt fmt` puts each clause and each ghost on lines of
 its own, and closes each item with a brace at the item's depth. Both ways must leave the same Rust:
 
-- Each token of an erased file is a token of its source, in the same order. Its comments are lines of the
-  source, in the same order.
+- Each token of an erased file is a token of its source, in the same order, but for what OTHERWISE names. Its comments
+  are lines of the source, in the same order.
 - No token is left out but those of contracts, of ghosts, of the bounds of types, and of the items and the lines named
   here. An `impl Drop` that is left out drops fields alone.
 - What is private to a crate of Rattle is private to a module.
@@ -33,16 +33,12 @@ LEFT = [
     "intmap_set/src/set/iter/extract.rt",
     "intmap_set/src/set/owned.rt",
 ]
-# and those below these
-LEFT_BELOW = ("intmap_table/src/linked", "intmap_table/src/table/linked")
 # lines of sources that are left out alone
 LEFT_LINES = {
     "#![tactic(auto)]",
     "#[derive(Drop)]",
     "mod decimal;",
     "pub mod lent;",
-    "mod linked;",
-    "mod linked_table;",
     "pub mod laws;",
     "pub(crate) mod json;",
     "pub use map::json::JsonCause;",
@@ -96,6 +92,10 @@ NOT_CALLED = {
         pub fn from_array<const N: usize>(alloc: A,""",
     "intmap_set/src/set/traits.rt": """
         impl<K: IntKey + fmt::Debug, A: Allocator + Copy> fmt::Debug for IntSet<K, A> {""",
+    "intmap_table/src/linked/chain.rt": """
+        pub(crate) fn cut_behind<P, A: Allocator>(""",
+    "intmap_table/src/linked/row.rt": """
+        pub(crate) fn remove<P, A: Allocator>(""",
     "intmap_table/src/table/slots.rt": """
         pub(crate) fn has_pair(&self,""",
     "intmap_table/src/table/slots/pairs.rt": """
@@ -107,6 +107,8 @@ NOT_CALLED = {
         pub fn step(&self,
         pub fn cut(&mut self,""",
 }
+# names that only those items have, by source, each with what follows it in the list that it is used by
+NOT_NAMED = {"intmap_table/src/linked/row.rt": ["cut_behind, "]}
 # how the items of sources begin that are left out
 LEFT_ITEMS = re.compile(r"impl\b[^;]* (Model|Drop) for |unsafe impl (Send|Sync) for Tally \{\}")
 # what an `impl Drop` may have that is left out: it takes the value apart, lets the prover see it, and drops a field
@@ -121,6 +123,11 @@ OTHERWISE = [
     (" + Drop", ""),
     ("use std::marker::{Model, Send, Sync};", ""),
     ("fn fmt<W: fmt::Write>(&self, f: &mut fmt::Formatter<W>)", "fn fmt(&self, f: &mut fmt::Formatter<'_>)"),
+    # a guard holds the slots while pairs move
+    (
+        "        move_rows(self, &mut new, placed);",
+        "        super::mending::moving(self, &mut new, |old, new| move_rows(old, new, placed));",
+    ),
 ]
 # the first line of a type, up to the bound of its keys, which is left out
 BOUND = re.compile(r"(?<=\n)((?:pub |pub\(crate\) )?(?:struct|enum) [^\n]*?K): IntKey")
@@ -196,6 +203,8 @@ def code_of_source(text, source):
     """The lines of code that a source has for Rust."""
     for theirs, ours in OTHERWISE:
         text = text.replace(theirs, ours)
+    for name in NOT_NAMED.get(source, []):
+        text = text.replace(name, "", 1)
     text = BOUND.sub(r"\1", text)
     lines, kept, i = without_contracts(text.split("\n")), [], 0
     while i < len(lines):
@@ -323,7 +332,7 @@ def faults(folder):
     for crate in CRATES.values():
         for path in glob.glob(f"crates/{crate}/src/**/*.rt", recursive=True):
             source = path.removeprefix("crates/")
-            if (source in erased) == (source in LEFT or source.startswith(LEFT_BELOW)):
+            if (source in erased) == (source in LEFT):
                 wrong.append(f"{path} is {'' if source in erased else 'not '}erased")
     named = re.findall(r"^proved/\S+\.rs: \w+$", read(f"{folder}/{PAGE}"), re.M)
     if sorted(named) != sorted(asks()):

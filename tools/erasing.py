@@ -1,4 +1,4 @@
-"""The rules by which a Rattle source becomes Rust. Each only leaves text out, but for rules 7 to 9.
+"""The rules by which a Rattle source becomes Rust. Each only leaves text out, but for rules 7 to 9 and 11.
 
 1.  A ghost is left out, with its doc comment: `ghost use ..;`, `ghost name = {..};`, `ghost name: {..},`.
     So is a block of a doc comment, which shows calls as Rattle makes them.
@@ -10,13 +10,14 @@
 5.  An `impl Drop` is left out if its body is one of DROPS: those drop fields, as Rust does by itself.
 6.  The modules of LEFT_OUT are left out, with the lines that name them. If the crate has a file of that
     name written by hand, that file takes the module's place and the lines stay. So are the items of UNCALLED,
-    with their doc comments, and an `impl` of a type that has none left.
+    with their doc comments, an `impl` of a type that has none left, and the names of UNNAMED in `use` lists.
 7.  The one form of `fmt` that Rattle has becomes Rust's.
 8.  A path names a module in place of a crate: `intmap_table::`, `crate::`, `pub(crate)` and `std::`.
 9.  A file that uses anything uses the names of `memory` too. It gets the lines of ADDED, each of which
     names a file written by hand.
 10. A `struct` or an `enum` leaves out the bound of its keys, which Rust needs where a call is made alone. So a struct
     of a program can have a map, and name no bound.
+11. The calls of HELD are made under a guard, which is written by hand.
 
 What no rule knows ends the erasing: a word of Rattle that is left, an `unsafe`, an unknown `impl Drop`, a
 module or an item that isn't there.
@@ -27,7 +28,7 @@ import re
 HOMES = {"intmap_table": "table", "intmap": "map", "intmap_set": "set"}
 
 LEFT_OUT = {
-    "intmap_table": ["lent", "linked", "table/linked", "table/linked_table"],
+    "intmap_table": ["lent"],
     "intmap": ["decimal", "laws", "map/iter/cursor", "map/iter/written", "map/json"],
     "intmap_set": ["laws", "set/iter/extract", "set/owned"],
 }
@@ -55,9 +56,21 @@ UNCALLED = {
     "intmap/map/traits": ["impl<K: IntKey + fmt::Debug, V: fmt::Debug, A: Allocator + Copy> fmt::Debug for IntMap"],
     "intmap_set/set/build": ["pub fn from_array<"],
     "intmap_set/set/traits": ["impl<K: IntKey + fmt::Debug, A: Allocator + Copy> fmt::Debug for IntSet"],
+    "intmap_table/linked/chain": ["pub(crate) fn cut_behind<"],
+    "intmap_table/linked/row": ["pub(crate) fn remove<"],
     "intmap_table/table/slots": ["pub(crate) fn has_pair("],
     "intmap_table/table/slots/pairs": ["pub(crate) fn remove_at("],
     "intmap_table/table/walk": ["pub struct Cursor {", "impl Cursor {", "fn seek<", "pub fn step(", "pub fn cut("],
+}
+# What a source uses for items of UNCALLED alone, by the source: names in its `use` lists.
+UNNAMED = {"intmap_table/linked/row": ["cut_behind"]}
+
+# Calls that run a key's `number` while pairs are on their way, by the source, each with what is written in its place.
+HELD = {
+    "intmap_table/table/slots/grow": (
+        "move_rows(self, &mut new, placed);",
+        "super::mending::moving(self, &mut new, |old, new| move_rows(old, new, placed));",
+    ),
 }
 
 DROPS = [
@@ -79,8 +92,10 @@ PRELUDE = "use crate::memory::prelude::*;"
 ADDED_NOTE = "// Only Rust has what follows. It is tested, not proved."
 ADDED = {
     "intmap_table/bits": ["pub mod written;"],
-    "intmap_table/lone": ["mod written;"],
-    "intmap_table/slot": ["mod mending;", "mod written;"],
+    "intmap_table/linked/closures": ["pub mod written;"],
+    "intmap_table/linked/node": ["mod written;"],
+    "intmap_table/linked/pool": ["pub mod written;"],
+    "intmap_table/linked/slot": ["mod written;"],
     "intmap_table/table": ["mod mending;", "pub mod written;"],
     "intmap_table/table/slots": ["mod mending;", "pub mod written;"],
     "intmap/entry": ["mod mending;"],
@@ -227,6 +242,25 @@ def without_uncalled(text, where):
     return re.sub(r"^impl\b(?:(?! for )[^{;])*\{\s*\}\n", "", text, flags=re.M)
 
 
+def without_unnamed(text, where):
+    """Rule 6 for names."""
+    for name in UNNAMED.get(where, []):
+        text, count = re.subn(rf"^(use [^;]*\{{[^;]*?)\b{name}\b(?:,\s*|(?=\s*\}}))", r"\1", text, flags=re.M)
+        if count != 1 or re.search(rf"\b{name}\b", text):
+            raise Refused(f"`{name}` isn't named once, in a `use` list")
+    return text
+
+
+def with_held(text, where):
+    """Rule 11."""
+    if where not in HELD:
+        return text
+    call, held = HELD[where]
+    if call not in text:
+        raise Refused(f"there is no call `{call}`")
+    return text.replace(call, held)
+
+
 def without_attributes(text):
     """Rule 3."""
     text = re.sub(r"^#!\[tactic\(\w+\)\]\n", "", text, flags=re.M)
@@ -304,6 +338,7 @@ def erased(text, crate, name, by_hand):
     """The Rust text of the source `name` of a crate. `by_hand` are the modules that are written by hand."""
     text = tidied(without_ghosts(without_shown(text)))
     text = tidied(without_uncalled(without_impls(text), f"{crate}/{name}"))
+    text = with_held(without_unnamed(text, f"{crate}/{name}"), f"{crate}/{name}")
     text = without_attributes(text).replace(FMT, FMT_OF_RUST)
     text = without_bounds(without_markers(without_modules(text, crate, name, by_hand)))
     for token in TOKEN.findall(text):

@@ -16,10 +16,10 @@
 //!
 //! You want | Take
 //! ---|---
-//! the fastest map for keys of any kind, or little memory | std's or hashbrown's with a hasher that multiplies. With random keys an insertion here takes 2.5 to 4.2 times std's time, a look-up 1.3 to 4.2, a removal 0.7 to 1.8, a step of `iter` 1.5 to 4, and a map three times std's bytes
-//! to clone, collect, drain, clear or drop whole maps | the same. Here `clone` takes 2.5 to 40 times std's time, `clear` 20 to 120, `into_iter` and `drain` 2 to 14, `collect` 2 to 7.5, and `extend` of a new map by random keys 5 to 13. A `drop` of random keys goes through all slots, where std's frees one block
+//! the fastest map for keys of any kind, or little memory | std's or hashbrown's with a hasher that multiplies. With random keys an insertion here takes 2.5 to 4.2 times std's time, a look-up 1.3 to 4.2, a removal 0.7 to 1.8, a step of `iter` 1.5 to 4, and a map 1.6 to 1.9 times std's bytes
+//! to clone, collect, drain, clear or drop whole maps | the same. Here `clone` takes 2.5 to 40 times std's time, `clear` 20 to 120, `into_iter` and `drain` 2 to 14, `collect` 2 to 7.5, and `extend` of a new map by random keys 5 to 13. A `drop` goes through the slots only if values have something to drop
 //! ids with hardly a gap, inserted in order | this. A look-up of a present id takes 0.5 to 1.05 of std's time, a removal 0.3 to 0.8, an insertion 0.5 to 0.95 but 0.9 to 1.9 where room was made, and a map 1.4 times std's bytes. Of 20,000 ids, look-ups of absent ones in shuffled order take 1.4 to 2 times std's time
-//! ids with gaps or a stray key, or inserted in another order | std's, or measure. Here an insertion takes 1.6 to 1.9 times std's time with a tenth of the ids missing, 1.9 to 3 times in shuffled order, and 4 to 6.3 times with half of the ids missing or with even ids. One stray key whose slot is taken doubles the bytes of a map of ids that grew. A look-up of a present id then takes 0.65 to 2.3 times std's time, and an insertion 1.1 to 1.3
+//! ids with gaps or a stray key, or inserted in another order | std's, or measure. Here an insertion takes 1.6 to 1.9 times std's time with a tenth of the ids missing, 1.9 to 3 times in shuffled order, and 4 to 6.3 times with half of the ids missing or with even ids. A look-up of a present id takes, beside a stray key whose slot is taken, 0.65 to 2.3 times std's time, and an insertion 1.1 to 1.3
 //! a program that goes on when memory fails | this: it returns the failure and the value, and the map is as it was. std's has `try_reserve` alone
 //! the same order on every run and machine | this, or `indexmap` (in order of insertion), or `BTreeMap` (sorted)
 //! look-ups, removals and growth that are proved | this
@@ -29,7 +29,9 @@
 //! Each figure is the time or the bytes of this map by those of the other, where none is named
 //! std's with a multiplying hasher. It is the range of what several programs found with 1,000 and
 //! 20,000 keys and values of type `u64`. A time is the least of many rounds in which the maps took
-//! turns, on machines that were mostly busy. Bytes were counted at the allocator.
+//! turns, on machines that were mostly busy. Bytes were counted at the allocator. The times are those
+//! of version 1.0.0: since then random keys take less time, and to insert ids in order takes 1.8
+//! times as long.
 //!
 //! The traits of serde are in the crate `intmap_proved_serde`.
 //!
@@ -38,15 +40,15 @@
 //! The calls are those of std's `HashMap` and `HashSet`. Before you take one for the other:
 //!
 //! - Keys are passed by value. Closures get them by value too, except `or_insert_with_key`'s.
-//! - `map.drain();` empties nothing: a step removes a pair, and what it didn't return stays. Where
-//!   thousands of keys share a slot, steps of `drain` and `extract_if` are slow, those of
-//!   `mem::take(&mut map).into_iter()` aren't.
+//! - `map.drain();` empties nothing: a step removes a pair, and what it didn't return stays.
 //! - `capacity`, `with_capacity(128)` and `reserve(128)` count slots: 128 pairs may double them.
 //!   [`with_room_for`](IntMap::with_room_for) and [`reserve_pairs`](IntMap::reserve_pairs) count
 //!   pairs, [`reserve_members`](IntSet::reserve_members) members. Keys that share a slot still
 //!   allocate.
+//! - [`iter_mut`](IntMap::iter_mut) and [`values_mut`](IntMap::values_mut) cost *O*(*n* + *c*) before
+//!   their first step if keys share a slot: [`for_each_mut`](IntMap::for_each_mut) doesn't.
 //! - `new`, `default` and `mem::take` allocate, so no map is a constant. A map that begins with
-//!   room writes all of it at once, 48 bytes per slot for keys and values of 64 bits.
+//!   room writes all of it at once, 24 bytes per slot for keys and values of 64 bits.
 //! - `insert` of a present key moves its pair to the end of its slot, so later in the order.
 //!   [`first_key_value`](IntMap::first_key_value) returns the first pair in that order.
 //! - A map's `insert`, `extend` and `collect` store the new key of a present one, where std keeps
@@ -121,9 +123,12 @@
 //!
 //! A closure, a `drop`, a `clone`, an iterator or a key's `number` may panic in the middle of a
 //! call. The map is then whole: each of its pairs is found, walked and counted once, and no value
-//! is dropped twice. What the call did before stays done, and the pairs that it had in hand are
-//! dropped: if a key's `number` panics as the map grows, those of one slot at most, and those for
-//! which there is no memory to move them back. [`IntKey`] says what a type of keys owes.
+//! is dropped twice. What the call did before stays done, and the pair that it had in hand, such as
+//! one that it inserts or removes, is dropped. If a key's `number` panics as the map grows, all pairs
+//! that were in the map stay in it and go back to their old slots, which takes no memory: the
+//! capacity is the old one too, but pairs of one slot may have another order.
+//! [`shrink_to`](IntMap::shrink_to) and `clone_from` say what they lose. [`IntKey`] says what a type
+//! of keys owes.
 //!
 //! # Threads
 //!

@@ -30,22 +30,25 @@ mod walk;
 ///
 /// # Memory
 ///
-/// A slot takes the space of a pair and up to a word, even if it is empty, so put values above some
-/// 200 bytes into a `Box`. The slots of a new map are *shared*: each takes 24 bytes more, and can
-/// have several pairs. They become *lone* once an insertion makes the map grow to 16 slots or more
-/// with no two pairs in one slot. A second pair in a lone slot makes all slots shared again. A map
-/// that was made with room, or by `collect`, begins with shared slots too: with ids it takes up to
-/// twice the memory of one that grew. A clone has slots of the same form.
+/// A slot has its first pair. The further pairs of all slots lie in the nodes of one vector, and
+/// links join those of a slot to a chain, so a call on one of them takes time in the pairs of its
+/// slot. A slot and a node take the space of a pair and 8 bytes, or more where the alignment asks for
+/// it: 24 bytes each for keys and values of 64 bits. A slot takes them even if it is empty, so put
+/// values above some 200 bytes into a `Box`.
 ///
-/// The pairs of a slot behind its first lie in a block. Each slot keeps the block for the most
-/// pairs that it ever had, as long as the capacity stays: no removal gives it back. So memory
-/// grows slowly while new keys rise and old ones are removed at random: 10,000 live pairs of 56
-/// bytes took 1.05 MB at first, 2.2 MB after 10 times as many removals, and 5.1 MB after 1000
-/// times. Their [`clone`](Clone::clone) took 1.5 MB. Keys that come again find their slot's block.
+/// A new map has no nodes, even if it is made with room. A second pair in a slot takes a node that a
+/// removal has freed, if there is one. If there is none, the vector makes room as Rust's `Vec` does.
+/// A map that grows allocates its new slots, and nodes for as many pairs as were behind first ones,
+/// before any pair moves; the old slots and nodes are there until all have moved. Removals
+/// and `clear` give no memory back, but freed nodes serve all slots. There are at most four nodes,
+/// or twice as many as the most pairs that were behind the first ones of their slots at one time. So
+/// while new keys rose and old ones were removed at random, 10,000 live pairs of 56 bytes took 1.05 MB
+/// at first, and 1.18 MB after 10 and after 1000 times as many removals. Their
+/// [`clone`](Clone::clone) took 1.13 MB.
 ///
-/// With keys and values of 64 bits, std's map takes a third of the bytes for random keys and 0.7
-/// for ids without gaps, as counted at the allocator from 100 to 1,000,000 pairs; twice that for a
-/// while, when it has grown and this map hasn't. An empty map allocates 200 bytes beside the 104 of
+/// With keys and values of 64 bits, std's map takes 0.53 to 0.61 of the bytes for random keys and
+/// 0.7 for ids without gaps, as counted at the allocator; more for a while, when it has grown and
+/// this map hasn't. An empty map allocates 104 bytes beside the 120 of
 /// [`IntMap`] itself, std's nothing beside its 48.
 ///
 /// # Examples

@@ -11,6 +11,6 @@
 
 pub mod map;
 pub mod set;
-// `cast_unsigned` of `memory` stands in for Rust's before 1.87
-#[allow(clippy::incompatible_msrv)]
+// `cast_unsigned` of `memory` stands in for Rust's before 1.87, and invariants name counters of loops
+#[allow(clippy::incompatible_msrv, unused_variables)]
 pub mod table;

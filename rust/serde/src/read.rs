@@ -9,9 +9,9 @@ use serde::{Deserialize, Deserializer};
 /// of slots is rounded up to a power of two.
 const CLAIMED: usize = 1 << 20;
 
-/// How many slots are allocated for a claimed length. Each has room for a pair and three words more.
+/// How many slots are allocated for a claimed length. Each takes a pair and a word.
 fn capacity_for<P>(claimed: Option<usize>) -> usize {
-    claimed.unwrap_or(0).min(CLAIMED / (size_of::<P>() + 3 * size_of::<usize>()))
+    claimed.unwrap_or(0).min(CLAIMED / (size_of::<P>() + size_of::<usize>()))
 }
 
 /// The error of a deserializer for a failed insertion or allocation.

@@ -33,7 +33,7 @@ impl<K: IntKey, V> IntMap<K, V> {
 
     /// Returns an empty map, with a load factor of 0.909. Its capacity is the least power of two
     /// that is at least `capacity`, and at least 2. The cost is *O*(*c*): all slots are written at
-    /// once, each with 48 bytes if keys and values are `u64`.
+    /// once, each with 24 bytes if keys and values are `u64`.
     ///
     /// `capacity` counts slots, not pairs: the insertion of 128 pairs into a map that was made with
     /// 128 doubles them. [`with_room_for`](Self::with_room_for) counts pairs.

@@ -43,8 +43,10 @@ impl<K: IntKey, V> IntMap<K, V> {
         guarded!(&mut self.map, |map| map.retain_mut(&mut keep))
     }
 
-    /// Removes all pairs. The capacity, the load factor and the memory stay. If the drop of a value
-    /// panics, the map stays whole. The cost is *O*(*n* + *c*).
+    /// Removes all pairs. The capacity, the load factor and the memory stay. Values are dropped in
+    /// iteration order, where the drop of a map drops those of all first pairs of slots before the
+    /// others. If the drop of a value panics, the map stays whole, without the pairs up to that one.
+    /// The cost is *O*(*n* + *c*).
     ///
     /// Proved of `IntMap::clear`: `state`, `updates`, `len`.
     ///
@@ -61,8 +63,7 @@ impl<K: IntKey, V> IntMap<K, V> {
     ///
     /// Unlike std's, it leaves the pairs that it didn't return if it is dropped early: they stay in
     /// the map, in their order. They also stay if it is forgotten. The capacity and the load factor
-    /// stay. A step costs *O*(*s*), all of them with the look for the next slots *O*(*n s* + *c*).
-    /// Where thousands of keys share a slot, `mem::take(&mut map).into_iter()` is faster.
+    /// stay. All steps together cost *O*(*n* + *c*), however many keys share a slot.
     ///
     /// Proved of `IntMap::drain`: `state`, `next_gives`.
     ///

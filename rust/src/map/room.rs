@@ -8,9 +8,9 @@ impl<K: IntKey, V> IntMap<K, V> {
     /// Returns an empty map with room for so many pairs: the capacity is the least power of two in
     /// which they meet the load factor of a new map, 0.909. The cost is *O*(*c*).
     ///
-    /// Insertions of so many keys then add no slots. Keys that share a slot still allocate. The
-    /// slots are [shared](IntMap#memory), and all are written at once. Where
-    /// [`try_with_room_for`](Self::try_with_room_for) fails, this call panics or ends the process.
+    /// Insertions of so many keys then add no slots. Keys that share a slot still allocate. All slots
+    /// are written at once. Where [`try_with_room_for`](Self::try_with_room_for) fails, this call
+    /// panics or ends the process.
     ///
     /// ```
     /// let mut map = intmap_proved::IntMap::with_room_for(1000);
@@ -43,9 +43,8 @@ impl<K: IntKey, V> IntMap<K, V> {
     /// that follow one another share no slot if they and the present keys lie within as many numbers
     /// in a row as there are slots. It is proved that their insertions can't fail in a map with slots
     /// enough, and tested that this call makes enough. With a load factor above 1, a map that has too
-    /// few slots gets at least one for each present pair. The slots keep their
-    /// [form](IntMap#memory). Where [`try_reserve_pairs`](Self::try_reserve_pairs) fails, this call
-    /// panics or ends the process.
+    /// few slots gets at least one for each present pair.
+    /// Where [`try_reserve_pairs`](Self::try_reserve_pairs) fails, this call panics or ends the process.
     ///
     /// ```
     /// let mut map = intmap_proved::IntMap::from([(21u64, 'a')]);
@@ -100,9 +99,8 @@ impl<K: IntKey, V> IntMap<K, V> {
     /// *c*), or *O*(1) if the capacity stays.
     ///
     /// The map then has the order of a new one of that capacity into which the pairs were inserted
-    /// in iteration order. The load factor stays. For a while there are both maps. The new slots
-    /// are [shared](IntMap#memory), so half as many of them may take more memory than lone ones
-    /// took. If the capacity stays, no memory is given back.
+    /// in iteration order. The load factor stays. For a while there are both maps. If the capacity
+    /// stays, no memory is given back.
     ///
     /// Where [`try_shrink_to`](Self::try_shrink_to) fails, this call ends the process. If a key's
     /// `number` panics, the map keeps the pairs that weren't moved yet, and the others are dropped.
@@ -148,8 +146,8 @@ impl<K: IntKey, V> IntMap<K, V> {
     }
 
     /// Undoes moves to a smaller map, of which one failed at this pair. The pairs that weren't moved
-    /// are those of its slot that were behind it, and those of later slots. Each slot has memory for
-    /// its pairs, so no insertion allocates.
+    /// are those of its slot that were behind it, and those of later slots. The nodes that the moved
+    /// pairs had are free, so no insertion allocates.
     fn take_back(&mut self, small: IntMap<K, V>, key: K, value: V) {
         let mask = self.capacity() as u64 - 1;
         let shares = |other: K| (other.number() ^ key.number()) & mask == 0;

@@ -19,7 +19,12 @@ impl<K: IntKey, V> IntMap<K, V> {
     }
 
     /// Returns an iterator over the pairs, in iteration order, by which the values can be changed.
-    /// The cost is that of [`iter`](Self::iter).
+    /// It doesn't allocate. All steps together cost *O*(*n* + *c*), and so does this call itself if
+    /// keys share a slot.
+    ///
+    /// Rust lends the elements of a vector one by one in the order in which they lie there. So this
+    /// call first moves the [nodes](IntMap#memory) to where they lie in iteration order. If they lie
+    /// so already, it only reads their links. [`for_each_mut`](Self::for_each_mut) moves none.
     ///
     /// ```
     /// let mut map = intmap_proved::IntMap::from([(0u64, 1), (1, 2)]);
@@ -62,7 +67,7 @@ impl<K: IntKey, V> IntMap<K, V> {
     }
 
     /// Returns an iterator over the values, in iteration order, by which they can be changed. The
-    /// cost is that of [`iter`](Self::iter).
+    /// cost is that of [`iter_mut`](Self::iter_mut).
     ///
     /// ```
     /// let mut map = intmap_proved::IntMap::from([(0u64, 1), (1, 2)]);

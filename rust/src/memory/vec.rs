@@ -1,6 +1,5 @@
 //! A vector whose allocations may fail.
 use crate::memory::alloc::{AllocError, Allocator, Global};
-use core::marker::PhantomData;
 use core::ops::{Deref, DerefMut};
 
 /// Rust's `Vec` with the handle of an allocator beside it. Each call that allocates may fail.
@@ -50,12 +49,6 @@ impl<T, A: Allocator> Vec<T, A> {
         &self.alloc
     }
 
-    /// The number of items that there is room for.
-    #[inline]
-    pub fn capacity(&self) -> usize {
-        self.items.capacity()
-    }
-
     /// Makes room for `additional` items more, and for further ones if it allocates.
     pub fn reserve(&mut self, additional: usize) -> Result<(), AllocError> {
         self.items.try_reserve(additional).map_err(|_| AllocError)
@@ -73,68 +66,15 @@ impl<T, A: Allocator> Vec<T, A> {
         self.items.push(item);
     }
 
-    /// Moves all items of `other` to the end.
-    pub fn append(&mut self, other: &mut Vec<T, A>) -> Result<(), AllocError> {
-        self.reserve(other.items.len())?;
-        self.items.append(&mut other.items);
-        Ok(())
-    }
-
-    /// Removes the last item.
-    #[inline]
-    pub fn pop(&mut self) -> Option<T> {
-        self.items.pop()
-    }
-
-    /// Removes an item. The last one takes its place.
-    #[inline]
-    pub fn swap_remove(&mut self, index: usize) -> T {
-        self.items.swap_remove(index)
-    }
-
-    /// Removes an item. Those behind it move up by one place.
-    pub fn remove(&mut self, index: usize) -> T {
-        self.items.remove(index)
-    }
-
     /// Drops all items but the first `len`.
     pub fn truncate(&mut self, len: usize) {
         self.items.truncate(len);
-    }
-
-    /// Drops the items for which the closure returns `false`. The others keep their order.
-    pub fn retain_mut<F: FnMut(&mut T) -> bool>(&mut self, f: F) {
-        self.items.retain_mut(f);
-    }
-
-    /// Drops all items, and keeps the room.
-    pub fn clear(&mut self) {
-        self.items.clear();
-    }
-
-    /// The items.
-    #[inline]
-    pub fn as_slice(&self) -> &[T] {
-        &self.items
     }
 
     /// The items, to be written.
     #[inline]
     pub fn as_mut_slice(&mut self) -> &mut [T] {
         &mut self.items
-    }
-
-    /// Gives back the room that no item needs. It moves the items to a smaller block, and keeps
-    /// the present one if that allocation fails: Rust's `shrink_to_fit` would end the process.
-    pub fn shrink_to_fit(&mut self) {
-        if self.items.capacity() == self.items.len() {
-            return;
-        }
-        let mut made = alloc::vec::Vec::new();
-        if made.try_reserve_exact(self.items.len()).is_ok() {
-            made.append(&mut self.items);
-            self.items = made;
-        }
     }
 }
 
@@ -154,31 +94,6 @@ impl<T, A: Allocator> DerefMut for Vec<T, A> {
     }
 }
 
-impl<T, A: Allocator> IntoIterator for Vec<T, A> {
-    type Item = T;
-    type IntoIter = IntoIter<T, A>;
-
-    #[inline]
-    fn into_iter(self) -> IntoIter<T, A> {
-        IntoIter { items: self.items.into_iter(), allocator: PhantomData }
-    }
-}
-
-/// The elements of a vector by value.
-pub struct IntoIter<T, A: Allocator> {
-    items: alloc::vec::IntoIter<T>,
-    allocator: PhantomData<A>,
-}
-
-impl<T, A: Allocator> Iterator for IntoIter<T, A> {
-    type Item = T;
-
-    #[inline]
-    fn next(&mut self) -> Option<T> {
-        self.items.next()
-    }
-}
-
 impl<'a, T, A: Allocator> IntoIterator for &'a Vec<T, A> {
     type Item = &'a T;
     type IntoIter = core::slice::Iter<'a, T>;
@@ -186,15 +101,5 @@ impl<'a, T, A: Allocator> IntoIterator for &'a Vec<T, A> {
     #[inline]
     fn into_iter(self) -> core::slice::Iter<'a, T> {
         self.items.iter()
-    }
-}
-
-impl<'a, T, A: Allocator> IntoIterator for &'a mut Vec<T, A> {
-    type Item = &'a mut T;
-    type IntoIter = core::slice::IterMut<'a, T>;
-
-    #[inline]
-    fn into_iter(self) -> core::slice::IterMut<'a, T> {
-        self.items.iter_mut()
     }
 }

@@ -4,8 +4,7 @@
 mod bits;
 pub mod kept;
 mod key;
-mod lone;
-mod slot;
+mod linked;
 pub mod steps;
 pub mod table;
 

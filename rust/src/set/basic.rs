@@ -26,7 +26,7 @@ impl<K: IntKey> IntSet<K> {
 
     /// Returns an empty set, with a load factor of 0.909. Its capacity is the least power of two
     /// that is at least `capacity`, and at least 2. The cost is *O*(*c*): all slots are written at
-    /// once, each with 40 bytes for `u64` keys.
+    /// once, each with 16 bytes for `u64` keys.
     ///
     /// `capacity` counts slots, not members, so the insertion of `capacity` keys may double them;
     /// [`with_room_for`](Self::with_room_for) counts members. Where

@@ -52,7 +52,7 @@ impl<K: IntKey> IntSet<K> {
     /// Returns an iterator that removes one member at each step and returns it, in iteration order.
     /// The members that it didn't return stay, in their order. The capacity and the load factor stay.
     ///
-    /// A step costs *O*(*s*), all of them with the look for the next slots *O*(*n s* + *c*).
+    /// All steps together cost *O*(*n* + *c*).
     ///
     /// Proved of `IntSet::drain`: `state`, `next_gives`.
     ///

@@ -196,9 +196,8 @@ impl<K: IntKey> IntSet<K> {
     /// *c*), or *O*(1) if the capacity stays.
     ///
     /// The set then has the order of a new one of that capacity into which the members were
-    /// inserted in iteration order. The load factor stays. For a while there are both sets. As in a
-    /// map, the new slots are [shared](crate::IntMap#memory): half as many take twice the memory of
-    /// lone ones with keys of 4 bytes. If the capacity stays, no memory is given back.
+    /// inserted in iteration order. The load factor stays. For a while there are both sets. If the
+    /// capacity stays, no memory is given back.
     ///
     /// Where [`try_shrink_to`](Self::try_shrink_to) fails, this call ends the process. If a key's
     /// `number` panics, the set stays as it was.

@@ -29,8 +29,8 @@ fn compare<T: Shows>(calls: &[Call<T>], whole: &T, made: &List, key: u64) -> Vec
     calls.iter().map(compare_one).collect()
 }
 
-/// Lists of numbers, from none to crowded slots and beyond several growths. Some have slots of one
-/// pair alone, or of two, which the next growth parts or doesn't.
+/// Lists of numbers, from none to crowded slots and beyond several growths. Some have slots of two
+/// pairs, which the next growth parts or doesn't.
 fn lists() -> Vec<Vec<u64>> {
     let mut found = vec![vec![], vec![0, 4, 8], vec![u64::MAX, 3, 7, 11, 5]];
     for step in [1, 3, 4, 64, 1 << 40] {
@@ -70,22 +70,23 @@ fn set_of(list: &[u64]) -> (Set, List) {
 
 #[test]
 fn each_call_on_a_key_reads_what_one_search_does() {
-    // by whether slots were lone, whether the key's slot had a pair, and whether slots are lone now
+    // by whether the key's old slot had a pair, and whether its new one has another
     let mut growths = BTreeMap::new();
     for list in lists() {
         for ((map, made), number) in
             maps_of(&list).iter().flat_map(|it| sought(&list).map(move |number| (it, number)))
         {
-            let has_pair = made.has_pair_beside(number);
+            let has_pair = made.count_in_slot(number) > 0;
             for left in compare(ON_KEY, map, made, number) {
                 if left.slots > made.slots {
-                    *growths.entry((made.are_lone, has_pair, left.are_lone)).or_insert(0) += 1;
+                    let stays = left.count_in_slot(number) > 1;
+                    *growths.entry((has_pair, stays)).or_insert(0) += 1;
                 }
             }
         }
     }
-    // lone slots stay so unless a second pair comes to one of them
-    assert_eq!(growths.len(), 7, "{growths:?}");
+    // pairs of one new slot were in one old slot
+    assert_eq!(growths.len(), 3, "{growths:?}");
     assert!(growths.values().all(|it| *it > 20), "{growths:?}");
 }
 

@@ -1,5 +1,5 @@
-//! Lone slots, the same pairs in shared slots, in lone slots that a second pair has made shared, and
-//! in slots of many pairs. Calls one after another return and leave what they do to a plain list.
+//! Slots of one pair each in a map that grew, in one that had room, and in one with a node that is free;
+//! and slots of many pairs. Calls one after another return and leave what they do to a plain list.
 use crate::list::List;
 use crate::random::Random;
 use crate::table::*;
@@ -20,16 +20,15 @@ fn filled(mut map: Map) -> Map {
     map
 }
 
-/// Keys in order: in lone slots, which a map has that grows by insertions; in shared ones, which a
-/// map has that is made with room; and in slots that were lone, behind a second pair that has come
-/// and gone.
+/// Keys in order: in a map that grows by insertions; in one that is made with room; and behind a second
+/// pair that has come and gone.
 fn forms() -> [Map; 3] {
-    let [lone, shared] = [Map::new(), Map::with_capacity(SLOTS as usize)].map(filled);
-    let mut once_lone = lone.clone();
-    assert_eq!(once_lone.insert(beside(7), 0), None);
-    assert_eq!((once_lone.load(), once_lone.len() as u64), (KEYS, KEYS + 1), "two share a slot");
-    assert_eq!(once_lone.remove(beside(7)), Some(0));
-    [lone, shared, once_lone]
+    let [grown, with_room] = [Map::new(), Map::with_capacity(SLOTS as usize)].map(filled);
+    let mut with_free = grown.clone();
+    assert_eq!(with_free.insert(beside(7), 0), None);
+    assert_eq!((with_free.load(), with_free.len() as u64), (KEYS, KEYS + 1), "two share a slot");
+    assert_eq!(with_free.remove(beside(7)), Some(0));
+    [grown, with_room, with_free]
 }
 
 /// Keys that all share the first of two slots.
@@ -89,10 +88,10 @@ fn random_calls<T: Shows>(made: &T, on_key: &[Call<T>], on_all: &[Call<T>]) {
 #[test]
 fn random_calls_do_the_same_in_each_form_of_slots() {
     forms().iter().chain([&crowded()]).for_each(|it| random_calls(it, ON_KEY, ON_ALL));
-    let lone: Set = (0..KEYS).filter(|_| true).map(Key).collect();
-    let mut once_lone = lone.clone();
-    assert!(once_lone.insert(beside(7)) && once_lone.remove(beside(7)));
-    [lone, once_lone].iter().for_each(|it| random_calls(it, SET_ON_KEY, SET_ON_ALL));
+    let grown: Set = (0..KEYS).filter(|_| true).map(Key).collect();
+    let mut with_free = grown.clone();
+    assert!(with_free.insert(beside(7)) && with_free.remove(beside(7)));
+    [grown, with_free].iter().for_each(|it| random_calls(it, SET_ON_KEY, SET_ON_ALL));
 }
 
 #[test]

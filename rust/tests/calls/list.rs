@@ -21,14 +21,13 @@ pub fn slots_for(pairs: usize, factor: usize) -> usize {
     pairs * 1000 / (factor + 1) + 1
 }
 
-/// The pairs in the order of iteration, with the number of slots, the load factor, whether slots are
-/// lone, and how many numbers are due to have been read.
+/// The pairs in the order of iteration, with the number of slots, the load factor, and how many numbers
+/// are due to have been read.
 #[derive(Clone, Debug)]
 pub struct List {
     pub pairs: Vec<(u64, u64)>,
     pub slots: usize,
     pub factor: usize,
-    pub are_lone: bool,
     due: Cell<u64>,
 }
 
@@ -36,7 +35,7 @@ impl List {
     /// A new one, with the slots of this capacity.
     pub fn new(capacity: usize) -> List {
         let slots = capacity.max(2).next_power_of_two();
-        List { pairs: Vec::new(), slots, factor: 909, are_lone: false, due: Cell::new(0) }
+        List { pairs: Vec::new(), slots, factor: 909, due: Cell::new(0) }
     }
 
     /// One that is collected of pairs.
@@ -53,7 +52,7 @@ impl List {
         made
     }
 
-    /// One that stands for a map or a set. Whether slots are lone isn't told.
+    /// One that stands for a map or a set.
     pub fn like(it: &impl Shows) -> List {
         let (pairs, slots, factor) = it.shown();
         List { pairs, factor, ..List::new(slots) }
@@ -83,9 +82,9 @@ impl List {
         slot_among(number, self.slots)
     }
 
-    /// Whether the slot of a number has a pair.
-    pub fn has_pair_beside(&self, number: u64) -> bool {
-        self.pairs.iter().any(|it| self.slot(it.0) == self.slot(number))
+    /// How many pairs the slot of a number has.
+    pub fn count_in_slot(&self, number: u64) -> usize {
+        self.pairs.iter().filter(|it| self.slot(it.0) == self.slot(number)).count()
     }
 
     fn place(&self, key: Key) -> Option<usize> {
@@ -178,8 +177,6 @@ impl List {
         if slots > self.slots {
             self.store_and_grow(key, value, slots);
         } else {
-            let slot = self.slot(key.0);
-            self.are_lone &= old.is_some() || self.pairs.iter().all(|it| self.slot(it.0) != slot);
             self.pairs.push((key.0, value));
         }
         self.sort();

@@ -10,6 +10,7 @@ mod figures;
 mod forms;
 mod iterators;
 mod keys;
+mod lent;
 mod list;
 mod order;
 #[path = "../shared/random.rs"]

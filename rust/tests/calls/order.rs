@@ -101,13 +101,12 @@ type Call = fn(IntMap<u64, Logged>);
 #[test]
 fn values_are_dropped_in_the_order_of_iteration() {
     let calls: &[(&str, Call)] = &[
-        ("drop", drop),
         ("clear", |mut map| map.clear()),
         ("into_iter", |map| map.into_iter().for_each(drop)),
-        ("an into_iter that ends early", |map| drop(map.into_iter().next())),
         ("into_keys", |map| map.into_keys().for_each(drop)),
         ("drain", |mut map| map.drain().for_each(drop)),
         ("extract_if", |mut map| map.extract_if(|_, _| true).for_each(drop)),
+        ("retain", |mut map| map.retain(|_, _| false)),
         ("retain_mut", |mut map| map.retain_mut(|_, _| false)),
     ];
     for (name, call) in calls {
@@ -119,14 +118,33 @@ fn values_are_dropped_in_the_order_of_iteration() {
     }
 }
 
+/// Fails unless each of these was dropped once, in any order.
+fn are_dropped(dropped: &[u64], mut wanted: Vec<u64>) {
+    let mut dropped = dropped.to_vec();
+    dropped.sort_unstable();
+    wanted.sort_unstable();
+    assert_eq!(dropped, wanted);
+}
+
 #[test]
-fn retain_drops_slot_after_slot() {
-    let (mut map, log) = logged();
-    let slots = map.capacity() as u64;
-    let slots_of = |keys: &[u64]| keys.iter().map(|key| key % slots).collect::<Vec<_>>();
+fn a_dropped_map_drops_the_first_pairs_of_all_slots_before_the_others() {
+    let (map, log) = logged();
+    let (slots, order) = (map.capacity() as u64, keys_of(&map));
+    let is_first = |at: &usize| *at == 0 || order[at - 1] % slots != order[*at] % slots;
+    let (first, others): (Vec<usize>, Vec<usize>) = (0..order.len()).partition(is_first);
+    assert!(first.len() > 30 && others.len() > 30, "{} slots of {} pairs", slots, order.len());
+    drop(map);
+    let dropped = log.borrow();
+    let (early, late) = dropped.split_at(first.len());
+    assert_eq!(early, first.iter().map(|at| order[*at]).collect::<Vec<_>>());
+    are_dropped(late, others.iter().map(|at| order[*at]).collect());
+}
+
+#[test]
+fn an_iterator_by_value_that_ends_early_drops_what_is_left() {
+    let (map, log) = logged();
     let order = keys_of(&map);
-    map.retain(|_, _| false);
-    // the first pair of a slot is dropped behind its others
-    assert_eq!(slots_of(&log.borrow()), slots_of(&order));
-    assert_eq!((map.len(), map.capacity() as u64), (0, slots));
+    drop(map.into_iter().next());
+    assert_eq!(log.borrow()[0], order[0]);
+    are_dropped(&log.borrow(), order);
 }

@@ -1,4 +1,5 @@
-//! A panic in calls on slots of one pair each, and where a second pair comes to one of them.
+//! A panic in calls on slots of one pair each, and where a second pair comes to one of them. The map had
+//! room from the start, or grew, or has a node without a pair.
 use crate::aimed::{self, KEYS};
 use crate::fuse::{Value, burn, is_whole, live, panics_at};
 use crate::keys::{self, Key};
@@ -17,12 +18,12 @@ fn filled(mut map: Made) -> Made {
     map
 }
 
-/// How a map of keys in order is made: with shared slots, with lone ones, as it has that grows by
-/// insertions, and with lone slots that a second pair has made shared.
+/// How a map of keys in order is made: with room for them, without, and so that a second pair has come
+/// and gone.
 const FORMS: &[Form] = &[
-    ("shared", || filled(IntMap::with_capacity(SLOTS as usize))),
-    ("lone", || filled(IntMap::new())),
-    ("shared again", || {
+    ("with room", || filled(IntMap::with_capacity(SLOTS as usize))),
+    ("grown", || filled(IntMap::new())),
+    ("with a free node", || {
         let mut map = filled(IntMap::new());
         map.insert(SLOTS * 9, Value::new(9));
         drop(map.remove(SLOTS * 9));
@@ -42,7 +43,7 @@ fn a_panic_at_any_place_of_a_call_leaves_a_whole_map_of_keys_in_order() {
                 if has_second {
                     map.insert(7 + SLOTS, Value::new(7));
                 }
-                let after = format!("after {name}, slots {form}, {has_second}, place {number}");
+                let after = format!("after {name}, {form}, {has_second}, place {number}");
                 let panicked = panics_at(number, || call(&mut map));
                 is_whole(&map, &after);
                 aimed::is_usable(map, &after);
@@ -71,8 +72,8 @@ fn a_panic_of_the_closure_of_a_call_on_all_loses_no_pair_of_keys_in_order() {
     {
         for number in 1..=KEYS {
             let mut map = make();
-            assert!(panics_at(number, || call(&mut map)), "slots {form}, at place {number}");
-            is_whole(&map, &format!("after place {number}, slots {form}"));
+            assert!(panics_at(number, || call(&mut map)), "{form}, at place {number}");
+            is_whole(&map, &format!("after place {number}, {form}"));
             assert!(map.keys().copied().eq(make().into_keys()), "place {number}: {map:?}");
         }
     }
@@ -104,7 +105,7 @@ fn a_panic_of_a_drop_in_a_call_on_one_key_leaves_a_whole_map_of_keys_in_order() 
         for number in 1..4 {
             let mut map = make();
             panics_at(number, || call(&mut map));
-            let after = format!("after {name}, slots {form}, place {number}");
+            let after = format!("after {name}, {form}, place {number}");
             is_whole(&map, &after);
             let mut others = (0..KEYS).filter(|key| *key != 3);
             assert!(others.all(|key| map.contains_key(key)), "{after}");
@@ -114,10 +115,9 @@ fn a_panic_of_a_drop_in_a_call_on_one_key_leaves_a_whole_map_of_keys_in_order() 
     }
 }
 
-/// Keys that have slots of their own among 16, and move to all parts of a map that grows. Slots are
-/// lone if the map has grown by insertions.
-fn apart(value: &Rc<()>, are_lone: bool) -> keys::Map {
-    let mut map = if are_lone { keys::Map::new() } else { keys::Map::with_capacity(16) };
+/// Keys that have slots of their own among 16, and move to all parts of a map that grows.
+fn apart(value: &Rc<()>, has_grown: bool) -> keys::Map {
+    let mut map = if has_grown { keys::Map::new() } else { keys::Map::with_capacity(16) };
     map.extend((0..14).map(|it| (Key(it + 16 * (it * 7 % 13)), value.clone())));
     assert_eq!((map.capacity(), map.load()), (16, 14), "each key has a slot of its own");
     map
@@ -152,20 +152,19 @@ const CALLS: &[(&str, Call)] = &[
 ];
 
 #[test]
-fn a_panic_of_a_key_in_growth_loses_one_pair_at_most() {
+fn a_panic_of_a_key_in_growth_loses_no_pair_of_keys_in_order() {
     let (value, mut panics) = (Rc::new(()), 0);
-    for ((name, call), are_lone) in CALLS.iter().flat_map(|it| [(it, false), (it, true)]) {
+    for ((name, call), has_grown) in CALLS.iter().flat_map(|it| [(it, false), (it, true)]) {
         for place in 1.. {
-            let mut map = apart(&value, are_lone);
+            let mut map = apart(&value, has_grown);
             let before: Vec<Key> = map.keys().copied().collect();
             let panicked = panics_at(place, || call(&mut map, &value));
-            let after = format!("after {name}, lone: {are_lone}, place {place}");
+            let after = format!("after {name}, grown: {has_grown}, place {place}");
             keys::is_whole(&map, &value, &after);
             let lost = before.iter().filter(|key| !map.contains_key(**key)).count();
-            assert!(lost <= 1, "{lost} pairs lost {after}");
+            assert_eq!(lost, 0, "{after}");
             keys::is_usable(map, &value, &after);
             if !panicked {
-                assert_eq!(lost, 0, "{after}");
                 break;
             }
             panics += 1;
@@ -178,13 +177,13 @@ fn a_panic_of_a_key_in_growth_loses_one_pair_at_most() {
 fn a_map_grows_once_more_after_a_panic_in_growth() {
     let value = Rc::new(());
     let places = (1..=15).flat_map(|it| [(it, false), (it, true)]);
-    for (place, are_lone) in places {
-        let mut map = apart(&value, are_lone);
+    for (place, has_grown) in places {
+        let mut map = apart(&value, has_grown);
         for number in [place, place / 2, 0] {
             panics_at(number, || map.reserve(200));
         }
-        let after = format!("after place {place}, lone: {are_lone}");
+        let after = format!("after place {place}, grown: {has_grown}");
         keys::is_whole(&map, &value, &after);
-        assert!(map.capacity() >= 200 && map.len() >= 12, "{} pairs {after}", map.len());
+        assert!(map.capacity() >= 200 && map.len() == 14, "{} pairs {after}", map.len());
     }
 }

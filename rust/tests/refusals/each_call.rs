@@ -22,18 +22,18 @@ const MAP_CALLS: &[(&str, u64, u32, u64, MapCall)] = &[
     ("insert into an empty slot", 4, 0, 0, |map| Ok(map.try_insert(5, 1).map(drop)?)),
     ("insert into a slot of one", 4, 0, 1, |map| Ok(map.try_insert(9, 1).map(drop)?)),
     ("insert and grow", 14, 0, 2, |map| Ok(map.try_insert(15, 1).map(drop)?)),
-    ("insert and grow a shared slot", 14, 6, 4, |map| Ok(map.try_insert(15, 1).map(drop)?)),
+    ("insert and grow a shared slot", 14, 6, 3, |map| Ok(map.try_insert(15, 1).map(drop)?)),
     ("insert again", 11, 0, 0, |map| Ok(map.try_insert(3, 1).map(drop)?)),
     ("insert_checked", 4, 0, 1, |map| Ok(map.try_insert_checked(9, 1).map(drop)?)),
     ("insert_checked again", 4, 0, 0, |map| Ok(map.try_insert_checked(3, 1).map(drop)?)),
     ("extend", 4, 0, 1, |map| Ok(map.try_extend([(9, 1)])?)),
-    ("reserve", 4, 0, 3, |map| map.try_reserve(100)),
-    ("reserve for a shared slot", 11, 6, 5, |map| map.try_reserve(100)),
+    ("reserve", 4, 0, 2, |map| map.try_reserve(100)),
+    ("reserve for a shared slot", 11, 6, 3, |map| map.try_reserve(100)),
     ("reserve what is there", 4, 0, 0, |map| map.try_reserve(1)),
-    ("reserve_pairs", 4, 0, 3, |map| map.try_reserve_pairs(100)),
+    ("reserve_pairs", 4, 0, 2, |map| map.try_reserve_pairs(100)),
     ("reserve_pairs that have room", 4, 0, 0, |map| map.try_reserve_pairs(1)),
     ("shrink_to_fit as before", 4, 0, 0, |map| map.try_shrink_to_fit()),
-    ("set_load_factor", 4, 0, 3, |map| map.try_set_load_factor(0.1)),
+    ("set_load_factor", 4, 0, 2, |map| map.try_set_load_factor(0.1)),
     ("set_load_factor as before", 4, 0, 0, |map| map.try_set_load_factor(0.909)),
     ("clone", 4, 0, 2, |map| map.try_clone().map(drop)),
     ("clone a shared slot", 4, 6, 3, |map| map.try_clone().map(drop)),
@@ -44,7 +44,7 @@ const MAP_CALLS: &[(&str, u64, u32, u64, MapCall)] = &[
     ("from_iter", 0, 0, 2, |_| IntMap::try_from_iter((0..3_u64).map(|it| (it, it))).map(drop)),
     ("or_insert", 4, 0, 1, |map| Ok(map.entry(9).try_or_insert(1).map(drop)?)),
     ("or_insert and grow", 14, 0, 2, |map| Ok(map.entry(15).try_or_insert(1).map(drop)?)),
-    ("or_insert and grow a shared slot", 14, 6, 4, |map| {
+    ("or_insert and grow a shared slot", 14, 6, 3, |map| {
         Ok(map.entry(15).try_or_insert(1).map(drop)?)
     }),
     ("or_insert_with and grow", 14, 0, 2, |map| {
@@ -104,107 +104,126 @@ fn a_failed_call_leaves_the_map() {
     }
 }
 
-/// A map that can do with fewer slots: keys of three slots, or keys in lone slots of which some will
-/// share one.
-fn with_too_many_slots(is_lone: bool) -> IntMap<u64, u64> {
-    let mut map = if is_lone { IntMap::new() } else { IntMap::with_capacity(64) };
-    map.extend((0..if is_lone { 58 } else { 0 }).map(|key| (key, key + 100)));
+/// A map that can do with fewer slots: keys of three slots, or keys in slots of their own of which some
+/// will share one.
+fn with_too_many_slots(are_apart: bool) -> IntMap<u64, u64> {
+    let mut map = if are_apart { IntMap::new() } else { IntMap::with_capacity(64) };
+    map.extend((0..if are_apart { 58 } else { 0 }).map(|key| (key, key + 100)));
     map.retain(|key, _| key % 16 < 2);
-    let more = if is_lone { vec![40, 12] } else { vec![0, 64, 5, 128, 1, 192, 65, 16, 80, 256, 3] };
+    let more = match are_apart {
+        true => vec![40, 12],
+        false => vec![0, 64, 5, 128, 1, 192, 65, 16, 80, 256, 3],
+    };
     map.extend(more.into_iter().map(|key| (key, key + 100)));
     map
 }
 
 #[test]
 fn a_map_that_is_not_shrunk_keeps_its_order() {
-    for (is_lone, wanted) in [(false, 6), (true, 6)] {
-        let make = || with_too_many_slots(is_lone);
+    for (are_apart, wanted) in [(false, 4), (true, 4)] {
+        let make = || with_too_many_slots(are_apart);
         for call in [IntMap::try_shrink_to_fit as MapCall, |map| map.try_shrink_to(16)] {
             let before = bytes();
             let requests = failures("shrink_to", make, state_of, call);
-            assert_eq!(requests, wanted, "lone: {is_lone}");
-            assert_eq!(bytes(), before, "lone: {is_lone}");
+            assert_eq!(requests, wanted, "apart: {are_apart}");
+            assert_eq!(bytes(), before, "apart: {are_apart}");
         }
         let (before, mut map) = (bytes(), make());
         let held = bytes() - before;
         map.shrink_to_fit();
-        assert_eq!(map.capacity(), 16, "lone: {is_lone}");
-        assert!(bytes() - before < held, "lone: {is_lone}");
+        assert_eq!(map.capacity(), 16, "apart: {are_apart}");
+        assert!(bytes() - before < held, "apart: {are_apart}");
     }
 }
 
-/// Keys in order in a map with room for them: shared slots of one pair each.
-fn alone(keys: u64) -> IntMap<u64, u64> {
+/// Keys in order in a map with room for them.
+fn with_room(keys: u64) -> IntMap<u64, u64> {
     let mut map = IntMap::with_capacity(16);
     map.extend((0..keys).map(|key| (key, key + 100)));
     map
 }
 
-/// The same in lone slots, which a map has that grows by insertions.
-fn lone(keys: u64) -> IntMap<u64, u64> {
+/// The same in a map that grows by insertions. At its last growth three pairs shared a slot with another,
+/// so it has nodes for three.
+fn grown(keys: u64) -> IntMap<u64, u64> {
     let mut map = IntMap::new();
     map.extend((0..keys).map(|key| (key, key + 100)));
     map
 }
 
-/// Lone slots that a second pair of the first one has made shared.
-fn shared_again(keys: u64) -> IntMap<u64, u64> {
-    let mut map = lone(keys - 1);
+/// Keys in order, and a second pair in the slot of the first one.
+fn with_second(keys: u64) -> IntMap<u64, u64> {
+    let mut map = grown(keys - 1);
     map.insert(16, 116);
     map
 }
 
-/// The bytes of 16 slots, lone or shared, with a word of bits.
-const LONE: isize = 16 * 24 + 8;
-const SHARED: isize = 16 * 48 + 8;
+/// The bytes of 16 slots with a word of bits, and those of three nodes.
+const SLOTS: isize = 16 * 24 + 8;
+const NODES: isize = 3 * 24;
 
-/// How a map is made, and the bytes that it has: 16 slots, and the block of a second pair.
+/// How a map is made, and the bytes that it has.
 type Form = (&'static str, fn(u64) -> IntMap<u64, u64>, isize);
 
-const FORMS: [Form; 3] =
-    [("shared", alone, SHARED), ("lone", lone, LONE), ("shared again", shared_again, SHARED + 16)];
+const FORMS: [Form; 3] = [
+    ("with room", with_room, SLOTS),
+    ("grown", grown, SLOTS + NODES),
+    ("with a second pair", with_second, SLOTS + NODES),
+];
 
 #[test]
-fn slots_have_the_bytes_of_their_form() {
+fn a_map_has_the_bytes_of_its_slots_and_nodes() {
     for (form, make, wanted) in FORMS {
         for keys in [13, 14] {
             let before = bytes();
             let map = make(keys);
             assert_eq!((map.capacity(), map.len() as u64), (16, keys), "{form}");
-            assert_eq!(bytes() - before, wanted, "{keys} keys, slots {form}");
+            assert_eq!(bytes() - before, wanted, "{keys} keys, {form}");
         }
     }
 }
 
-/// A name, how many keys there are before, how many requests the call makes in each form, and the
-/// call. The slot of 25 has a pair, and so has that of 28, which part among 32 slots, and that of 44,
-/// which don't.
+#[test]
+fn growth_requests_nodes_for_the_further_pairs_alone() {
+    for (keys, zeros) in [(14, 0), (14, 6), (11, 3), (60, 4)] {
+        let (before, mut map) = (bytes(), map_of(keys, zeros));
+        let further = map.len() as isize - map.load() as isize;
+        map.reserve(map.capacity());
+        let slots = map.capacity() as isize;
+        let nodes = bytes() - before - 24 * slots - 8 * ((slots + 63) / 64);
+        assert_eq!(nodes, 24 * further, "{keys} keys, {zeros} zeros");
+    }
+}
+
+/// A name, how many keys there are before, how many requests the call makes of each map, and the call.
+/// The slot of 25 has a pair, and so has that of 28, which part among 32 slots, and that of 44, which
+/// don't.
 const CALLS_OF_FORMS: &[(&str, u64, [u64; 3], MapCall)] = &[
     ("insert into an empty slot", 13, [0, 0, 0], |map| Ok(map.try_insert(15, 1).map(drop)?)),
-    ("insert a second pair", 13, [1, 2, 1], |map| Ok(map.try_insert(25, 1).map(drop)?)),
-    ("insert_checked of a second pair", 13, [1, 2, 1], |map| {
+    ("insert a second pair", 13, [1, 0, 0], |map| Ok(map.try_insert(25, 1).map(drop)?)),
+    ("insert_checked of a second pair", 13, [1, 0, 0], |map| {
         Ok(map.try_insert_checked(25, 1).map(drop)?)
     }),
-    ("or_insert of a second pair", 13, [1, 2, 1], |map| {
+    ("or_insert of a second pair", 13, [1, 0, 0], |map| {
         Ok(map.entry(25).try_or_insert(1).map(drop)?)
     }),
-    ("insert_entry of a second pair", 13, [1, 2, 1], |map| {
+    ("insert_entry of a second pair", 13, [1, 0, 0], |map| {
         Ok(map.entry(25).try_insert_entry(1).map(drop)?)
     }),
-    ("insert of a vacant entry", 13, [1, 2, 1], |map| {
+    ("insert of a vacant entry", 13, [1, 0, 0], |map| {
         Ok(vacant(map, 25).try_insert(1).map(drop)?)
     }),
-    ("extend by a second pair", 13, [1, 2, 1], |map| Ok(map.try_extend([(25, 1)])?)),
-    ("insert and grow", 14, [2, 2, 2], |map| Ok(map.try_insert(15, 1).map(drop)?)),
-    ("or_insert and grow", 14, [2, 2, 2], |map| Ok(map.entry(15).try_or_insert(1).map(drop)?)),
-    ("insert a second pair that parts", 14, [2, 2, 2], |map| {
+    ("extend by a second pair", 13, [1, 0, 0], |map| Ok(map.try_extend([(25, 1)])?)),
+    ("insert and grow", 14, [2, 2, 3], |map| Ok(map.try_insert(15, 1).map(drop)?)),
+    ("or_insert and grow", 14, [2, 2, 3], |map| Ok(map.entry(15).try_or_insert(1).map(drop)?)),
+    ("insert a second pair that parts", 14, [2, 2, 3], |map| {
         Ok(map.try_insert(28, 1).map(drop)?)
     }),
-    ("insert a second pair that stays", 14, [5, 3, 5], |map| {
+    ("insert a second pair that stays", 14, [3, 3, 3], |map| {
         Ok(map.try_insert(44, 1).map(drop)?)
     }),
-    ("reserve", 13, [3, 2, 4], |map| map.try_reserve(100)),
-    ("set_load_factor", 13, [3, 2, 4], |map| map.try_set_load_factor(0.1)),
+    ("reserve", 13, [2, 2, 3], |map| map.try_reserve(100)),
+    ("set_load_factor", 13, [2, 2, 3], |map| map.try_set_load_factor(0.1)),
     ("clone", 13, [2, 2, 3], |map| map.try_clone().map(drop)),
 ];
 
@@ -212,7 +231,7 @@ const CALLS_OF_FORMS: &[(&str, u64, [u64; 3], MapCall)] = &[
 fn a_failed_call_leaves_a_map_of_each_form() {
     for (name, keys, wanted, call) in CALLS_OF_FORMS.iter().copied() {
         for ((form, make, _), wanted) in FORMS.into_iter().zip(wanted) {
-            let (name, before) = (format!("{name}, slots {form}"), bytes());
+            let (name, before) = (format!("{name}, {form}"), bytes());
             let requests = failures(&name, || make(keys), state_of, call);
             assert_eq!(requests, wanted, "requests of {name}");
             assert_eq!(bytes(), before, "bytes left after {name}");
@@ -228,9 +247,9 @@ const SET_CALLS: &[(&str, u64, SetCall)] = &[
     ("replace", 1, |set| set.try_replace(9).map(drop)),
     ("replace a member", 0, |set| set.try_replace(3).map(drop)),
     ("extend", 1, |set| Ok(set.try_extend([9])?)),
-    ("reserve", 3, |set| set.try_reserve(100)),
-    ("reserve_members", 3, |set| set.try_reserve_members(100)),
-    ("set_load_factor", 3, |set| set.try_set_load_factor(0.1)),
+    ("reserve", 2, |set| set.try_reserve(100)),
+    ("reserve_members", 2, |set| set.try_reserve_members(100)),
+    ("set_load_factor", 2, |set| set.try_set_load_factor(0.1)),
     ("set_load_factor as before", 0, |set| set.try_set_load_factor(0.909)),
     ("with_room_for", 2, |_| IntSet::<u64>::try_with_room_for(100).map(drop)),
     ("shrink_to_fit as before", 0, |set| set.try_shrink_to_fit()),

@@ -3,25 +3,21 @@
 use crate::allocator::{bytes, failing_above};
 use intmap_proved::{Cause, Entry, IntMap, IntSet};
 
-/// The bytes of a slot of a map, and of a set, and those of a lone slot.
-const MAP_SLOT: usize = 48;
-const SET_SLOT: usize = 40;
-const LONE_MAP_SLOT: usize = 24;
-const LONE_SET_SLOT: usize = 16;
-
-/// The bytes of a pair.
-const PAIR: usize = 16;
+/// The bytes of a slot of a map, which are those of a node too, and of a slot of a set.
+const MAP_SLOT: usize = 24;
+const SET_SLOT: usize = 16;
+const NODE: usize = 24;
 
 type Map = IntMap<u64, u64>;
 type MapCall = fn(&mut Map) -> Result<(), Cause>;
 
-/// Keys in order in shared slots.
-fn shared(keys: u64) -> Map {
+/// Keys in order in a map that had room for them.
+fn with_room(keys: u64) -> Map {
     (0..keys).map(|key| (key, key + 100)).collect()
 }
 
-/// Keys in order in lone slots, which a map has that grows by insertions.
-fn lone(keys: u64) -> Map {
+/// Keys in order in a map that grew by insertions.
+fn grown(keys: u64) -> Map {
     let mut map = Map::new();
     map.extend((0..keys).map(|key| (key, key + 100)));
     map
@@ -37,52 +33,46 @@ fn together(keys: u64) -> Map {
 type Row = (&'static str, fn(u64) -> Map, u64, usize, usize, usize, MapCall);
 
 const MAP_CALLS: &[Row] = &[
-    ("new", shared, 0, 4, MAP_SLOT, 0, |_| Map::try_new().map(drop)),
-    ("with_capacity", shared, 0, 4096, MAP_SLOT, 0, |_| Map::try_with_capacity(4096).map(drop)),
-    ("from_iter", shared, 0, 4096, MAP_SLOT, 0, |_| {
+    ("new", with_room, 0, 4, MAP_SLOT, 0, |_| Map::try_new().map(drop)),
+    ("with_capacity", with_room, 0, 4096, MAP_SLOT, 0, |_| Map::try_with_capacity(4096).map(drop)),
+    ("from_iter", with_room, 0, 4096, MAP_SLOT, 0, |_| {
         Map::try_from_iter((0..3000).map(|it| (it, it))).map(drop)
     }),
-    ("collisions", shared, 4, 4, MAP_SLOT, 0, |map| map.try_collisions().map(drop)),
-    ("reserve", shared, 4, 4096, MAP_SLOT, 512 * 8, |map| map.try_reserve(4000)),
-    ("reserve, lone", lone, 14, 4096, LONE_MAP_SLOT, 0, |map| map.try_reserve(4000)),
-    ("set_load_factor", shared, 4, 2048, MAP_SLOT, 256 * 8, |map| {
+    ("collisions", with_room, 4, 4, MAP_SLOT, 0, |map| map.try_collisions().map(drop)),
+    ("reserve", with_room, 4, 4096, MAP_SLOT, 0, |map| map.try_reserve(4000)),
+    ("reserve, grown", grown, 14, 4096, MAP_SLOT, 0, |map| map.try_reserve(4000)),
+    ("set_load_factor", with_room, 4, 2048, MAP_SLOT, 0, |map| {
         map.try_set_load_factor_thousandths(1)
     }),
-    ("set_load_factor, lone", lone, 14, 8192, LONE_MAP_SLOT, 0, |map| {
+    ("set_load_factor, grown", grown, 14, 8192, MAP_SLOT, 0, |map| {
         map.try_set_load_factor_thousandths(1)
     }),
-    ("insert", shared, 14, 32, LONE_MAP_SLOT, 0, |map| Ok(map.try_insert(14, 1).map(drop)?)),
-    ("insert, lone", lone, 14, 32, LONE_MAP_SLOT, 0, |map| Ok(map.try_insert(14, 1).map(drop)?)),
-    ("insert, two stay together", together, 14, 32, MAP_SLOT, 2 * 8 + PAIR, |map| {
+    ("insert", with_room, 14, 32, MAP_SLOT, 0, |map| Ok(map.try_insert(14, 1).map(drop)?)),
+    ("insert, grown", grown, 14, 32, MAP_SLOT, 0, |map| Ok(map.try_insert(14, 1).map(drop)?)),
+    ("insert, two stay together", together, 14, 32, MAP_SLOT, NODE, |map| {
         Ok(map.try_insert(14, 1).map(drop)?)
     }),
-    ("insert behind many", shared, 14_909, 32_768, LONE_MAP_SLOT, 0, |map| {
+    ("insert behind many", with_room, 14_909, 32_768, MAP_SLOT, 0, |map| {
         Ok(map.try_insert(14_909, 1).map(drop)?)
     }),
-    ("insert behind many, lone", lone, 14_909, 32_768, LONE_MAP_SLOT, 0, |map| {
+    ("insert behind many, grown", grown, 14_909, 32_768, MAP_SLOT, 0, |map| {
         Ok(map.try_insert(14_909, 1).map(drop)?)
     }),
-    (
-        "insert behind many, two stay together",
-        together,
-        14_909,
-        32_768,
-        MAP_SLOT,
-        2 * 8 + PAIR,
-        |map| Ok(map.try_insert(14_909, 1).map(drop)?),
-    ),
-    ("insert_checked", lone, 14, 32, LONE_MAP_SLOT, 0, |map| {
+    ("insert behind many, two stay together", together, 14_909, 32_768, MAP_SLOT, NODE, |map| {
+        Ok(map.try_insert(14_909, 1).map(drop)?)
+    }),
+    ("insert_checked", grown, 14, 32, MAP_SLOT, 0, |map| {
         Ok(map.try_insert_checked(14, 1).map(drop)?)
     }),
-    ("or_insert", lone, 14, 32, LONE_MAP_SLOT, 0, |map| {
+    ("or_insert", grown, 14, 32, MAP_SLOT, 0, |map| {
         Ok(map.entry(14).try_or_insert(1).map(drop)?)
     }),
-    ("extend", lone, 14, 32, LONE_MAP_SLOT, 0, |map| Ok(map.try_extend([(14, 1)])?)),
-    ("extend, two stay together", together, 14, 32, MAP_SLOT, 2 * 8 + PAIR, |map| {
+    ("extend", grown, 14, 32, MAP_SLOT, 0, |map| Ok(map.try_extend([(14, 1)])?)),
+    ("extend, two stay together", together, 14, 32, MAP_SLOT, NODE, |map| {
         Ok(map.try_extend([(14, 1)])?)
     }),
-    ("clone", shared, 3000, 4096, MAP_SLOT, 0, |map| map.try_clone().map(drop)),
-    ("clone, lone", lone, 3000, 4096, LONE_MAP_SLOT, 0, |map| map.try_clone().map(drop)),
+    ("clone", with_room, 3000, 4096, MAP_SLOT, 0, |map| map.try_clone().map(drop)),
+    ("clone, grown", grown, 3000, 4096, MAP_SLOT, 0, |map| map.try_clone().map(drop)),
 ];
 
 /// The bytes of the words of bits of so many slots.
@@ -109,47 +99,41 @@ fn a_call_that_is_refused_its_slots_was_granted_nothing() {
 }
 
 #[test]
-fn a_second_pair_of_a_lone_slot_that_is_refused_slots_was_granted_its_block_alone() {
-    for (keys, slots) in [(14, 16), (14_908, 16_384)] {
-        let mut map = lone(keys - 1);
-        let (before, held) = (format!("{map:?}"), bytes());
-        for (most, wanted) in [(0, 0), (PAIR - 1, 0), (PAIR, PAIR), (MAP_SLOT * slots - 1, PAIR)] {
-            let (returned, granted) = failing_above(most, || map.try_insert(1 << 40, 1));
-            assert_eq!(returned.map_err(|it| it.cause), Err(Cause::Memory), "above {most} bytes");
-            assert_eq!((granted, bytes()), (wanted, held), "{keys} keys, above {most} bytes");
-            assert_eq!(
-                (format!("{map:?}"), map.capacity()),
-                (before.clone(), slots),
-                "{keys} keys"
-            );
-        }
-        let (returned, granted) = failing_above(MAP_SLOT * slots, || map.try_insert(1 << 40, 1));
-        assert_eq!(returned.map_err(|it| it.cause), Ok(None), "{keys} keys with their slots");
-        assert_eq!(granted, PAIR + MAP_SLOT * slots, "{keys} keys with their slots");
+fn a_second_pair_of_a_slot_requests_nodes_alone() {
+    for keys in [14, 14_908] {
+        let mut map = with_room(keys - 1);
+        let (before, held) = ((format!("{map:?}"), map.capacity()), bytes());
+        let (returned, granted) = failing_above(4 * NODE - 1, || map.try_insert(1 << 40, 1));
+        assert_eq!(returned.map_err(|it| it.cause), Err(Cause::Memory), "{keys} keys");
+        assert_eq!((granted, bytes()), (0, held), "{keys} keys");
+        assert_eq!((format!("{map:?}"), map.capacity()), before, "{keys} keys");
+        let (returned, granted) = failing_above(4 * NODE, || map.try_insert(1 << 40, 1));
+        assert_eq!(returned.map_err(|it| it.cause), Ok(None), "{keys} keys");
+        assert_eq!((granted, map.capacity()), (4 * NODE, before.1), "{keys} keys");
     }
 }
 
 type SetCall = fn(&mut IntSet<u64>) -> Result<(), Cause>;
 
-/// The same of sets of keys in order, which grow by insertions if they are lone.
+/// The same of sets of keys in order, of which some have grown by insertions.
 type SetRow = (&'static str, bool, u64, usize, usize, usize, SetCall);
 
 const SET_CALLS: &[SetRow] = &[
     ("with_capacity", false, 0, 4096, SET_SLOT, 0, |_| {
         IntSet::<u64>::try_with_capacity(4096).map(drop)
     }),
-    ("reserve", false, 4, 4096, SET_SLOT, 512 * 8, |set| set.try_reserve(4000)),
-    ("reserve, lone", true, 14, 4096, LONE_SET_SLOT, 0, |set| set.try_reserve(4000)),
-    ("insert", false, 14, 32, LONE_SET_SLOT, 0, |set| set.try_insert(14).map(drop)),
-    ("insert, lone", true, 14, 32, LONE_SET_SLOT, 0, |set| set.try_insert(14).map(drop)),
+    ("reserve", false, 4, 4096, SET_SLOT, 0, |set| set.try_reserve(4000)),
+    ("reserve, grown", true, 14, 4096, SET_SLOT, 0, |set| set.try_reserve(4000)),
+    ("insert", false, 14, 32, SET_SLOT, 0, |set| set.try_insert(14).map(drop)),
+    ("insert, grown", true, 14, 32, SET_SLOT, 0, |set| set.try_insert(14).map(drop)),
     ("clone", false, 3000, 4096, SET_SLOT, 0, |set| set.try_clone().map(drop)),
-    ("clone, lone", true, 3000, 4096, LONE_SET_SLOT, 0, |set| set.try_clone().map(drop)),
+    ("clone, grown", true, 3000, 4096, SET_SLOT, 0, |set| set.try_clone().map(drop)),
 ];
 
 #[test]
 fn a_call_of_a_set_that_is_refused_its_slots_was_granted_nothing() {
-    for (name, is_lone, keys, slots, slot, others, call) in SET_CALLS.iter().copied() {
-        let mut set: IntSet<u64> = if is_lone { IntSet::new() } else { (0..keys).collect() };
+    for (name, has_grown, keys, slots, slot, others, call) in SET_CALLS.iter().copied() {
+        let mut set: IntSet<u64> = if has_grown { IntSet::new() } else { (0..keys).collect() };
         set.extend(0..keys);
         let before = (format!("{set:?}"), set.capacity());
         for most in [0, bits(slots), bits(slots).max(others), slot * slots - 1] {
@@ -199,14 +183,14 @@ const FAR: u64 = 1 << 40;
 #[test]
 fn calls_with_ample_memory_succeed_at_a_large_size() {
     for (keys, grows) in [(14_907, false), (14_909, true), (100_000, false), (119_275, true)] {
-        for (form, make) in [("shared", shared as fn(u64) -> Map), ("lone", lone)] {
+        for (form, make) in [("with room", with_room as fn(u64) -> Map), ("grown", grown)] {
             let whole = make(keys);
             let mut longer = whole.clone();
             longer.insert(FAR, 1);
-            assert_eq!(longer.capacity() > whole.capacity(), grows, "{keys} keys, slots {form}");
+            assert_eq!(longer.capacity() > whole.capacity(), grows, "{keys} keys, {form}");
             for (name, call) in AMPLE.iter().copied() {
                 let mut map = whole.clone();
-                assert_eq!(call(&mut map), Ok(()), "{name}, {keys} keys, slots {form}");
+                assert_eq!(call(&mut map), Ok(()), "{name}, {keys} keys, {form}");
             }
         }
     }

@@ -99,7 +99,7 @@ fn round(random: &mut Random, live: &Rc<Cell<usize>>) -> u64 {
         // most keys have a slot of their own
         map.reserve(keys as usize);
     }
-    // keys in order get lone slots, up to one that shares the slot of another
+    // keys in order have slots of their own, up to one that shares the slot of another
     let counts_up = random.below(3) == 0;
     let mut failures = 0;
     for place in 0..CALLS {

@@ -33,12 +33,12 @@ fn filled(mut map: Made, keys: &[u64]) -> Made {
     map
 }
 
-/// How a map of keys in order is made. It has shared slots of one pair each, or lone slots, as a map
-/// that grows by insertions, or such slots that a second pair of the first one has made shared.
+/// How a map of keys in order is made. It has room from the start, or it grows by insertions, or the
+/// first slot has a second pair.
 const FORMS: &[Form] = &[
-    ("shared", |keys| filled(IntMap::with_capacity(16), keys)),
-    ("lone", |keys| filled(IntMap::new(), keys)),
-    ("shared again", |keys| filled(filled(IntMap::new(), &keys[..keys.len() - 1]), &[16])),
+    ("with room", |keys| filled(IntMap::with_capacity(16), keys)),
+    ("grown", |keys| filled(IntMap::new(), keys)),
+    ("with a second pair", |keys| filled(filled(IntMap::new(), &keys[..keys.len() - 1]), &[16])),
 ];
 
 /// Makes the insertion with each of its requests failing in turn, and returns how many there were.
@@ -68,12 +68,12 @@ fn a_failed_insertion_returns_its_value() {
     let grows: Vec<u64> = (0..15).filter(|key| *key != 9).collect();
     for (name, insert) in INSERTIONS.iter().copied() {
         assert_eq!(returned_each_time(insert, || texts(4), name), 1, "{name}, 4 keys");
-        for ((form, make), second) in FORMS.iter().zip([1, 2, 1]) {
-            let name = format!("{name}, slots {form}");
+        for ((form, make), (second, growth)) in FORMS.iter().zip([(1, 2), (0, 2), (0, 3)]) {
+            let name = format!("{name}, {form}");
             let requests = returned_each_time(insert, || make(&beside), &name);
             assert_eq!(requests, second, "requests of {name}, for a second pair");
             let requests = returned_each_time(insert, || make(&grows), &name);
-            assert_eq!(requests, 2, "requests of {name}, at a growth");
+            assert_eq!(requests, growth, "requests of {name}, at a growth");
         }
     }
 }

@@ -17,10 +17,9 @@ use crate::memory::alloc::{Allocator, Global};
 /// turn, and through each from front to back. The list of the members in this order is the walk. It
 /// depends on the calls alone: there is no random seed. No call makes the number of slots smaller.
 ///
-/// A member takes no more bytes than its integer. A slot of an `IntSet<u64>` takes 40 bytes and a
-/// bit, and has room for one member; each further member of the slot takes 8 bytes elsewhere. With
-/// keys of at most 4 bytes a slot takes 32 bytes and a bit. Slots that insertions have added take
-/// 16 bytes, or 8, while no two members share one.
+/// A slot of an `IntSet<u64>` takes 16 bytes and a bit, and has room for one member. Each further
+/// member of the slot takes a node of 16 bytes in a vector for all slots. With keys of at most 4
+/// bytes a slot takes 12 bytes and a bit, and a node 12.
 ///
 /// Contracts see a set as a [`SetState`](../specs/Sets.antt): its walk, its number of slots and two
 /// counts. One counts the members that insertions put into larger tables, the other the keys that

@@ -84,7 +84,10 @@ impl<K: IntKey, X, A: Allocator + Copy> Table<K, X, A> {
     /// fails, it returns the value and changes nothing. A slot without a pair needs no allocation.
     #[inline(always)]
     pub fn add(&mut self, slot: usize, key: K, value: X) -> Result<Location<K>, X> {
-        let place = self.slots.push(slot, Stored::new(key), value)?;
+        let place = match self.slots.push(slot, (Stored::new(key), value)) {
+            Ok(place) => place,
+            Err((_, value)) => return Err(value),
+        };
         Ok(Location { key, slot, place })
     }
 
@@ -96,14 +99,14 @@ impl<K: IntKey, X, A: Allocator + Copy> Table<K, X, A> {
     /// A table of `capacity` empty slots. It allocates the slots, then their bits, and writes nothing
     /// before both.
     pub fn new(alloc: A, capacity: usize) -> Result<Table<K, X, A>, AllocError> {
-        let slots = Slots::new(alloc, capacity)?;
+        let slots = Slots::new(alloc, capacity, 0)?;
         Ok(Table { slots })
     }
 }
 
 impl<K: IntKey, X: Clone, A: Allocator + Copy> Table<K, X, A> {
-    /// The same keys in the same slots, with clones of their values. The slots and then their bits
-    /// are allocated before the first value is cloned.
+    /// The same keys in the same slots, with clones of their values. The slots, their bits and the
+    /// nodes of their further pairs are allocated before the first value is cloned.
     pub fn clone(&self) -> Result<Table<K, X, A>, AllocError> {
         let slots = self.slots.clone()?;
         Ok(Table { slots })

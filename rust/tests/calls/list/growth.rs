@@ -3,9 +3,6 @@ use super::{List, slot_among, slots_for};
 use crate::told::Key;
 use std::collections::BTreeMap;
 
-/// From so many slots on, a growth by an insertion may part pairs.
-const LEAST: usize = 16;
-
 impl List {
     /// The slots that are due once there is one more pair. Load is checked at 4 to 7 pairs, 12 to 15
     /// and so on.
@@ -21,49 +18,15 @@ impl List {
     }
 
     /// Growth with a new pair: for its new slot, and for each pair of its old one, up to one that comes
-    /// to the same. If the slots are shared and such a pair is there, it moves with the others. Else
-    /// it is placed behind them.
+    /// to the same. The new pair is placed behind all others.
     pub(super) fn store_and_grow(&mut self, key: Key, value: u64, slots: usize) {
         let (old, new) = (self.slot(key.0), slot_among(key.0, slots));
-        let beside: Vec<u64> =
-            self.pairs.iter().map(|it| it.0).filter(|it| self.slot(*it) == old).collect();
-        let met = beside.iter().position(|it| slot_among(*it, slots) == new);
-        self.read(1 + met.map_or(beside.len(), |it| it + 1) as u64);
-        let moves_too = met.is_some() && !self.are_lone;
-        if moves_too {
-            self.pairs.push((key.0, value));
-        }
-        if met.is_none() {
-            self.part(slots);
-        }
+        let mut beside = self.pairs.iter().map(|it| it.0).filter(|it| self.slot(*it) == old);
+        let count = beside.clone().count();
+        let met = beside.position(|it| slot_among(it, slots) == new);
+        self.read(1 + met.map_or(count, |it| it + 1) as u64);
         self.grow(slots);
-        if !moves_too {
-            self.read(1);
-            self.are_lone &= met.is_none();
-            self.pairs.push((key.0, value));
-        }
-    }
-
-    /// Shared slots become lone at a growth by an insertion if no two pairs of a slot stay together:
-    /// slot after slot, for each of two pairs, up to the first slot whose pairs stay together. Of
-    /// three pairs two may stay, so none of them is looked at.
-    fn part(&mut self, slots: usize) {
-        if self.are_lone || slots < LEAST {
-            return;
-        }
-        for pairs in self.held().values() {
-            match pairs[..] {
-                [_] => {}
-                [one, other] => {
-                    self.read(2);
-                    if slot_among(one, slots) == slot_among(other, slots) {
-                        return;
-                    }
-                }
-                _ => return,
-            }
-        }
-        self.are_lone = true;
+        self.pairs.push((key.0, value));
     }
 
     /// The numbers of each slot.
@@ -101,12 +64,10 @@ impl List {
         self.grow(slots_for(self.pairs.len() + more, self.factor).next_power_of_two());
     }
 
-    /// Growth to so many slots, if these are more: for each pair, for its slot, and before that for
-    /// each pair of a slot with more than three, for the room of its new slot.
+    /// Growth to so many slots, if these are more: for each pair, for its slot.
     fn grow(&mut self, slots: usize) {
         if slots > self.slots {
-            let moved = self.held().into_values().map(|it| it.len() as u64);
-            self.read(moved.map(|len| if len > 3 { 2 * len } else { len }).sum());
+            self.read(self.pairs.len() as u64);
             self.slots = slots;
             self.sort();
         }

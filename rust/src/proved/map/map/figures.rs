@@ -27,7 +27,7 @@ impl<K: IntKey, V, A: Allocator + Copy> IntMap<K, V, A> {
     /// its walk and its capacity.
     ///
     /// It fails only with [`Cause::Memory`], if an allocation for that map fails. It compares no
-    /// key of this map, and its time grows with the number of slots.
+    /// key of this map, and its time grows with the numbers of slots and pairs.
     pub fn collisions(&self) -> Result<IntMap<u64, u64, A>, Cause> {
         let mut sizes = IntMap::new(self.table.allocator())?;
         for slot in 0..self.table.capacity() {

@@ -31,7 +31,8 @@ impl<K: IntKey, V, A: Allocator + Copy> IntMap<K, V, A> {
     /// with 0. The call sets `from` to the number of the slot that held the pair, so the next call
     /// goes on from there. If there is no pair, `from` stays.
     ///
-    /// The other pairs of the slot move up by one place. It allocates nothing and never fails.
+    /// The other pairs of the slot move up by one place. It allocates nothing and never fails. Its
+    /// time doesn't depend on how many pairs share the slot.
     pub fn take_front(&mut self, from: &mut usize) -> Option<(K, V)> {
         let Some((key, kept)) = self.table.take_front(from) else {
             return None;
@@ -42,8 +43,9 @@ impl<K: IntKey, V, A: Allocator + Copy> IntMap<K, V, A> {
 }
 
 impl<K: IntKey, V, A: Allocator + Copy> IntMap<K, V, A> {
-    /// Drops all pairs. The capacity, the load factor and both counts stay, and the slots keep
-    /// their memory for later pairs. It goes through the slots that hold a pair, and never fails.
+    /// Drops all pairs, in iteration order. The capacity, the load factor and both counts stay, and
+    /// the map keeps its memory for later pairs. It goes through the slots that hold a pair, and never
+    /// fails.
     pub fn clear(&mut self) {
         self.table.clear();
         self.len = 0;
@@ -59,7 +61,7 @@ impl<K: IntKey, V, A: Allocator + Copy> IntMap<K, V, A> {
     /// call before left. Nothing is required of other keys, values and calls.
     ///
     /// The pairs that stay keep their order. The capacity, the load factor and both counts stay,
-    /// and the slots keep their memory for later pairs. It never fails and allocates nothing. Apart
+    /// and the map keeps its memory for later pairs. It never fails and allocates nothing. Apart
     /// from the calls of the closure, its time grows with the numbers of pairs and slots, however
     /// many pairs share a slot.
     pub fn retain<F: FnMut(K, &V) -> bool>(&mut self, f: F) {

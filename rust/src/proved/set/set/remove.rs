@@ -19,9 +19,8 @@ impl<K: IntKey, A: Allocator + Copy> IntSet<K, A> {
         Some(key)
     }
 
-    /// Removes all members. The capacity, the load factor and both counts stay, and the slots keep
-    /// their memory for later members. It goes through the slots that hold a member, and never
-    /// fails.
+    /// Removes all members. The capacity, the load factor and both counts stay, and the set keeps its
+    /// memory for later members. It goes through the slots that hold a member, and never fails.
     pub fn clear(&mut self) {
         self.map.clear();
     }
@@ -34,7 +33,7 @@ impl<K: IntKey, A: Allocator + Copy> IntSet<K, A> {
     /// call before left. Nothing is required of other keys and calls.
     ///
     /// The members that stay keep their order. The capacity, the load factor and both counts stay,
-    /// and the slots keep their memory for later members. It never fails and allocates nothing.
+    /// and the set keeps its memory for later members. It never fails and allocates nothing.
     pub fn retain<F: FnMut(K) -> bool>(&mut self, f: F) {
         let mut f = f;
         self.map.retain(

@@ -24,6 +24,19 @@ fn retain_slots<K: IntKey, V, A: Allocator, F: FnMut(K, &V) -> bool>(
     count
 }
 
+/// Calls the closure at each pair, slot after slot, with a mutable reference to its value.
+fn write_slots<K: IntKey, V, A: Allocator, F: FnMut(K, &mut V)>(
+    slots: &mut Slots<K, Kept<V>, A>,
+    f: &mut F,
+) {
+    let mut from = 0;
+    let mut held = slots.hold(from);
+    while let Some(index) = slots.next_in(&mut held, from) {
+        slots.write_at(index, f);
+        from = index + 1;
+    }
+}
+
 impl<K: IntKey, V, A: Allocator> Table<K, Kept<V>, A> {
     /// Keeps the pairs for which the closure returns true, in their order, and returns their
     /// number. The closure is called once at each pair, in the order of the walk.
@@ -88,6 +101,6 @@ impl<K: IntKey, V, A: Allocator> Table<K, Kept<V>, A> {
     /// Calls the closure at each pair in the order of the walk, with a mutable reference to its
     /// value.
     pub fn write_each<F: FnMut(K, &mut V)>(&mut self, f: &mut F) {
-        self.slots.write_each(f);
+        write_slots(&mut self.slots, f);
     }
 }

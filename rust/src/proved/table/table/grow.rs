@@ -22,7 +22,9 @@ impl<K: IntKey, X, A: Allocator + Copy> Table<K, X, A> {
     ) -> Result<Location<K>, X> {
         let target = index_of(&key, capacity);
         let pair = (Stored::new(key), value);
-        self.slots.grow_with(capacity, slot, target, pair, placed)?;
+        if let Err((_, value)) = self.slots.grow_with(capacity, slot, target, pair, placed) {
+            return Err(value);
+        }
         let place = self.slots.last_place(target);
         Ok(Location {
             key,
@@ -37,6 +39,6 @@ impl<K: IntKey, X, A: Allocator + Copy> Table<K, X, A> {
         if capacity == self.slots.len() {
             return Ok(());
         }
-        self.slots.grow(capacity, false, &mut Steps::new())
+        self.slots.grow(capacity, &mut Steps::new())
     }
 }

@@ -1,7 +1,7 @@
 //! The pairs of a table, slot after slot, each with a mutable reference to its value.
-pub use super::slots::written::{PairsMut, PlacesMut};
+pub use super::slots::written::{PairsMut, Spot, SpotsMut};
 
-use super::{Slots, Table};
+use super::{Location, Slots, Table};
 use crate::proved::table::kept::Kept;
 use crate::memory::alloc::{Allocator, Global};
 use crate::proved::table::IntKey;
@@ -17,9 +17,14 @@ impl<K: IntKey, X, A: Allocator> Table<K, X, A> {
         self.slots.pairs_mut()
     }
 
-    /// The values of located pairs by mutable reference, in ascending order of slots and places.
-    pub fn places_mut(&mut self) -> PlacesMut<'_, K, X, A> {
-        self.slots.places_mut()
+    /// Where a located pair lies.
+    pub fn spot_of(&self, at: Location<K>) -> Option<Spot> {
+        self.slots.spot_of(at.slot, at.place)
+    }
+
+    /// The values at spots in ascending order, by mutable reference.
+    pub fn spots_mut(&mut self) -> SpotsMut<'_, K, X> {
+        self.slots.spots_mut()
     }
 }
 

@@ -26,12 +26,11 @@ impl<'a, K: IntKey, V, A: Allocator + Copy> Iterator for Drain<'a, K, V, A> {
 impl<K: IntKey, V, A: Allocator + Copy> IntMap<K, V, A> {
     /// An iterator that removes one pair at each step and returns it, in iteration order. At every
     /// moment, the pairs that it returned and then the pairs that the map has are the walk at the
-    /// start. The capacity, the load factor and both counts stay, and the slots keep their memory.
+    /// start. The capacity, the load factor and both counts stay, and the map keeps its memory.
     /// It allocates nothing and never fails.
     ///
-    /// Each step moves the other pairs of its slot up by one place, so that the map has them even if
-    /// the iterator is forgotten. Where thousands of keys share a slot that is slow: exchange the map
-    /// for a new one by `mem::replace`, and take its pairs by `into_iter`.
+    /// After each step the other pairs of the slot are in their order, so that the map has them even
+    /// if the iterator is forgotten. The time of a step doesn't depend on how many share a slot.
     pub fn drain(&mut self) -> Drain<'_, K, V, A> {
         self.known();
         Drain { map: self, from: 0 }

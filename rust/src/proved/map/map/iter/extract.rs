@@ -60,10 +60,10 @@ impl<K: IntKey, V, A: Allocator + Copy> IntMap<K, V, A> {
     ///
     /// The pairs that stay keep their order: those that the closure didn't pick have the values
     /// that it left, and those that weren't reached stay as they are. The capacity, the load factor
-    /// and both counts stay, and the slots keep their memory. It allocates nothing and never fails.
+    /// and both counts stay, and the map keeps its memory. It allocates nothing and never fails.
     ///
-    /// Each step moves the pairs behind the removed one, in its slot, up by one place. Where
-    /// thousands of keys share a slot that is slow; `retain` moves each pair at most once.
+    /// Each step goes again past the pairs of the slot that were asked about before and stay. Where
+    /// thousands of keys share a slot that is slow; `retain` goes past each pair once.
     pub fn extract_if<F: FnMut(K, &mut V) -> bool>(&mut self, test: F) -> ExtractIf<'_, K, V, F, A> {
         self.known();
         ExtractIf {

@@ -1,7 +1,7 @@
 //! The pairs of a map, each with a mutable reference to its value, and those of several keys.
 //!
 //! The proved iterator hands out the references from one loan of all values, which takes `unsafe`
-//! code. This one borrows slot after slot, as Rust checks it.
+//! code. This one borrows slot after slot and node after node, as Rust checks it.
 use super::{IntoIter, IntoKeys, IntoValues, Iter, Keys, Values, ValuesMut};
 use crate::memory::alloc::{Allocator, Global};
 use crate::proved::map::map::IntMap;
@@ -59,7 +59,8 @@ empty! {
 
 impl<K: IntKey, V, A: Allocator + Copy> IntMap<K, V, A> {
     /// An iterator over the pairs in iteration order, each with a mutable reference to its value.
-    /// It allocates nothing.
+    /// It allocates nothing. The pairs that share a slot with another are put into iteration order in
+    /// memory first, unless they lie in it already.
     pub fn iter_mut(&mut self) -> IterMut<'_, K, V, A> {
         IterMut { pairs: self.table.pairs_mut() }
     }
@@ -67,17 +68,17 @@ impl<K: IntKey, V, A: Allocator + Copy> IntMap<K, V, A> {
     /// The values of these keys, by mutable reference. It panics if two keys have one pair.
     #[track_caller]
     pub fn get_disjoint_mut<const N: usize>(&mut self, keys: [K; N]) -> [Option<&mut V>; N] {
-        let places = keys.map(|key| self.locate(key).ok().map(|at| (at.slot, at.place)));
+        let spots = keys.map(|key| self.locate(key).ok().and_then(|at| self.table.spot_of(at)));
         let mut order: [usize; N] = from_fn(|number| number);
-        order.sort_unstable_by_key(|number| places[*number]);
+        order.sort_unstable_by_key(|number| spots[*number]);
         let mut values = [const { None }; N];
-        let mut rest = self.table.places_mut();
+        let mut rest = self.table.spots_mut();
         let mut last = None;
         for number in order {
-            if let Some((slot, place)) = places[number] {
-                assert!(last != places[number], "two of the keys are equal");
-                last = places[number];
-                values[number] = rest.value_at(slot, place).map(Kept::get_mut);
+            if let Some(spot) = spots[number] {
+                assert!(last != spots[number], "two of the keys are equal");
+                last = spots[number];
+                values[number] = rest.value_at(spot).map(Kept::get_mut);
             }
         }
         values

@@ -2,77 +2,61 @@
 use super::Slots;
 use crate::memory::alloc::Allocator;
 use crate::proved::table::IntKey;
-use crate::proved::table::bits::Bits;
+use core::mem::forget;
 
-/// Sets the bit of a slot that holds a pair, and clears that of another one.
-fn mark<A: Allocator>(bits: &mut Bits<A>, place: usize, is_filled: bool) {
-    if is_filled {
-        bits.set(place);
-    } else {
-        bits.clear(place);
+/// Holds the slots of a map that grows, and those that its pairs move to.
+struct Moving<'a, K: IntKey, X, A: Allocator> {
+    old: &'a mut Slots<K, X, A>,
+    new: &'a mut Slots<K, X, A>,
+}
+
+impl<K: IntKey, X, A: Allocator> Drop for Moving<'_, K, X, A> {
+    /// Moves the pairs back to their old slots, behind those that are still there. It calls no
+    /// `number`: the old slot of a pair is its new one modulo the number of old slots. The nodes that
+    /// the pairs had are free, so it needs no memory. Only if numbers change from call to call it may
+    /// need some, and then it drops a pair for which there is none.
+    #[cold]
+    #[inline(never)]
+    fn drop(&mut self) {
+        self.new.turn_each();
+        let mut from = 0;
+        while let Some(index) = self.new.next_filled(from) {
+            while self.new.is_filled(index) {
+                let pair = self.new.take_front(index);
+                drop(self.old.push(index & self.old.mask, pair));
+            }
+            from = index + 1;
+        }
     }
+}
+
+/// Moves the pairs of old slots to new ones. If a key's `number` panics on the way, all are in the old
+/// slots afterwards.
+#[inline(always)]
+pub(super) fn moving<K: IntKey, X, A: Allocator>(
+    old: &mut Slots<K, X, A>,
+    new: &mut Slots<K, X, A>,
+    move_rows: impl FnOnce(&mut Slots<K, X, A>, &mut Slots<K, X, A>),
+) {
+    let moving = Moving { old, new };
+    move_rows(moving.old, moving.new);
+    forget(moving);
 }
 
 impl<K: IntKey, X, A: Allocator> Slots<K, X, A> {
     /// Makes the slots whole again after a panic of a closure, of a drop or of a key's `number`, and
-    /// returns how many pairs they have. It calls no `number`. The slots have the form that they had
-    /// before the call, or are shared if a growth was to make them so.
+    /// returns how many pairs they have. It calls no `number`. All that such a panic leaves wrong are
+    /// the bits: links lead through the pairs of each slot at any time.
     pub(in crate::proved::table) fn mend(&mut self) -> usize {
-        self.undo_new_form();
-        self.undo_lone_growth();
-        self.undo_shared_growth();
-        let mut count = 0;
-        for (place, slot) in self.lone.iter().enumerate() {
-            count += slot.len();
-            mark(&mut self.directory.bits, place, slot.is_filled());
-        }
-        for (place, slot) in self.shared.iter_mut().enumerate() {
-            slot.mend();
-            count += slot.len();
-            mark(&mut self.directory.bits, place, slot.is_filled());
-        }
-        count
-    }
-
-    /// Moves the pairs of lone slots to shared ones, if a panic has ended a growth that changes the
-    /// form of slots. A pair's slot was its present one modulo the number of slots before.
-    fn undo_new_form(&mut self) {
-        if self.shared.is_empty() {
-            return;
-        }
-        while let Some(mut slot) = self.lone.pop() {
-            if slot.is_filled() {
-                let place = self.lone.len() & self.directory.mask;
-                self.shared[place].take_again(slot.take());
+        let mut filled = 0;
+        for (index, slot) in self.slots.iter().enumerate() {
+            if slot.is_empty() {
+                self.bits.clear(index);
+            } else {
+                self.bits.set(index);
+                filled += 1;
             }
         }
-        self.lone.shrink_to_fit();
-    }
-
-    /// Moves the pairs of added lone slots back, if a panic has ended growth. A pair's slot was its
-    /// present one modulo the number of slots before. That one is empty, since no other pair was in
-    /// it. If a key's `number` changes it may be filled, and then the pair is dropped.
-    fn undo_lone_growth(&mut self) {
-        while self.lone.len() > self.directory.mask + 1 {
-            let Some(slot) = self.lone.pop() else {
-                return;
-            };
-            let place = self.lone.len() & self.directory.mask;
-            if !self.lone[place].is_filled() {
-                self.lone[place] = slot;
-            }
-        }
-    }
-
-    /// Moves the pairs of added shared slots back, if a panic has ended growth. A pair's slot was its
-    /// present one modulo the number of slots before.
-    fn undo_shared_growth(&mut self) {
-        while self.shared.len() > self.directory.mask + 1 {
-            let Some(slot) = self.shared.pop() else {
-                return;
-            };
-            let place = self.shared.len() & self.directory.mask;
-            self.shared[place].take_in(slot);
-        }
+        filled + self.pool.held()
     }
 }

@@ -1,51 +1,45 @@
 //! The pairs of all slots, slot after slot, each with a mutable reference to its value; and those at
 //! places that are known.
-use super::{Directory, Slots, unmark_unless};
+//!
+//! Rust lends the elements of a vector one by one in the order in which they lie there. So the nodes
+//! are put into the order of the walk before they are lent, if they don't lie in it already.
+use super::Slots;
 use crate::memory::Vec;
 use crate::memory::alloc::{Allocator, Global};
 use crate::proved::table::IntKey;
 use crate::proved::table::bits::Bits;
 use crate::proved::table::bits::written::{MarkedMut, take_at};
 use crate::proved::table::kept::Kept;
-use crate::proved::table::lone::Lone;
-use crate::proved::table::slot::Slot;
+use crate::proved::table::linked::chain::seek;
+use crate::proved::table::linked::closures::written::retain_mut;
+use crate::proved::table::linked::node::{NODE_LIMIT, NOWHERE, Node};
+use crate::proved::table::linked::pool::Pool;
+use crate::proved::table::linked::slot::Slot;
+use crate::proved::table::table::slots::pairs::unmark_if;
 use crate::proved::table::table::stored::Stored;
-use core::mem::take;
+use core::marker::PhantomData;
+use core::slice;
 
-/// The slots that are left and hold a pair. All are of one form.
-enum FilledMut<'a, K, X, A: Allocator> {
-    Lone(MarkedMut<'a, Lone<K, X>>),
-    Shared(MarkedMut<'a, Slot<K, X, A>>),
-}
-
-/// The pairs that are left: those of the current slot, then those of the filled slots behind
-/// it.
+/// The pairs that are left: those that a link leads through, which are the first ones of the nodes,
+/// then those of the filled slots behind them.
 pub struct PairsMut<'a, K, X, A: Allocator> {
-    rest: &'a mut [(Stored<K>, X)],
-    filled: FilledMut<'a, K, X, A>,
+    link: usize,
+    nodes: slice::IterMut<'a, Node<(Stored<K>, X)>>,
+    filled: MarkedMut<'a, Slot<(Stored<K>, X)>>,
+    allocator: PhantomData<A>,
 }
 
 impl<'a, K: IntKey, X, A: Allocator> PairsMut<'a, K, X, A> {
     /// The next stored pair.
     #[inline(always)]
     fn next_pair(&mut self) -> Option<&'a mut (Stored<K>, X)> {
-        loop {
-            if let [pair, rest @ ..] = take(&mut self.rest) {
-                self.rest = rest;
-                return Some(pair);
-            }
-            let first = match &mut self.filled {
-                FilledMut::Lone(slots) => slots.next()?.pair_mut(),
-                FilledMut::Shared(slots) => {
-                    let (first, rest) = slots.next()?.parts_mut();
-                    self.rest = rest;
-                    first
-                }
-            };
-            if first.is_some() {
-                return first;
-            }
-        }
+        let (link, pair) = if self.link < NODE_LIMIT {
+            self.nodes.next()?.get_mut()?
+        } else {
+            self.filled.next()?.get_mut()?
+        };
+        self.link = link;
+        Some(pair)
     }
 }
 
@@ -59,78 +53,128 @@ impl<'a, K: IntKey, X, A: Allocator> Iterator for PairsMut<'a, K, X, A> {
     }
 }
 
-/// The values at places in ascending order, by mutable reference.
-pub struct PlacesMut<'a, K, X, A: Allocator> {
-    /// The pairs of the current slot that are left.
-    rest: &'a mut [(Stored<K>, X)],
-    lone: &'a mut [Lone<K, X>],
-    shared: &'a mut [Slot<K, X, A>],
-    /// How many slots are no longer in `lone` or `shared`.
-    passed: usize,
-    /// How many pairs of the current slot are no longer in `rest`.
-    places: usize,
+/// Where a pair lies: in a slot or in a node, by its index.
+#[derive(Clone, Copy, PartialEq, Eq, PartialOrd, Ord)]
+pub enum Spot {
+    First(usize),
+    Further(usize),
 }
 
-impl<'a, K: IntKey, X, A: Allocator> PlacesMut<'a, K, X, A> {
-    /// The value at a place of a slot that is behind all places of earlier calls.
-    pub fn value_at(&mut self, slot: usize, place: usize) -> Option<&'a mut X> {
-        if slot >= self.passed {
-            let between = slot - self.passed;
-            self.passed = slot + 1;
-            self.places = 1;
-            let first = if self.lone.is_empty() {
-                let (first, rest) = take_at(&mut self.shared, between).parts_mut();
-                self.rest = rest;
-                first
-            } else {
-                take_at(&mut self.lone, between).pair_mut()
-            };
-            if place == 0 {
-                return Some(&mut first?.1);
-            }
-        }
-        let between = place - self.places;
-        self.places = place + 1;
-        Some(&mut take_at(&mut self.rest, between).1)
+/// The elements of a slice that are left, and how many are not.
+struct Rest<'a, T> {
+    elements: &'a mut [T],
+    passed: usize,
+}
+
+impl<'a, T> Rest<'a, T> {
+    /// All elements of a slice.
+    fn of(elements: &'a mut [T]) -> Rest<'a, T> {
+        Rest { elements, passed: 0 }
+    }
+
+    /// The element at an index that is behind all those of earlier calls.
+    fn take(&mut self, index: usize) -> &'a mut T {
+        let between = index - self.passed;
+        self.passed = index + 1;
+        take_at(&mut self.elements, between)
+    }
+}
+
+/// The values at spots in ascending order, by mutable reference.
+pub struct SpotsMut<'a, K, X> {
+    slots: Rest<'a, Slot<(Stored<K>, X)>>,
+    nodes: Rest<'a, Node<(Stored<K>, X)>>,
+}
+
+impl<'a, K: IntKey, X> SpotsMut<'a, K, X> {
+    /// The value at a spot that is behind all spots of earlier calls.
+    pub fn value_at(&mut self, spot: Spot) -> Option<&'a mut X> {
+        let (_, pair) = match spot {
+            Spot::First(index) => self.slots.take(index).get_mut()?,
+            Spot::Further(index) => self.nodes.take(index).get_mut()?,
+        };
+        Some(&mut pair.1)
     }
 }
 
 impl<K: IntKey, X> Slots<K, X, Global> {
     /// No slots, for iterators without items.
-    pub(in crate::proved::table) const NONE: Self = Slots {
-        directory: Directory { mask: 0, bits: Bits::NONE },
-        lone: Vec::new(Global),
-        shared: Vec::new(Global),
-    };
+    pub(in crate::proved::table) const NONE: Self =
+        Slots { mask: 0, bits: Bits::NONE, slots: Vec::new(Global), pool: Pool::NONE };
 }
 
 impl<K: IntKey, X, A: Allocator> Default for PairsMut<'_, K, X, A> {
     fn default() -> Self {
-        PairsMut { rest: &mut [], filled: FilledMut::Shared(const { &Bits::NONE }.pick(&mut [])) }
+        PairsMut {
+            link: NOWHERE,
+            nodes: Default::default(),
+            filled: const { &Bits::NONE }.pick(&mut []),
+            allocator: PhantomData,
+        }
     }
 }
 
 impl<K: IntKey, X, A: Allocator> Slots<K, X, A> {
-    /// The values at places in ascending order, by mutable reference.
-    pub(in crate::proved::table) fn places_mut(&mut self) -> PlacesMut<'_, K, X, A> {
-        PlacesMut {
-            rest: &mut [],
-            lone: &mut self.lone,
-            shared: &mut self.shared,
-            passed: 0,
-            places: 0,
+    /// Where the pair at a place of a slot lies.
+    pub(in crate::proved::table) fn spot_of(&self, index: usize, place: usize) -> Option<Spot> {
+        if place == 0 {
+            return Some(Spot::First(index));
+        }
+        let (link, _) = self.slots[index].get()?;
+        Some(Spot::Further(seek(&self.pool, link, place - 1)))
+    }
+
+    /// The values at spots in ascending order, by mutable reference.
+    pub(in crate::proved::table) fn spots_mut(&mut self) -> SpotsMut<'_, K, X> {
+        SpotsMut { slots: Rest::of(&mut self.slots), nodes: Rest::of(self.pool.nodes_mut()) }
+    }
+
+    /// The pairs, slot after slot, each with a mutable reference to its value. The nodes get the order
+    /// of the walk first.
+    pub(in crate::proved::table) fn pairs_mut(&mut self) -> PairsMut<'_, K, X, A> {
+        if !self.are_in_order() {
+            self.order();
+        }
+        PairsMut {
+            link: NOWHERE,
+            nodes: self.pool.nodes_mut().iter_mut(),
+            filled: self.bits.pick(&mut self.slots),
+            allocator: PhantomData,
         }
     }
 
-    /// The pairs, slot after slot, each with a mutable reference to its value.
-    pub(in crate::proved::table) fn pairs_mut(&mut self) -> PairsMut<'_, K, X, A> {
-        let marks = &self.directory.bits;
-        let filled = if self.lone.is_empty() {
-            FilledMut::Shared(marks.pick(&mut self.shared))
-        } else {
-            FilledMut::Lone(marks.pick(&mut self.lone))
-        };
-        PairsMut { rest: &mut [], filled }
+    /// Whether the nodes that hold a pair lie in the order of the walk, before those that are free.
+    fn are_in_order(&self) -> bool {
+        if self.pool.held() == 0 {
+            return true;
+        }
+        let mut from = 0;
+        for index in self.bits.iter() {
+            let Some(end) = self.slots[index].get().and_then(|it| self.pool.end_of(it.0, from))
+            else {
+                return false;
+            };
+            from = end;
+        }
+        true
+    }
+
+    /// Puts the nodes into the order of the walk, in place. It allocates nothing, and the walk stays.
+    fn order(&mut self) {
+        let mut from = 0;
+        for index in self.bits.iter() {
+            let slot = &mut self.slots[index];
+            if let Some((link, _)) = slot.get().filter(|it| it.0 < NODE_LIMIT) {
+                slot.set_link(from);
+                from = self.pool.number(link, from);
+            }
+        }
+        self.pool.settle();
+        for index in self.bits.iter() {
+            if let Some((link, _)) = self.slots[index].get().filter(|it| it.0 < NODE_LIMIT) {
+                self.pool.end_before(link);
+            }
+        }
     }
 }
 
@@ -145,16 +189,9 @@ impl<K: IntKey, V, A: Allocator> Slots<K, Kept<V>, A> {
         let mut held = self.hold(from);
         while let Some(index) = self.next_in(&mut held, from) {
             from = index + 1;
-            if let Some(slot) = self.lone.get_mut(index) {
-                slot.retain_mut(f);
-                unmark_unless(&mut self.directory.bits, slot.is_filled(), index);
-                count += slot.len();
-            } else {
-                let slot = &mut self.shared[index];
-                slot.retain_mut(f);
-                unmark_unless(&mut self.directory.bits, slot.is_filled(), index);
-                count += slot.len();
-            }
+            let slot = &mut self.slots[index];
+            count += retain_mut(slot, &mut self.pool, f);
+            unmark_if(&mut self.bits, slot.is_empty(), index);
         }
         count
     }

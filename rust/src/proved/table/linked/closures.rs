@@ -1,0 +1,156 @@
+//! Closures are called at the pairs of one slot.
+
+use crate::memory::prelude::*;
+use crate::proved::table::kept::Kept;
+use crate::proved::table::key::IntKey;
+use crate::proved::table::linked::chain::{seek, take_behind};
+use crate::proved::table::linked::node::{NODE_LIMIT, NOWHERE};
+use crate::proved::table::linked::pool::Pool;
+use crate::proved::table::linked::slot::Slot;
+use crate::proved::table::table::asked::keeps_pair;
+use crate::proved::table::table::stored::Stored;
+use crate::memory::alloc::Allocator;
+
+/// Removes the pair of a node behind the first pair of a slot. The link to that node, which the node
+/// before it has, or the slot if that one is none, then leads to the next.
+#[inline(always)]
+fn unlink<P, A: Allocator>(
+    slot: &mut Slot<P>,
+    pool: &mut Pool<P, A>,
+    before: usize,
+    at: usize,
+    next: usize,
+) -> P {
+    let pair = pool.release(at);
+    if before >= NODE_LIMIT {
+        slot.set_link(next);
+        return pair;
+    }
+    pool.set_link(before, next);
+    pair
+}
+
+/// Removes the first pair of a slot. The others move up by one place.
+#[inline(always)]
+fn unlink_first<P, A: Allocator>(slot: &mut Slot<P>, link: usize, pool: &mut Pool<P, A>) -> P {
+    if link >= NODE_LIMIT {
+        return slot.take();
+    }
+    let mut link = link;
+    let second = take_behind(&mut link, pool);
+    slot.set_link(link);
+    slot.replace(second)
+}
+
+/// Keeps the pairs behind the first one of a slot for which the closure returns true, in their order,
+/// and returns their number.
+fn retain_behind<K: IntKey, V, A: Allocator, F: FnMut(K, &V) -> bool>(
+    slot: &mut Slot<(Stored<K>, Kept<V>)>,
+    link: usize,
+    pool: &mut Pool<(Stored<K>, Kept<V>), A>,
+    f: &mut F,
+) -> usize {
+    let mut before = NOWHERE;
+    let mut at = link;
+    let mut kept = 0;
+    while let Some((next, pair)) = pool.get(at) {
+        if keeps_pair(pair, f) {
+            before = at;
+            kept += 1;
+        } else {
+            unlink(slot, pool, before, at, next);
+        }
+        at = next;
+    }
+    kept
+}
+
+/// Keeps the pairs of a slot for which the closure returns true, in their order, and returns their
+/// number. The closure is called once at each pair, from the front, and a pair is unlinked at once
+/// when it returns false.
+pub(in crate::proved::table) fn retain<K: IntKey, V, A: Allocator, F: FnMut(K, &V) -> bool>(
+    slot: &mut Slot<(Stored<K>, Kept<V>)>,
+    pool: &mut Pool<(Stored<K>, Kept<V>), A>,
+    f: &mut F,
+) -> usize {
+    while let Some((link, first)) = slot.get() {
+        if keeps_pair(first, f) {
+            return retain_behind(slot, link, pool, f) + 1;
+        }
+        unlink_first(slot, link, pool);
+    }
+    0
+}
+
+/// Calls the closure at each pair of a slot in turn, with a mutable reference to its value.
+pub(in crate::proved::table) fn write_each<K: IntKey, V, A: Allocator, F: FnMut(K, &mut V)>(
+    slot: &mut Slot<(Stored<K>, Kept<V>)>,
+    pool: &mut Pool<(Stored<K>, Kept<V>), A>,
+    f: &mut F,
+) {
+    let Some((link, _)) = slot.get() else {
+        return;
+    };
+    slot.write(f);
+    let mut at = link;
+    while let Some((next, _)) = pool.get(at) {
+        pool.write(at, f);
+        at = next;
+    }
+}
+
+/// The node with the pair at a place behind the first one of a slot, and before it that with the pair
+/// at the place before, which is none at the front.
+#[inline(always)]
+fn seek_behind<P, A: Allocator>(pool: &Pool<P, A>, link: usize, place: usize) -> (usize, usize) {
+    if place == 0 {
+        return (NOWHERE, link);
+    }
+    let before = seek(pool, link, place - 1);
+    (before, pool.link(before))
+}
+
+/// Asks the closure about each pair behind the first one of a slot, from the place on, and removes
+/// the first one that it picks. Those behind it move up, and the place moves on to the first of them.
+fn extract_behind<K: IntKey, V, A: Allocator, F: FnMut(K, &mut V) -> bool>(
+    slot: &mut Slot<(Stored<K>, Kept<V>)>,
+    link: usize,
+    pool: &mut Pool<(Stored<K>, Kept<V>), A>,
+    place: &mut usize,
+    f: &mut F,
+) -> Option<(Stored<K>, Kept<V>)> {
+    let (mut before, mut at) = seek_behind(pool, link, *place - 1);
+    while let Some((next, _)) = pool.get(at) {
+        if pool.pick(at, f) {
+            return Some(unlink(slot, pool, before, at, next));
+        }
+        before = at;
+        at = next;
+        *place += 1;
+    }
+    None
+}
+
+/// Asks the closure about each pair of a slot, from the place on, and removes the first one that it
+/// picks. Those behind it move up, and the place moves on to the first of them.
+pub(in crate::proved::table) fn extract<K: IntKey, V, A: Allocator, F: FnMut(K, &mut V) -> bool>(
+    slot: &mut Slot<(Stored<K>, Kept<V>)>,
+    pool: &mut Pool<(Stored<K>, Kept<V>), A>,
+    place: &mut usize,
+    f: &mut F,
+) -> Option<(Stored<K>, Kept<V>)> {
+    let Some((link, _)) = slot.get() else {
+        return None;
+    };
+    if *place > 0 {
+        return extract_behind(slot, link, pool, place, f);
+    }
+    if slot.pick(f) {
+        return Some(unlink_first(slot, link, pool));
+    }
+    *place = 1;
+    extract_behind(slot, link, pool, place, f)
+}
+
+// Only Rust has what follows. It is tested, not proved.
+pub mod written;

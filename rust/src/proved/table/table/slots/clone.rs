@@ -1,0 +1,83 @@
+//! Slots are cloned: the same keys in the same slots, with clones of their values.
+
+use crate::memory::prelude::*;
+use crate::proved::table::key::IntKey;
+use crate::proved::table::linked::node::{NODE_LIMIT, NOWHERE};
+use crate::proved::table::linked::pool::Pool;
+use crate::proved::table::linked::slot::Slot;
+use crate::proved::table::table::slots::Slots;
+use crate::proved::table::table::stored::Stored;
+use crate::memory::alloc::{AllocError, Allocator};
+
+/// The same key with a clone of the value. It fails if the clone does. No key is compared.
+#[inline(always)]
+fn clone_pair<K: IntKey, X: Clone>(pair: &(Stored<K>, X)) -> Result<(Stored<K>, X), AllocError> {
+    let value = pair.1.clone()?;
+    Ok((pair.0.copied(), value))
+}
+
+/// The link of a new node behind this many: to the node that comes next, if `link` leads to one.
+#[inline(always)]
+fn link_behind(link: usize, held: usize) -> usize {
+    if link < NODE_LIMIT { held + 1 } else { NOWHERE }
+}
+
+/// Puts clones of the pairs that a link leads through into new nodes of `made`, in their order, and
+/// returns the link to them.
+fn clone_chain<K: IntKey, X: Clone, A: Allocator>(
+    pool: &Pool<(Stored<K>, X), A>,
+    from: usize,
+    made: &mut Pool<(Stored<K>, X), A>,
+) -> Result<usize, AllocError> {
+    if from >= NODE_LIMIT {
+        return Ok(NOWHERE);
+    }
+    let first = made.held();
+    let mut link = from;
+    while let Some((next, pair)) = pool.get(link) {
+        let copy = clone_pair(pair)?;
+        match made.append(link_behind(next, made.held()), copy) {
+            Ok(_) => {}
+            Err(_) => return Err(AllocError),
+        }
+        link = next;
+    }
+    Ok(first)
+}
+
+/// A slot with clones of the pairs of another. Those behind the first one are put into new nodes of
+/// `made`.
+#[inline(always)]
+fn clone_slot<K: IntKey, X: Clone, A: Allocator>(
+    slot: &Slot<(Stored<K>, X)>,
+    pool: &Pool<(Stored<K>, X), A>,
+    made: &mut Pool<(Stored<K>, X), A>,
+) -> Result<Slot<(Stored<K>, X)>, AllocError> {
+    let Some((link, pair)) = slot.get() else {
+        return Ok(Slot::empty());
+    };
+    let copy = clone_pair(pair)?;
+    let link = clone_chain(pool, link, made)?;
+    Ok(Slot::filled(link, copy))
+}
+
+impl<K: IntKey, X: Clone, A: Allocator + Copy> Slots<K, X, A> {
+    /// The same keys in the same slots, with clones of their values. The slots, their bits and the
+    /// nodes are allocated before the first value is cloned. The values are cloned slot after slot,
+    /// and those of a slot from the front.
+    pub(in crate::proved::table) fn clone(&self) -> Result<Slots<K, X, A>, AllocError> {
+        let alloc = *self.slots.allocator();
+        let mut slots = Vec::with_capacity(alloc, self.slots.len())?;
+        let bits = self.bits.clone()?;
+        let mut pool = Pool::with_room(alloc, self.pool.held())?;
+        for slot in &self.slots {
+            slots.push_reserved(clone_slot(slot, &self.pool, &mut pool)?);
+        }
+        Ok(Slots {
+            mask: self.mask,
+            bits,
+            slots,
+            pool,
+        })
+    }
+}
