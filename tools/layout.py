@@ -1,19 +1,24 @@
 """Where fields lie in memory, for tools/portable.py, read off the structs of Rattle's sources.
 
 The parts of a struct lie in the order in which they are declared, each at the next multiple of its alignment. An `Option`
-has a byte that is 1 if it is `Some`, and then the value. A `Vec` has an address, a length and a room."""
+has a byte that is 1 if it is `Some`, and then the value. A `Vec` has an address, a length and a room. Another enum has a byte
+that numbers its variant, and then the parts of that variant. The parts of its longest variant stand for those of all."""
 import re
 from collections import namedtuple
 
 from llvm_module import parted
 
-NUMBERS = {"u8": 1, "bool": 1, "i32": 4, "u32": 4, "u64": 8, "i64": 8, "usize": 8}
+NUMBERS = {"u8": 1, "bool": 1, "u16": 2, "i32": 4, "u32": 4, "u64": 8, "i64": 8, "usize": 8}
 # types without bytes
 EMPTY = ("Global", "PhantomData", "Steps")
 # of std, with the same parameter
 KNOWN = {"Vec": [("", "*const T"), ("len", "usize"), ("room", "usize")], "Option": [("has", "u8"), ("", "T")]}
+# the parts of a variant have no names: numbers of these types are those of a link
+PARTS_OF_LINK = {"u16": "high", "u32": "low"}
 STRUCT = re.compile(r"^(?:pub(?:\([^)]*\))? )?struct (\w+)(?:<([^{;]*)>)? \{\n(.*?)^\}", re.M | re.S)
 FIELD = re.compile(r"^ {4}(?:pub(?:\([^)]*\))? )?(\w+): (.*),$", re.M)
+ENUM = re.compile(r"^enum (\w+)<([^{;]*)> \{\n(.*?)^\}", re.M | re.S)
+VARIANT = re.compile(r"^ {4}\w+\((.*)\),$", re.M)
 
 # a part of a type: its name, its type and where it lies
 Part = namedtuple("Part", "name kind at")
@@ -38,6 +43,10 @@ class Layouts:
             fields = re.sub(r"^ *(?:///|//|ghost )[^\n]*\n", "", fields, flags=re.M)
             parameters = [it.split(":")[0] for it in parted_types(places) if it[0] != "'"]
             self.structs[name] = (parameters, FIELD.findall(fields))
+        for name, places, variants in (it for text in texts for it in ENUM.findall(text)):
+            longest = max(map(parted_types, VARIANT.findall(variants)), key=len)
+            parts = [("has_pair", "u8"), *((PARTS_OF_LINK.get(it, ""), it) for it in longest)]
+            self.structs[name] = (places.split(", "), parts)
 
     def declared(self, kind):
         """The names and the types of the parts of a type."""

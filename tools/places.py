@@ -16,10 +16,10 @@ BLOCKS = ("rattle_alloc", "rattle_realloc")
 ROW = "["
 # what a type is called, if not by its own name, and what an address of it is called, if not that
 TITLES = {"(Stored": "pair"}
-CALLED = {"int_map": "map", "lone": "slot"}
-STRUCTS = ("int_map", "lone", "slot", "pair")
+CALLED = {"int_map": "map"}
+STRUCTS = ("int_map", "slot", "node", "pair")
 # how a number is called that chooses one of many
-NUMBERS_OF = {"slot": "index", "lone": "index", "pair": "place"}
+NUMBERS_OF = {"slot": "index", "node": "at"}
 MOVED = re.compile(rf"getelementptr (?:(?:inbounds|nuw|nusw) )*i8, ptr ({VALUE}), i64 ({VALUE})$")
 SAME = re.compile(rf"(?:freeze|inttoptr|ptrtoint|ptrtoaddr) {TYPE} ({VALUE})(?: to {TYPE})?$")
 LOADED = re.compile(rf"load {TYPE}, ptr ({VALUE})(?:, align \d+)?$")

@@ -87,7 +87,7 @@ def bits(kind):
 
 def is_odd(kind):
     """Whether head.c loads and stores so many bits byte by byte."""
-    return kind[0] == "i" and bits(kind) not in (1, 8, 32, 64, 128)
+    return kind[0] == "i" and bits(kind) not in (1, 8, 16, 32, 64, 128)
 
 
 def fields_of(kind):
@@ -270,6 +270,8 @@ class FunctionInC:
             return nothing(kind)
         if text in ("true", "false"):
             return text
+        if number := re.fullmatch(r"inttoptr \(i64 (-?\d+) to ptr\)", text):
+            return f"(char *)(uintptr_t){self.printer.constant(int(number[1]), 'i64')}"
         return "(char *)no_bytes" if text[0] == "@" else self.printer.constant(int(text), kind)
 
     def used(self, value, is_whole_wanted):

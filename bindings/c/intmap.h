@@ -56,7 +56,8 @@
 // was granted before the refusal. A second try uses that memory.
 //
 // - INTMAP_NO_MEMORY: malloc or realloc returned NULL; or a block would need 2^63 bytes or more,
-//   and no request was made for it.
+//   and no request was made for it; or there were some 2^48 nodes (see MEMORY), which take more
+//   memory than any process has today.
 // - INTMAP_TOO_LARGE: the map would have more than 2^63 slots or 2^64 - 1 pairs.
 //
 // THE FIRST CALL. INTMAP_INIT is a map of 4 slots without pairs, with a load factor of 909
@@ -75,23 +76,27 @@
 // scramble each key by intmap_scramble. If keys share slots, intmap_filled_slots is far below
 // intmap_len.
 //
-// An insertion that adds slots, or makes lone slots shared (see MEMORY), moves all pairs. Spread
-// over all insertions, this takes constant time for each pair, and for each slot that was made in
-// advance. If intmap_reserve, intmap_reserve_slots or intmap_set_load_factor adds slots, it takes
-// time in the pairs and slots, and otherwise constant time.
+// A cursor says how many pairs of a slot it has passed. So each step with it takes time in the
+// pairs of the slot, and a walk takes time in the square of the pairs of a crowded slot.
 //
-// MEMORY. Only a call that may return INTMAP_NO_MEMORY requests memory, from malloc or realloc. The
-// slots of a map are all shared or all lone. A shared slot takes 48 bytes. So a map of shared slots
-// that has grown takes some 50 to 120 bytes per pair, and up to 140 if many keys share slots. A
-// lone slot takes 24 bytes. An insertion that adds slots, to 16 or more, makes all slots lone if
-// each pair then has a slot of its own, and none held three pairs before. A second pair in a lone
-// slot makes all slots shared. So ids that count up without gaps take 27 to 54 bytes per pair. A
-// clone has as many slots.
+// An insertion that adds slots moves all pairs. Spread over all insertions, this takes constant
+// time for each pair, and for each slot that was made in advance. If intmap_reserve,
+// intmap_reserve_slots or intmap_set_load_factor adds slots, it takes time in the pairs, slots and
+// nodes, and otherwise constant time.
+//
+// MEMORY. Only a call that may return INTMAP_NO_MEMORY requests memory, from malloc or realloc. A
+// slot takes 24 bytes and a bit, and holds one pair. Each further pair of a slot is in a node of 24
+// bytes. The nodes of all slots lie in one block. An insertion that adds no slots requests memory
+// only if the slot holds a pair, no node is free and that block is full; it then makes the block
+// larger. A removal from a slot of several pairs frees a node, and the next pair that needs a node
+// takes it. A call that adds slots requests memory for the new slots, their bits and the nodes of
+// the pairs that share slots, before it moves a pair. It frees the old ones at the end, so both are
+// held for that time. A clone has as many slots.
 //
 // A call that makes slots in advance writes each of them, which takes time in their number. Linux
 // may grant more memory than there is, so too large a number of slots may end the process. Memory
-// is given back by intmap_free, by intmap_shrink_to_fit, and by a call that replaces a map, adds
-// slots or makes lone slots shared.
+// is given back by intmap_free, by intmap_shrink_to_fit, and by a call that replaces a map or adds
+// slots.
 //
 // DEBUGGING. With intmap_debug.c in place of intmap.c, some calls that break the rules end the
 // program, by a line on standard error and abort():
@@ -268,7 +273,7 @@ INTMAP_NONNULL INTMAP_MUST_USE intmap_status intmap_clone(const intmap *map, int
     INTMAP_CALL;
 
 // Frees all memory of the map. The word is then INTMAP_INIT, and may be used again. The call takes
-// time in the slots.
+// at most time in the slots and nodes.
 INTMAP_NONNULL void intmap_free(intmap *map) INTMAP_CALL;
 
 // Returns INTMAP_PRESENT with the value of the key, or INTMAP_ABSENT.
@@ -367,11 +372,11 @@ INTMAP_NONNULL INTMAP_MUST_USE static inline intmap_status intmap_at_or_insert(
 
 // Removes the pair of the key. It returns INTMAP_PRESENT with the value, or INTMAP_ABSENT if the
 // key was absent. The last pair of the slot moves into the place of the removed one. The call
-// requests no memory. The number of slots stays, and the slots keep their memory.
+// requests no memory. The number of slots stays, and the map keeps its memory.
 INTMAP_NONNULL intmap_found_value intmap_remove(intmap *map, uint64_t key) INTMAP_CALL;
 
-// Removes all pairs. The number of slots stays, and the slots keep their memory. The call takes
-// time in the pairs and a 64th of the slots.
+// Removes all pairs. The number of slots stays, and the map keeps its memory. The call takes time
+// in the pairs and a 64th of the slots.
 INTMAP_NONNULL void intmap_clear(intmap *map) INTMAP_CALL;
 
 // Returns the number of pairs. Like the next two calls it takes constant time.
@@ -411,8 +416,7 @@ INTMAP_NONNULL INTMAP_MUST_USE intmap_status intmap_set_load_factor(intmap *map,
 // Insertions of ids that follow one another can't fail then: as long as all keys of the map lie
 // within as many numbers in a row as there are slots, each has a slot of its own. A law of the
 // sources, keys_in_a_row_have_room, proves it of a map with enough slots, and tests show that this
-// call makes enough. These slots are shared ones, so such ids take twice the memory that they take
-// in a map that grows.
+// call makes enough.
 //
 // A load factor above 10^16 counts as 10^16. The call returns INTMAP_OK; INTMAP_TOO_LARGE if and
 // only if that takes more than 2^63 slots, or there would be more than 2^64 - 1 pairs; or
@@ -441,8 +445,10 @@ INTMAP_NONNULL INTMAP_MUST_USE static inline intmap_status intmap_reserve(intmap
 }
 
 // Returns INTMAP_PRESENT with the first pair of the walk from the cursor on, and moves the cursor
-// behind that pair. If no pair is left, it returns INTMAP_ABSENT, and leaves the cursor. A whole
-// walk takes time in the pairs and a 64th of the slots.
+// behind that pair. If no pair is left, it returns INTMAP_ABSENT, and leaves the cursor. The call
+// takes time in the pairs of the slot, and in a 64th of the slots that it passes. A whole walk
+// takes time in the pairs, in a 64th of the slots, and in the square of the pairs of each crowded
+// slot.
 //
 // Any cursor will do, whatever has happened to the map since. But intmap_remove moves the last pair
 // of a slot to another place of it, and so does intmap_insert with a present key. A growing map
@@ -453,7 +459,8 @@ INTMAP_NONNULL intmap_found_pair intmap_step(const intmap *map, intmap_cursor *a
 
 // Copies pairs of the walk from the cursor on, at most `room`, and moves the cursor behind them. It
 // returns how many it copied: fewer than `room` only if no pair is left. `pairs` is an array of at
-// least `room` pairs, which may be uninitialised. What lies behind the copied pairs stays.
+// least `room` pairs, which may be uninitialised. What lies behind the copied pairs stays. It takes
+// the time of intmap_step for each pair.
 INTMAP_NONNULL static inline size_t intmap_copy_pairs(const intmap *map, intmap_cursor *at,
                                                       intmap_pair *pairs,
                                                       size_t room) INTMAP_CALL {
@@ -471,14 +478,13 @@ INTMAP_NONNULL static inline size_t intmap_copy_pairs(const intmap *map, intmap_
 // Removes the first pair of the walk from the cursor on, and returns INTMAP_PRESENT with it. The
 // cursor is then where the pair was: the pairs before it stay, and those behind it come next, in
 // the same order. If no pair is left, the call returns INTMAP_ABSENT, and leaves the cursor. The
-// number of slots stays. The call requests no memory. It takes time in the pairs that follow in the
-// slot, and in what intmap_step would pass.
+// number of slots stays. The call requests no memory. It takes the time of intmap_step.
 INTMAP_NONNULL intmap_found_pair intmap_cut(intmap *map, intmap_cursor *at) INTMAP_CALL;
 
 // Calls `keep` with each pair, in the order of the walk, and removes the pair if `keep` returns
 // false. It returns how many it removed. The other pairs stay in the same order, and the number of
 // slots stays. `keep` is handed `argument`, which may be null. It makes no call that changes the
-// map. intmap_retain requests no memory.
+// map. intmap_retain requests no memory. It takes the time of a whole walk by intmap_step.
 INTMAP_NONNULL_TWO static inline size_t intmap_retain(intmap *map,
                                                       bool (*keep)(intmap_pair pair,
                                                                    void *argument),
@@ -501,9 +507,9 @@ INTMAP_NONNULL_TWO static inline size_t intmap_retain(intmap *map,
 // Gives memory back. It makes another map with the same load factor, inserts the pairs in the order
 // of the walk, and then frees the old map. The slots and the walk become those of a map that began
 // with 4 slots. The call returns INTMAP_OK; or INTMAP_NO_MEMORY, and then leaves the map. If the
-// map has no memory, the call does nothing. It takes the time of these insertions, and time in the
-// slots that the map had. With a high load factor a slot holds many pairs, and each insertion takes
-// time in the pairs of its slot.
+// map has no memory, the call does nothing. It takes the time of these insertions and of a walk,
+// and time in the slots and nodes that the map had. With a high load factor a slot holds many
+// pairs, and each insertion takes time in the pairs of its slot.
 INTMAP_NONNULL INTMAP_MUST_USE static inline intmap_status intmap_shrink_to_fit(intmap *map)
     INTMAP_CALL {
     intmap made = INTMAP_INIT;
@@ -514,7 +520,7 @@ INTMAP_NONNULL INTMAP_MUST_USE static inline intmap_status intmap_shrink_to_fit(
     }
     intmap_status status = intmap_set_load_factor(&made, intmap_load_factor(map));
     if (!intmap_failed(status)) {
-        // At most half of the slots. Insertions add the others, so that those of ids are lone.
+        // At most half of the slots, so never too many. Insertions add the others.
         status = intmap_reserve(&made, intmap_len(map) / 16 * 7);
     }
     while (!intmap_failed(status) && (next = intmap_step(map, &at)).status == INTMAP_PRESENT) {

@@ -879,13 +879,13 @@ static void test_limits_of_room(void) {
     }
 }
 
-// The bytes of a slot: of one with room for several pairs, and of one with room for a pair alone.
-enum { SHARED = 48, LONE = 24 };
+// The bytes of a slot.
+enum { SLOT = 24 };
 
 // A call asks for its slots first. So it gets them if larger requests are refused. If requests of
 // their size are refused too, nothing is granted, and so nothing is written.
-static void test_slots_first(size_t slots, size_t slot, void (*call)(void)) {
-    const size_t all = slot * slots, bits = slots / 8 < 8 ? 8 : slots / 8;
+static void test_slots_first(size_t slots, void (*call)(void)) {
+    const size_t all = SLOT * slots, bits = slots / 8 < 8 ? 8 : slots / 8;
     const size_t bounds[] = {0, bits, all / 2, all - 1};
     for (size_t at = 0; at < sizeof bounds / sizeof bounds[0]; at++) {
         largest_request = bounds[at];
@@ -899,8 +899,8 @@ static void test_slots_first(size_t slots, size_t slot, void (*call)(void)) {
     check(it);
 }
 
-static void make_4_slots(void) {
-    call_make(4);
+static void make_8_slots(void) {
+    call_make(8);
 }
 
 static void make_4096_slots(void) {
@@ -924,29 +924,28 @@ static void set_load_factor_10(void) {
 }
 
 static void test_large_requests(void) {
-    test_slots_first(4, SHARED, make_4_slots);
+    test_slots_first(8, make_8_slots);
     insert_some(14, 1);
-    test_slots_first(32, LONE, insert_new_key);
-    test_slots_first(32, LONE, call_clone);
-    test_slots_first(2048, LONE, set_load_factor_10);
-    test_slots_first(4096, LONE, reserve_4096_slots);
-    test_slots_first(4096, LONE, call_clone);
+    test_slots_first(32, insert_new_key);
+    test_slots_first(32, call_clone);
+    test_slots_first(2048, set_load_factor_10);
+    test_slots_first(4096, reserve_4096_slots);
+    test_slots_first(4096, call_clone);
     end_test();
 }
 
-// The slots are shared where a map has so many from the first, and where two pairs of one slot stay
-// together at each growth.
-static void test_large_requests_of_shared_slots(void) {
-    test_slots_first(4096, SHARED, make_4096_slots);
+// Two pairs of one slot stay together at each growth, so that each requests a node too.
+static void test_large_requests_with_a_node(void) {
+    test_slots_first(4096, make_4096_slots);
     insert_some(3, 1);
-    test_slots_first(4096, SHARED, call_clone);
-    test_slots_first(8192, SHARED, reserve_8192_slots);
+    test_slots_first(4096, call_clone);
+    test_slots_first(8192, reserve_8192_slots);
     call_make(4);
     call_insertion(INSERT, 1 << 20, 0);
     insert_some(13, 1);
-    test_slots_first(32, SHARED, insert_new_key);
-    test_slots_first(32, SHARED, call_clone);
-    test_slots_first(2048, SHARED, set_load_factor_10);
+    test_slots_first(32, insert_new_key);
+    test_slots_first(32, call_clone);
+    test_slots_first(2048, set_load_factor_10);
     end_test();
 }
 
@@ -1197,11 +1196,11 @@ static void test_shrunk_slots(void) {
     }
 }
 
-// Ids have slots without room for further pairs behind it, as in a map that grew.
+// Where ids have a slot each, it requests nothing larger than their slots.
 static void test_shrunk_ids(void) {
     call_reserve(1865);
     insert_some(1865, 1);
-    largest_request = LONE * 2048;
+    largest_request = SLOT * 2048;
     call_shrink_to_fit();
     EXPECT(!was_refused() && it->plain.capacity == 2048);
     largest_request = LARGEST_REQUEST;
@@ -1330,7 +1329,7 @@ static void test_each(void) {
     RUN(test_room());
     RUN(test_limits_of_room());
     RUN(test_large_requests());
-    RUN(test_large_requests_of_shared_slots());
+    RUN(test_large_requests_with_a_node());
     RUN(test_too_many_slots());
     RUN(test_limits());
     RUN(test_great_numbers());

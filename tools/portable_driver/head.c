@@ -38,16 +38,24 @@
 // A map's bytes are the same on every machine: the low byte of a number comes first.
 #if defined(__BYTE_ORDER__) && __BYTE_ORDER__ == __ORDER_BIG_ENDIAN__
 #define HIGH_BYTE_FIRST 1
+#define LOW_FIRST_16(x) __builtin_bswap16(x)
 #define LOW_FIRST_32(x) __builtin_bswap32(x)
 #define LOW_FIRST_64(x) __builtin_bswap64(x)
 #else
 #define HIGH_BYTE_FIRST 0
+#define LOW_FIRST_16(x) (x)
 #define LOW_FIRST_32(x) (x)
 #define LOW_FIRST_64(x) (x)
 #endif
 
 static inline uint8_t load8(const char *at) {
     return (uint8_t)*at;
+}
+
+static inline uint16_t load16(const char *at) {
+    uint16_t x;
+    memcpy(&x, at, 2);
+    return LOW_FIRST_16(x);
 }
 
 static inline uint32_t load32(const char *at) {
@@ -74,6 +82,11 @@ static inline uint64_t load_key(const char *at) {
 
 static inline void store8(char *at, uint8_t x) {
     *at = (char)x;
+}
+
+static inline void store16(char *at, uint16_t x) {
+    x = LOW_FIRST_16(x);
+    memcpy(at, &x, 2);
 }
 
 static inline void store32(char *at, uint32_t x) {

@@ -1,6 +1,9 @@
 
-// Requests for memory. A success has 1 and the block.
+// Requests for memory. A success has 1 and the block. `same` keeps compilers from making one call of calloc
+// of a request and the memset behind it: a program may have a malloc of its own.
 static inline struct word_word granted(void *block) {
+    void *volatile same = block;
+    block = same;
     char *at = block != NULL ? (char *)block : (char *)no_bytes;
     return made_word_word(block != NULL, (uint64_t)(uintptr_t)at);
 }

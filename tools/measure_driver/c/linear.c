@@ -17,7 +17,7 @@ static void require(bool is_so, const char *fault) {
     }
 }
 
-// Ids make lone slots, random keys shared ones.
+// Ids have a slot each, random keys share some.
 enum { DENSE, SHUFFLED, RANDOM, KINDS };
 
 static uint64_t key_at(size_t kind, uint64_t place, uint64_t pairs) {
