@@ -125,8 +125,8 @@ OTHERWISE = [
     ("fn fmt<W: fmt::Write>(&self, f: &mut fmt::Formatter<W>)", "fn fmt(&self, f: &mut fmt::Formatter<'_>)"),
     # a guard holds the slots while pairs move
     (
-        "        move_rows(self, &mut new, placed);",
-        "        super::mending::moving(self, &mut new, |old, new| move_rows(old, new, placed));",
+        "        self.move_all(&mut new, placed);",
+        "        super::mending::moving(self, &mut new, |old, new| old.move_all(new, placed));",
     ),
 ]
 # the first line of a type, up to the bound of its keys, which is left out

@@ -68,8 +68,8 @@ UNNAMED = {"intmap_table/linked/row": ["cut_behind"]}
 # Calls that run a key's `number` while pairs are on their way, by the source, each with what is written in its place.
 HELD = {
     "intmap_table/table/slots/grow": (
-        "move_rows(self, &mut new, placed);",
-        "super::mending::moving(self, &mut new, |old, new| move_rows(old, new, placed));",
+        "self.move_all(&mut new, placed);",
+        "super::mending::moving(self, &mut new, |old, new| old.move_all(new, placed));",
     ),
 }
 

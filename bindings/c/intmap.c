@@ -19,7 +19,7 @@
 //     grep -v '^// Compilers: ' intmap.c | sha256sum
 //
 // Compilers: rattle-kit-13f logic dac8208d650f15bf; clang version 22.1.8
-// Sources: ca7e6655f69682f8d0f87ac12c296c7d98ba3f83aa13e5cc84b79953ad2e9d4b
+// Sources: 2515cd2d369c952cb5cf1a9bb8b723459af975cbbac57621867fcdf55c0baa24
 //
 // SPDX-License-Identifier: MIT
 //
@@ -326,6 +326,16 @@ static inline struct byte_address made_byte_address(uint8_t first, char *second)
     made.second = second;
     return made;
 }
+struct word_word {
+    uint64_t first;
+    uint64_t second;
+};
+static inline struct word_word made_word_word(uint64_t first, uint64_t second) {
+    struct word_word made;
+    made.first = first;
+    made.second = second;
+    return made;
+}
 struct word_half {
     uint64_t first;
     uint32_t second;
@@ -339,16 +349,6 @@ static inline struct word_half made_word_half(uint64_t first, uint32_t second) {
 static inline struct word_half empty_word_half(void) {
     struct word_half made;
     memset(&made, 0, sizeof made);
-    return made;
-}
-struct word_word {
-    uint64_t first;
-    uint64_t second;
-};
-static inline struct word_word made_word_word(uint64_t first, uint64_t second) {
-    struct word_word made;
-    made.first = first;
-    made.second = second;
     return made;
 }
 
@@ -417,7 +417,7 @@ enum {
     SLOTS_SIZE = 96
 };
 // Nodes, and a list of those without a pair.
-// Pool<(Stored<u64>, Kept<u64>), Global>, in crates/intmap_table/src/linked/pool.rt
+// Pool<P, Global>, in crates/intmap_table/src/linked/pool.rt
 enum {
     POOL_NODES = 0,
     POOL_NODES_LEN = 8,
@@ -465,6 +465,7 @@ enum {
 #define MULTIPLIER UINT64_C(11400714819323198549)
 
 static ALIGNED struct byte_address intmap_get_counted(char *map, uint64_t key);
+static ALIGNED NOINLINE struct word_word row_take_first_of_several(char *slot, char *pool);
 static ALIGNED void pool_append(char *result, char *nodes_at, uint64_t link, uint64_t a3, uint64_t a4);
 static COLD bool vec_grow_amortized(char *a0);
 static ALIGNED uint32_t make_keep(char *handle, char *a1);
@@ -472,7 +473,9 @@ static ALIGNED void intmap_with_slots(char *result, uint64_t slots);
 static ALIGNED void slots_new(char *result, uint64_t capacity, uint64_t room);
 static ALIGNED NOINLINE struct byte_address handle_make_first(void);
 static ALIGNED NOINLINE void intmap_add_growing(char *result, char *map, uint64_t len, uint64_t slot, uint64_t key, uint64_t value);
-static ALIGNED void grow_move_rows(char *old, char *new_);
+static ALIGNED void slots_move_all(char *map, char *new_);
+static ALIGNED NOINLINE struct word_word row_take_first_of_several_2(char *slot, char *pool);
+static ALIGNED NOINLINE void row_put_behind_first(char *slot, char *pool, uint64_t a2, uint64_t a3);
 static ALIGNED uint8_t table_grow_to(char *map, uint64_t capacity);
 static ALWAYS_INLINE void do_intmap_place(char *word, uint64_t key, char *at);
 static ALWAYS_INLINE uint32_t do_intmap_version(void);
@@ -565,6 +568,44 @@ static ALIGNED struct byte_address intmap_get_counted(char *map, uint64_t key) {
         }
     }
     return made_byte_address(1, r11 + 16);
+}
+
+// Removes the first pair of a slot that holds others, which move up by one place.
+// intmap_table::linked::row::take_first_of_several, in crates/intmap_table/src/linked/row.rt
+static ALIGNED NOINLINE struct word_word row_take_first_of_several(char *slot, char *pool) {
+    uint64_t at, free, key, value, key_2, value_2;
+    char *node;
+    uint16_t high;
+    uint32_t low;
+    if (load8(slot + SLOT_HAS_PAIR) != 1) {
+        abort();
+    }
+    at = (((uint64_t)load16(slot + SLOT_HIGH)) << 32) | ((uint64_t)load32(slot + SLOT_LOW));
+    node = load_address(pool + POOL_NODES) + (at * NODE_SIZE);
+    if (load8(node + NODE_HAS_PAIR) != 1) {
+        abort();
+    }
+    high = load16(node + NODE_HIGH);
+    low = load32(node + NODE_LOW);
+    free = load64(pool + POOL_FREE);
+    key = load64(node + NODE_KEY);
+    value = load64(node + NODE_VALUE);
+    store16(node + NODE_HAS_PAIR, 0);
+    store16(node + NODE_HIGH, (uint16_t)(free >> 32));
+    store32(node + NODE_LOW, (uint32_t)free);
+    memset(node + NODE_KEY, 0, 16);
+    store64(pool + POOL_FREE, at);
+    store64(pool + POOL_SPARE, load64(pool + POOL_SPARE) + 1);
+    if (load8(slot + SLOT_HAS_PAIR) != 1) {
+        abort();
+    }
+    store16(slot + SLOT_HIGH, high);
+    store32(slot + SLOT_LOW, low);
+    key_2 = load64(slot + SLOT_KEY);
+    value_2 = load64(slot + SLOT_VALUE);
+    store64(slot + SLOT_KEY, key);
+    store64(slot + SLOT_VALUE, value);
+    return made_word_word(key_2, value_2);
 }
 
 // Puts a pair with a link into a new node behind the others, if none is free, and returns which.
@@ -959,16 +1000,14 @@ static ALIGNED NOINLINE struct byte_address handle_make_first(void) {
 // Adds the pair of an absent key, if the new length exceeds the load factor, and returns where it is.
 // intmap::map::IntMap::add_growing, in crates/intmap/src/map/insert.rt
 static ALIGNED NOINLINE void intmap_add_growing(char *result, char *map, uint64_t len, uint64_t slot, uint64_t key, uint64_t value) {
-    uint64_t slots_len, r0, r3_09, r31, r8_0, r2, index, nodes_len, r10_2, at, x2, r6_2, r19_2, r2_2, r16, r8, r34,
-        r2_3, r0_2, r1, r1_2, r1_3, r26, r39, r1_4, r1_5, r49, r64, r1_017, r2_016, r10_3, slots_room, nodes_room,
-        words_room, r10_4, nodes_len_2, at_2, r2_016_2, r10_5, r11_5, r3_0, r12, r12_2, r17_4, r17_2;
+    uint64_t slots_len, r0, r3_09, r31, r8_0, r2, index, nodes_len, r10_2, at, x2, r6_2, r2_2, r0_2, r1, r1_2, r1_3,
+        r26, r39, r1_4, r1_5, r49, r64, r1_017, r2_016, r10_3, slots_room, nodes_room, words_room, r10_4,
+        nodes_len_2, at_2, r2_016_2, r10_5, r11_4, r3_0, r12, r12_2, r17_4, r17_2;
     u128 r10, r13, r187, r15, r18, r17;
-    char *slot_2, *node, *r9, *r22, *r11_2, *r4_2, *r11_3, *r5, *r4_3, *r9_2, *r11_4, *words, *slots, *nodes,
-        *slot_3, *nodes_2, *node_2;
+    char *slot_2, *node, *r9, *r4_2, *r11_2, *r5, *r4_3, *r9_2, *r11_3, *words, *slots, *nodes, *slot_3, *nodes_2,
+        *node_2;
     uint8_t r11, r17_3;
-    uint16_t r19, r19_3, r19_4;
-    uint32_t r21;
-    bool r24;
+    uint16_t r19, r19_2;
     uint64_t r4_room[12];
     char *r4 = (char *)r4_room;
     uint64_t r6_room[13];
@@ -1036,58 +1075,12 @@ after_Slots_needed:;
     slots_new(r6, r0, x2);
     if (load8(r6) == 0) {
         memcpy(r4, r6 + 8, 96);
-        grow_move_rows(map, r4);
+        slots_move_all(map, r4);
         r6_2 = index * SLOT_SIZE;
         r9 = load_address(r4 + 32) + r6_2;
         r11 = load8(r9);
         if (r11 == 1) {
-            r19 = load16(r9 + 2);
-            r21 = load32(r9 + 4);
-            r19_2 = load64(r4 + 88);
-            if (r19_2 == 0) {
-                r2_2 = load64(r4 + 64);
-                if (load64(r4 + 72) == r2_2) {
-                    r24 = vec_grow_amortized(r4 + 56);
-                    if ((r2_2 != UINT64_C(281470681743360)) & r24) {
-                        r16 = load64(r4 + 64);
-                        goto after_Pool_add_2;
-                    }
-                } else {
-                    if (r2_2 != UINT64_C(281470681743360)) {
-                        r16 = r2_2;
-                        goto after_Pool_add_2;
-                    }
-                }
-                abort();
-            after_Pool_add_2:;
-                r22 = load_address(r4 + 56) + (r16 * 24);
-                store16(r22, 1);
-                store16(r22 + 2, r19);
-                store32(r22 + 4, r21);
-                store64(r22 + 8, key);
-                store64(r22 + 16, value);
-                store64(r4 + 64, r16 + 1);
-                r8 = r2_2;
-            } else {
-                r34 = load64(r4 + 80);
-                r11_2 = load_address(r4 + 56) + (r34 * 24);
-                if (load8(r11_2) != 0) {
-                    abort();
-                }
-                store64(r4 + 80, (((uint64_t)load16(r11_2 + 2)) << 32) | ((uint64_t)load32(r11_2 + 4)));
-                store64(r4 + 88, r19_2 - 1);
-                store16(r11_2, 1);
-                store16(r11_2 + 2, r19);
-                store32(r11_2 + 4, r21);
-                store64(r11_2 + 8, key);
-                store64(r11_2 + 16, value);
-                r8 = r34;
-            }
-            if (load8(r9) != 1) {
-                abort();
-            }
-            store16(r9 + 2, (uint16_t)(r8 >> 32));
-            store32(r9 + 4, (uint32_t)r8);
+            row_put_behind_first(r9, r4 + 56, key, value);
         } else {
             store16(r9, 1);
             store16(r9 + 2, 65535);
@@ -1099,11 +1092,11 @@ after_Slots_needed:;
             }
         }
         r4_2 = load_address(r4 + 8);
-        r11_3 = r4_2 + ((index >> 3) & UINT64_C(2305843009213693944));
-        store64(r11_3, load64(r11_3) | ((uint64_t)1 << (index & 63)));
+        r11_2 = r4_2 + ((index >> 3) & UINT64_C(2305843009213693944));
+        store64(r11_2, load64(r11_2) | ((uint64_t)1 << (index & 63)));
         if (load64(r4 + 64) != load64(r4 + 88)) {
-            r2_3 = load64(r4 + 16);
-            if (r2_3 == 0) {
+            r2_2 = load64(r4 + 16);
+            if (r2_2 == 0) {
                 r0_2 = 0;
             } else {
                 r0_2 = load64(r4_2);
@@ -1117,7 +1110,7 @@ after_Slots_needed:;
                     r1_3 = r1;
                     for (;;) {
                         r26 = r1_3 + 1;
-                        if (r2_3 <= r26) {
+                        if (r2_2 <= r26) {
                             goto after_Slots_turn_each;
                         }
                         r39 = load64(r4_2 + (r26 << 3));
@@ -1136,20 +1129,20 @@ after_Slots_needed:;
                 r64 = (r1_5 - 1) & r1_5;
                 r9_2 = r5 + ((r49 | (r1_4 << 6)) * 24);
                 if (load8(r9_2) == 1) {
-                    r19_3 = load16(r9_2 + 2);
-                    if (r19_3 != 65535) {
+                    r19 = load16(r9_2 + 2);
+                    if (r19 != 65535) {
                         r1_017 = UINT64_C(281474976710655);
-                        r2_016 = (((uint64_t)r19_3) << 32) | ((uint64_t)load32(r9_2 + 4));
+                        r2_016 = (((uint64_t)r19) << 32) | ((uint64_t)load32(r9_2 + 4));
                         for (;;) {
-                            r11_4 = r4_3 + (r2_016 * 24);
-                            if (load8(r11_4) != 1) {
+                            r11_3 = r4_3 + (r2_016 * 24);
+                            if (load8(r11_3) != 1) {
                                 abort();
                             }
-                            r19_4 = load16(r11_4 + 2);
-                            r10_3 = (((uint64_t)r19_4) << 32) | ((uint64_t)load32(r11_4 + 4));
-                            store16(r11_4 + 2, (uint16_t)(r1_017 >> 32));
-                            store32(r11_4 + 4, (uint32_t)r1_017);
-                            if (r19_4 == 65535) {
+                            r19_2 = load16(r11_3 + 2);
+                            r10_3 = (((uint64_t)r19_2) << 32) | ((uint64_t)load32(r11_3 + 4));
+                            store16(r11_3 + 2, (uint16_t)(r1_017 >> 32));
+                            store32(r11_3 + 4, (uint32_t)r1_017);
+                            if (r19_2 == 65535) {
                                 if (load8(r9_2) != 1) {
                                     abort();
                                 }
@@ -1198,13 +1191,13 @@ after_Slots_needed:;
                         break;
                     }
                     r10_5 = (((uint64_t)load16(node_2 + NODE_HIGH)) << 32) | ((uint64_t)load32(node_2 + NODE_LOW));
-                    r11_5 = r2_016_2 + 1;
+                    r11_4 = r2_016_2 + 1;
                     if (nodes_len_2 <= r10_5) {
-                        r3_0 = r11_5;
+                        r3_0 = r11_4;
                         break;
                     }
                     at_2 = r10_5;
-                    r2_016_2 = r11_5;
+                    r2_016_2 = r11_4;
                 }
             } else {
                 r3_0 = 0;
@@ -1233,37 +1226,41 @@ after_Slots_needed:;
     store64(result + 24, r17_4);
 }
 
-// Moves the pairs of all old slots, slot after slot, to their new slots.
-// intmap_table::table::slots::grow::move_rows, in crates/intmap_table/src/table/slots/grow.rt
-static ALIGNED void grow_move_rows(char *old, char *new_) {
-    uint64_t bits, r1, r1_2, words_len, r1_3, r26, bits_2, r1_4, r1_5, r49, r64, r8, key, index, at, value, value_2,
-        key_2, free, key_3, value_3, key_4, value_4, spare, nodes_len, at_2, r8_2, free_2, r8_3, r10, key_5, index_2,
-        at_3, value_5, value_6, key_6, free_3, key_7, value_7, key_8, value_8, spare_2, nodes_len_2, at_4, r8_4,
-        free_4;
-    char *slot, *r11, *node, *slot_2, *node_2, *node_3, *r11_2, *slot_3, *r11_3, *node_4, *slot_4, *node_5, *node_6,
-        *r11_4;
-    uint16_t high, high_2, high_3, high_4, high_5, high_6;
-    uint32_t low, low_2, low_3, low_4;
-    uint8_t has_pair, has_pair_2, has_pair_3, has_pair_4;
-    bool r24, r24_2;
-    if (load64(old + INT_MAP_WORDS_LEN) == 0) {
+// Moves all pairs, slot after slot, to new slots.
+// intmap_table::table::slots::Slots::move_all, in crates/intmap_table/src/table/slots/grow.rt
+static ALIGNED void slots_move_all(char *map, char *new_) {
+    uint64_t bits, r1, r1_2, words_len, r1_3, r26, bits_2, r1_4, r1_5, r28, r49, r64, key, index, value, key_2,
+        index_2, value_2;
+    char *words, *slot, *slot_2, *r11, *slot_3, *r11_2;
+    struct word_word r18, r24, r18_2, r24_2;
+    uint8_t has_pair, has_pair_2;
+    if (load64(map + INT_MAP_WORDS_LEN) == 0) {
         bits = 0;
     } else {
-        bits = load64(load_address(old + INT_MAP_WORDS));
+        bits = load64(load_address(map + INT_MAP_WORDS));
     }
     r1 = 0;
     r1_2 = bits;
 loop_2:;
     for (;;) {
         if (r1_2 == 0) {
-            words_len = load64(old + INT_MAP_WORDS_LEN);
+            words_len = load64(map + INT_MAP_WORDS_LEN);
+            words = load_address(map + INT_MAP_WORDS);
             r1_3 = r1;
             for (;;) {
                 r26 = r1_3 + 1;
                 if (words_len <= r26) {
+                    if (words_len == 0) {
+                        return;
+                    }
+                    r28 = words_len - 1;
+                    if (r28 != 0) {
+                        memset(words, 0, (words_len << 3) - 8);
+                    }
+                    store64(words + (r28 << 3), 0);
                     return;
                 }
-                bits_2 = load64(load_address(old + INT_MAP_WORDS) + (r26 << 3));
+                bits_2 = load64(words + (r26 << 3));
                 if (bits_2 != 0) {
                     r1_4 = r26;
                     r1_5 = bits_2;
@@ -1277,237 +1274,178 @@ loop_2:;
         }
         r49 = low_zeros(r1_5);
         r64 = (r1_5 - 1) & r1_5;
-        r8 = (r49 | (r1_4 << 6)) * SLOT_SIZE;
-        slot = load_address(old + INT_MAP_SLOTS) + r8;
+        slot = load_address(map + INT_MAP_SLOTS) + ((r49 | (r1_4 << 6)) * SLOT_SIZE);
         if (load8(slot + SLOT_HAS_PAIR) != 1) {
             abort();
         }
         key = load_key(slot + SLOT_KEY);
         index = (key * MULTIPLIER) & load64(new_ + SLOTS_MASK);
-        high = load16(slot + SLOT_HIGH);
-        at = (((uint64_t)high) << 32) | ((uint64_t)load32(slot + SLOT_LOW));
-        if (high == 65535) {
+        if (load16(slot + SLOT_HIGH) == 65535) {
             value = load64(slot + SLOT_VALUE);
             memset(slot, 0, 24);
-            r11 = load_address(old + INT_MAP_WORDS) + ((r1_4 << 3) & UINT64_C(2305843009213693944));
-            store64(r11, load64(r11) & (((uint64_t)1 << r49) ^ UINT64_C(18446744073709551615)));
-            value_2 = value;
-            key_2 = key;
+            r18 = made_word_word(key, value);
         } else {
-            node = load_address(old + INT_MAP_NODES) + (at * NODE_SIZE);
-            if (load8(node + NODE_HAS_PAIR) != 1) {
-                abort();
-            }
-            high_2 = load16(node + NODE_HIGH);
-            low = load32(node + NODE_LOW);
-            free = load64(old + INT_MAP_FREE);
-            key_3 = load64(node + NODE_KEY);
-            value_3 = load64(node + NODE_VALUE);
-            store16(node + NODE_HAS_PAIR, 0);
-            store16(node + NODE_HIGH, (uint16_t)(free >> 32));
-            store32(node + NODE_LOW, (uint32_t)free);
-            memset(node + NODE_KEY, 0, 16);
-            store64(old + INT_MAP_FREE, at);
-            store64(old + INT_MAP_SPARE, load64(old + INT_MAP_SPARE) + 1);
-            if (load8(slot + SLOT_HAS_PAIR) != 1) {
-                abort();
-            }
-            store16(slot + SLOT_HIGH, high_2);
-            store32(slot + SLOT_LOW, low);
-            key_4 = load64(slot + SLOT_KEY);
-            value_4 = load64(slot + SLOT_VALUE);
-            store64(slot + SLOT_KEY, key_3);
-            store64(slot + SLOT_VALUE, value_3);
-            value_2 = value_4;
-            key_2 = key_4;
+            r24 = row_take_first_of_several_2(slot, map + INT_MAP_NODES);
+            r18 = r24;
         }
         slot_2 = load_address(new_ + SLOTS_SLOTS) + (index * SLOT_SIZE);
         has_pair = load8(slot_2 + SLOT_HAS_PAIR);
         if (has_pair == 1) {
-            high_3 = load16(slot_2 + SLOT_HIGH);
-            low_2 = load32(slot_2 + SLOT_LOW);
-            spare = load64(new_ + SLOTS_SPARE);
-            if (spare == 0) {
-                nodes_len = load64(new_ + SLOTS_NODES_LEN);
-                if (load64(new_ + SLOTS_NODES_ROOM) == nodes_len) {
-                    r24 = vec_grow_amortized(new_ + SLOTS_NODES);
-                    if ((nodes_len != UINT64_C(281470681743360)) & r24) {
-                        at_2 = load64(new_ + SLOTS_NODES_LEN);
-                        goto after_Pool_add;
-                    }
-                } else {
-                    if (nodes_len != UINT64_C(281470681743360)) {
-                        at_2 = nodes_len;
-                        goto after_Pool_add;
-                    }
-                }
-                abort();
-            after_Pool_add:;
-                node_2 = load_address(new_ + SLOTS_NODES) + (at_2 * NODE_SIZE);
-                store16(node_2 + NODE_HAS_PAIR, 1);
-                store16(node_2 + NODE_HIGH, high_3);
-                store32(node_2 + NODE_LOW, low_2);
-                store64(node_2 + NODE_KEY, key_2);
-                store64(node_2 + NODE_VALUE, value_2);
-                store64(new_ + SLOTS_NODES_LEN, at_2 + 1);
-                r8_2 = nodes_len;
-            } else {
-                free_2 = load64(new_ + SLOTS_FREE);
-                node_3 = load_address(new_ + SLOTS_NODES) + (free_2 * NODE_SIZE);
-                if (load8(node_3 + NODE_HAS_PAIR) != 0) {
-                    abort();
-                }
-                store64(new_ + SLOTS_FREE, (((uint64_t)load16(node_3 + NODE_HIGH)) << 32) | ((uint64_t)load32(node_3 + NODE_LOW)));
-                store64(new_ + SLOTS_SPARE, spare - 1);
-                has_pair_2 = load8(node_3 + NODE_HAS_PAIR);
-                store16(node_3 + NODE_HAS_PAIR, 1);
-                store16(node_3 + NODE_HIGH, high_3);
-                store32(node_3 + NODE_LOW, low_2);
-                store64(node_3 + NODE_KEY, key_2);
-                store64(node_3 + NODE_VALUE, value_2);
-                if (has_pair_2 != 0) {
-                    abort();
-                }
-                r8_2 = free_2;
-            }
-            if (load8(slot_2 + SLOT_HAS_PAIR) != 1) {
-                abort();
-            }
-            store16(slot_2 + SLOT_HIGH, (uint16_t)(r8_2 >> 32));
-            store32(slot_2 + SLOT_LOW, (uint32_t)r8_2);
+            row_put_behind_first(slot_2, new_ + SLOTS_NODES, r18.first, r18.second);
         } else {
             store16(slot_2 + SLOT_HAS_PAIR, 1);
             store16(slot_2 + SLOT_HIGH, 65535);
             store32(slot_2 + SLOT_LOW, 4294967295u);
-            store64(slot_2 + SLOT_KEY, key_2);
-            store64(slot_2 + SLOT_VALUE, value_2);
+            store64(slot_2 + SLOT_KEY, r18.first);
+            store64(slot_2 + SLOT_VALUE, r18.second);
             if (has_pair != 0) {
                 abort();
             }
         }
-        r11_2 = load_address(new_ + SLOTS_WORDS) + ((index >> 3) & UINT64_C(2305843009213693944));
-        store64(r11_2, load64(r11_2) | ((uint64_t)1 << (index & 63)));
-        r8_3 = (r1_4 << 3) & UINT64_C(2305843009213693944);
-        r10 = ((uint64_t)1 << r49) ^ UINT64_C(18446744073709551615);
+        r11 = load_address(new_ + SLOTS_WORDS) + ((index >> 3) & UINT64_C(2305843009213693944));
+        store64(r11, load64(r11) | ((uint64_t)1 << (index & 63)));
         for (;;) {
-            slot_3 = load_address(old + INT_MAP_SLOTS) + r8;
-            switch (load8(slot_3 + SLOT_HAS_PAIR)) {
+            switch (load8(slot + SLOT_HAS_PAIR)) {
             case 0:
                 r1 = r1_4;
                 r1_2 = r64;
                 goto loop_2;
             case 1:
-                key_5 = load_key(slot_3 + SLOT_KEY);
-                index_2 = (key_5 * MULTIPLIER) & load64(new_ + SLOTS_MASK);
-                high_4 = load16(slot_3 + SLOT_HIGH);
-                at_3 = (((uint64_t)high_4) << 32) | ((uint64_t)load32(slot_3 + SLOT_LOW));
-                if (high_4 == 65535) {
-                    value_5 = load64(slot_3 + SLOT_VALUE);
-                    memset(slot_3, 0, 24);
-                    r11_3 = load_address(old + INT_MAP_WORDS) + r8_3;
-                    store64(r11_3, load64(r11_3) & r10);
-                    value_6 = value_5;
-                    key_6 = key_5;
+                key_2 = load_key(slot + SLOT_KEY);
+                index_2 = (key_2 * MULTIPLIER) & load64(new_ + SLOTS_MASK);
+                if (load16(slot + SLOT_HIGH) == 65535) {
+                    value_2 = load64(slot + SLOT_VALUE);
+                    memset(slot, 0, 24);
+                    r18_2 = made_word_word(key_2, value_2);
                 } else {
-                    node_4 = load_address(old + INT_MAP_NODES) + (at_3 * NODE_SIZE);
-                    if (load8(node_4 + NODE_HAS_PAIR) != 1) {
-                        abort();
-                    }
-                    high_5 = load16(node_4 + NODE_HIGH);
-                    low_3 = load32(node_4 + NODE_LOW);
-                    free_3 = load64(old + INT_MAP_FREE);
-                    key_7 = load64(node_4 + NODE_KEY);
-                    value_7 = load64(node_4 + NODE_VALUE);
-                    store16(node_4 + NODE_HAS_PAIR, 0);
-                    store16(node_4 + NODE_HIGH, (uint16_t)(free_3 >> 32));
-                    store32(node_4 + NODE_LOW, (uint32_t)free_3);
-                    memset(node_4 + NODE_KEY, 0, 16);
-                    store64(old + INT_MAP_FREE, at_3);
-                    store64(old + INT_MAP_SPARE, load64(old + INT_MAP_SPARE) + 1);
-                    if (load8(slot_3 + SLOT_HAS_PAIR) != 1) {
-                        abort();
-                    }
-                    store16(slot_3 + SLOT_HIGH, high_5);
-                    store32(slot_3 + SLOT_LOW, low_3);
-                    key_8 = load64(slot_3 + SLOT_KEY);
-                    value_8 = load64(slot_3 + SLOT_VALUE);
-                    store64(slot_3 + SLOT_KEY, key_7);
-                    store64(slot_3 + SLOT_VALUE, value_7);
-                    value_6 = value_8;
-                    key_6 = key_8;
+                    r24_2 = row_take_first_of_several_2(slot, map + INT_MAP_NODES);
+                    r18_2 = r24_2;
                 }
-                slot_4 = load_address(new_ + SLOTS_SLOTS) + (index_2 * SLOT_SIZE);
-                has_pair_3 = load8(slot_4 + SLOT_HAS_PAIR);
-                if (has_pair_3 == 1) {
-                    high_6 = load16(slot_4 + SLOT_HIGH);
-                    low_4 = load32(slot_4 + SLOT_LOW);
-                    spare_2 = load64(new_ + SLOTS_SPARE);
-                    if (spare_2 == 0) {
-                        nodes_len_2 = load64(new_ + SLOTS_NODES_LEN);
-                        if (load64(new_ + SLOTS_NODES_ROOM) == nodes_len_2) {
-                            r24_2 = vec_grow_amortized(new_ + SLOTS_NODES);
-                            if ((nodes_len_2 != UINT64_C(281470681743360)) & r24_2) {
-                                at_4 = load64(new_ + SLOTS_NODES_LEN);
-                                goto after_Pool_add_2;
-                            }
-                        } else {
-                            if (nodes_len_2 != UINT64_C(281470681743360)) {
-                                at_4 = nodes_len_2;
-                                goto after_Pool_add_2;
-                            }
-                        }
-                        abort();
-                    after_Pool_add_2:;
-                        node_5 = load_address(new_ + SLOTS_NODES) + (at_4 * NODE_SIZE);
-                        store16(node_5 + NODE_HAS_PAIR, 1);
-                        store16(node_5 + NODE_HIGH, high_6);
-                        store32(node_5 + NODE_LOW, low_4);
-                        store64(node_5 + NODE_KEY, key_6);
-                        store64(node_5 + NODE_VALUE, value_6);
-                        store64(new_ + SLOTS_NODES_LEN, at_4 + 1);
-                        r8_4 = nodes_len_2;
-                    } else {
-                        free_4 = load64(new_ + SLOTS_FREE);
-                        node_6 = load_address(new_ + SLOTS_NODES) + (free_4 * NODE_SIZE);
-                        if (load8(node_6 + NODE_HAS_PAIR) != 0) {
-                            abort();
-                        }
-                        store64(new_ + SLOTS_FREE, (((uint64_t)load16(node_6 + NODE_HIGH)) << 32) | ((uint64_t)load32(node_6 + NODE_LOW)));
-                        store64(new_ + SLOTS_SPARE, spare_2 - 1);
-                        has_pair_4 = load8(node_6 + NODE_HAS_PAIR);
-                        store16(node_6 + NODE_HAS_PAIR, 1);
-                        store16(node_6 + NODE_HIGH, high_6);
-                        store32(node_6 + NODE_LOW, low_4);
-                        store64(node_6 + NODE_KEY, key_6);
-                        store64(node_6 + NODE_VALUE, value_6);
-                        if (has_pair_4 != 0) {
-                            abort();
-                        }
-                        r8_4 = free_4;
-                    }
-                    if (load8(slot_4 + SLOT_HAS_PAIR) != 1) {
-                        abort();
-                    }
-                    store16(slot_4 + SLOT_HIGH, (uint16_t)(r8_4 >> 32));
-                    store32(slot_4 + SLOT_LOW, (uint32_t)r8_4);
+                slot_3 = load_address(new_ + SLOTS_SLOTS) + (index_2 * SLOT_SIZE);
+                has_pair_2 = load8(slot_3 + SLOT_HAS_PAIR);
+                if (has_pair_2 == 1) {
+                    row_put_behind_first(slot_3, new_ + SLOTS_NODES, r18_2.first, r18_2.second);
                 } else {
-                    store16(slot_4 + SLOT_HAS_PAIR, 1);
-                    store16(slot_4 + SLOT_HIGH, 65535);
-                    store32(slot_4 + SLOT_LOW, 4294967295u);
-                    store64(slot_4 + SLOT_KEY, key_6);
-                    store64(slot_4 + SLOT_VALUE, value_6);
-                    if (has_pair_3 != 0) {
+                    store16(slot_3 + SLOT_HAS_PAIR, 1);
+                    store16(slot_3 + SLOT_HIGH, 65535);
+                    store32(slot_3 + SLOT_LOW, 4294967295u);
+                    store64(slot_3 + SLOT_KEY, r18_2.first);
+                    store64(slot_3 + SLOT_VALUE, r18_2.second);
+                    if (has_pair_2 != 0) {
                         abort();
                     }
                 }
-                r11_4 = load_address(new_ + SLOTS_WORDS) + ((index_2 >> 3) & UINT64_C(2305843009213693944));
-                store64(r11_4, load64(r11_4) | ((uint64_t)1 << (index_2 & 63)));
+                r11_2 = load_address(new_ + SLOTS_WORDS) + ((index_2 >> 3) & UINT64_C(2305843009213693944));
+                store64(r11_2, load64(r11_2) | ((uint64_t)1 << (index_2 & 63)));
                 break;
             default:
                 abort();
             }
         }
     }
+}
+
+// Removes the first pair of a slot that holds others, which move up by one place.
+// intmap_table::linked::row::take_first_of_several, in crates/intmap_table/src/linked/row.rt
+static ALIGNED NOINLINE struct word_word row_take_first_of_several_2(char *slot, char *pool) {
+    uint64_t at, free, key, value, key_2, value_2;
+    char *node;
+    uint16_t high;
+    uint32_t low;
+    if (load8(slot + SLOT_HAS_PAIR) != 1) {
+        abort();
+    }
+    at = (((uint64_t)load16(slot + SLOT_HIGH)) << 32) | ((uint64_t)load32(slot + SLOT_LOW));
+    node = load_address(pool + POOL_NODES) + (at * NODE_SIZE);
+    if (load8(node + NODE_HAS_PAIR) != 1) {
+        abort();
+    }
+    high = load16(node + NODE_HIGH);
+    low = load32(node + NODE_LOW);
+    free = load64(pool + POOL_FREE);
+    key = load64(node + NODE_KEY);
+    value = load64(node + NODE_VALUE);
+    store16(node + NODE_HAS_PAIR, 0);
+    store16(node + NODE_HIGH, (uint16_t)(free >> 32));
+    store32(node + NODE_LOW, (uint32_t)free);
+    memset(node + NODE_KEY, 0, 16);
+    store64(pool + POOL_FREE, at);
+    store64(pool + POOL_SPARE, load64(pool + POOL_SPARE) + 1);
+    if (load8(slot + SLOT_HAS_PAIR) != 1) {
+        abort();
+    }
+    store16(slot + SLOT_HIGH, high);
+    store32(slot + SLOT_LOW, low);
+    key_2 = load64(slot + SLOT_KEY);
+    value_2 = load64(slot + SLOT_VALUE);
+    store64(slot + SLOT_KEY, key);
+    store64(slot + SLOT_VALUE, value);
+    return made_word_word(key_2, value_2);
+}
+
+// Puts a pair behind the first one of a slot that holds some.
+// intmap_table::linked::row::put_behind_first, in crates/intmap_table/src/linked/row.rt
+static ALIGNED NOINLINE void row_put_behind_first(char *slot, char *pool, uint64_t a2, uint64_t a3) {
+    uint16_t r19;
+    uint32_t r21;
+    uint64_t spare, nodes_len, nodes_len_2, r6, free;
+    bool r24;
+    char *r22, *r11;
+    uint8_t r15;
+    if (load8(slot) != 1) {
+        abort();
+    }
+    r19 = load16(slot + 2);
+    r21 = load32(slot + 4);
+    spare = load64(pool + POOL_SPARE);
+    if (spare == 0) {
+        nodes_len = load64(pool + POOL_NODES_LEN);
+        if (load64(pool + POOL_NODES_ROOM) == nodes_len) {
+            r24 = vec_grow_amortized(pool);
+            if ((nodes_len != UINT64_C(281470681743360)) & r24) {
+                nodes_len_2 = load64(pool + POOL_NODES_LEN);
+                goto after_Pool_add;
+            }
+        } else {
+            if (nodes_len != UINT64_C(281470681743360)) {
+                nodes_len_2 = nodes_len;
+                goto after_Pool_add;
+            }
+        }
+        abort();
+    after_Pool_add:;
+        r22 = load_address(pool + POOL_NODES) + (nodes_len_2 * 24);
+        store16(r22, 1);
+        store16(r22 + 2, r19);
+        store32(r22 + 4, r21);
+        store64(r22 + 8, a2);
+        store64(r22 + 16, a3);
+        store64(pool + POOL_NODES_LEN, nodes_len_2 + 1);
+        r6 = nodes_len;
+    } else {
+        free = load64(pool + POOL_FREE);
+        r11 = load_address(pool + POOL_NODES) + (free * 24);
+        if (load8(r11) != 0) {
+            abort();
+        }
+        store64(pool + POOL_FREE, (((uint64_t)load16(r11 + 2)) << 32) | ((uint64_t)load32(r11 + 4)));
+        store64(pool + POOL_SPARE, spare - 1);
+        r15 = load8(r11);
+        store16(r11, 1);
+        store16(r11 + 2, r19);
+        store32(r11 + 4, r21);
+        store64(r11 + 8, a2);
+        store64(r11 + 16, a3);
+        if (r15 != 0) {
+            abort();
+        }
+        r6 = free;
+    }
+    if (load8(slot) != 1) {
+        abort();
+    }
+    store16(slot + 2, (uint16_t)(r6 >> 32));
+    store32(slot + 4, (uint32_t)r6);
 }
 
 // Moves all pairs, in the order of the walk, to their slots among `capacity` slots.
@@ -1530,7 +1468,7 @@ static ALIGNED uint8_t table_grow_to(char *map, uint64_t capacity) {
     r23 = load8(r2);
     if (r23 == 0) {
         memcpy(r1, r2 + 8, 96);
-        grow_move_rows(map, r1);
+        slots_move_all(map, r1);
         if (load64(r1 + 64) != load64(r1 + 88)) {
             r2_2 = load64(r1 + 16);
             r4 = load_address(r1 + 8);
@@ -2168,12 +2106,9 @@ static ALWAYS_INLINE struct word_word do_intmap_add_present(char *handle, uint64
 // Removes all pairs.
 // intmap_clear, in crates/intmap_c/src/walk.rt
 static ALWAYS_INLINE void do_intmap_clear(char *handle) {
-    uint64_t map_address, words_len, bits, r6_2, r1, r1_2, r1_4, r1_5, r1_7, words_len_2, r28, r33, bits_2, r60,
-        r1_8, r1_9, r1_11, r27, r40, at, free, key, value;
-    char *map, *r6, *words, *r1_3, *r1_6, *words_2, *r1_10, *slot, *node;
-    uint8_t r4, r4_be;
-    uint16_t high, high_2;
-    uint32_t low;
+    uint64_t map_address, words_len, bits, r1_2, r1_3, r1_4, r1_6, r1_7, r1_9, words_len_2, r28, r33, bits_2, r60,
+        r1_10, r1_11, r1_13, r27, r40;
+    char *map, *r1, *words, *r1_5, *r1_8, *words_2, *r1_12, *slot;
     map_address = load64(handle);
     store64(handle, 0);
     map = (char *)(uintptr_t)map_address;
@@ -2183,26 +2118,26 @@ static ALWAYS_INLINE void do_intmap_clear(char *handle) {
     words_len = load64(map + INT_MAP_WORDS_LEN);
     if (words_len == 0) {
         bits = 0;
-        r6 = (char *)no_bytes;
-        r6_2 = 0;
+        r1 = (char *)no_bytes;
+        r1_2 = 0;
     } else {
         words = load_address(map + INT_MAP_WORDS);
         bits = load64(words);
-        r6 = words + 8;
-        r6_2 = words_len - 1;
+        r1 = words + 8;
+        r1_2 = words_len - 1;
     }
-    r1 = bits;
-    r1_2 = 0;
-    r1_3 = r6;
-    r1_4 = r6_2;
-loop_2:;
+    r1_3 = bits;
+    r1_4 = 0;
+    r1_5 = r1;
+    r1_6 = r1_2;
+loop_2_2:;
     for (;;) {
-        if (r1 == 0) {
-            r1_5 = r1_4;
-            r1_6 = r1_3;
-            r1_7 = r1_2;
+        if (r1_3 == 0) {
+            r1_7 = r1_6;
+            r1_8 = r1_5;
+            r1_9 = r1_4;
             for (;;) {
-                if (r1_5 == 0) {
+                if (r1_7 == 0) {
                     words_2 = load_address(map + INT_MAP_WORDS);
                     words_len_2 = load64(map + INT_MAP_WORDS_LEN);
                     if (words_len_2 != 0) {
@@ -2216,70 +2151,43 @@ loop_2:;
                     store64(handle, map_address);
                     return;
                 }
-                r33 = r1_5 - 1;
-                bits_2 = load64(r1_6);
-                r60 = r1_7 + 64;
+                r33 = r1_7 - 1;
+                bits_2 = load64(r1_8);
+                r60 = r1_9 + 64;
                 if (bits_2 != 0) {
-                    r1_8 = bits_2;
-                    r1_9 = r60;
-                    r1_10 = r1_6 + 8;
-                    r1_11 = r33;
+                    r1_10 = bits_2;
+                    r1_11 = r60;
+                    r1_12 = r1_8 + 8;
+                    r1_13 = r33;
                     break;
                 }
-                r1_5 = r33;
-                r1_6 = r1_6 + 8;
-                r1_7 = r60;
+                r1_7 = r33;
+                r1_8 = r1_8 + 8;
+                r1_9 = r60;
             }
         } else {
-            r1_8 = r1;
-            r1_9 = r1_2;
             r1_10 = r1_3;
             r1_11 = r1_4;
+            r1_12 = r1_5;
+            r1_13 = r1_6;
         }
-        r27 = low_zeros(r1_8);
-        r40 = (r1_8 - 1) & r1_8;
-        slot = load_address(map + INT_MAP_SLOTS) + ((r1_9 + r27) * SLOT_SIZE);
-        r4 = load8(slot + SLOT_HAS_PAIR);
+        r27 = low_zeros(r1_10);
+        r40 = (r1_10 - 1) & r1_10;
+        slot = load_address(map + INT_MAP_SLOTS) + ((r1_11 + r27) * SLOT_SIZE);
         for (;;) {
-            switch (r4) {
+            switch (load8(slot + SLOT_HAS_PAIR)) {
             case 0:
-                r1 = r40;
-                r1_2 = r1_9;
-                r1_3 = r1_10;
+                r1_3 = r40;
                 r1_4 = r1_11;
-                goto loop_2;
+                r1_5 = r1_12;
+                r1_6 = r1_13;
+                goto loop_2_2;
             case 1:
-                high = load16(slot + SLOT_HIGH);
-                at = (((uint64_t)high) << 32) | ((uint64_t)load32(slot + SLOT_LOW));
-                if (high == 65535) {
+                if (load16(slot + SLOT_HIGH) == 65535) {
                     memset(slot, 0, 24);
-                    r4_be = 0;
                 } else {
-                    node = load_address(map + INT_MAP_NODES) + (at * NODE_SIZE);
-                    if (load8(node + NODE_HAS_PAIR) != 1) {
-                        abort();
-                    }
-                    high_2 = load16(node + NODE_HIGH);
-                    low = load32(node + NODE_LOW);
-                    free = load64(map + INT_MAP_FREE);
-                    key = load64(node + NODE_KEY);
-                    value = load64(node + NODE_VALUE);
-                    store16(node + NODE_HAS_PAIR, 0);
-                    store16(node + NODE_HIGH, (uint16_t)(free >> 32));
-                    store32(node + NODE_LOW, (uint32_t)free);
-                    memset(node + NODE_KEY, 0, 16);
-                    store64(map + INT_MAP_FREE, at);
-                    store64(map + INT_MAP_SPARE, load64(map + INT_MAP_SPARE) + 1);
-                    if (load8(slot + SLOT_HAS_PAIR) != 1) {
-                        abort();
-                    }
-                    store16(slot + SLOT_HIGH, high_2);
-                    store32(slot + SLOT_LOW, low);
-                    store64(slot + SLOT_KEY, key);
-                    store64(slot + SLOT_VALUE, value);
-                    r4_be = 1;
+                    row_take_first_of_several(slot, map + INT_MAP_NODES);
                 }
-                r4 = r4_be;
                 break;
             default:
                 abort();
@@ -2291,21 +2199,21 @@ loop_2:;
 // Removes the first pair of the walk from the cursor on and returns it.
 // intmap_cut, in crates/intmap_c/src/walk.rt
 static ALWAYS_INLINE char *do_intmap_cut(char *result, char *handle, char *at) {
-    uint64_t map_address, key, value, slot, place, at_2, nodes_len, at_3, r2_020, r10, r11, r2_0, r3_0, at_4,
-        r306166, free, r10_2, key_2, value_2, r2_0_2, key_3, value_3, r26, at_5, at_6, r2_0_3, r10_3, r12, r8, at_7,
-        free_2, key_4, value_4, key_5, value_5, r3_0_2, r115, words_len, r33, r1, r1_2, r1_3, r26_2, bits, key_6,
-        value_6, r49, index, key_7, value_7, free_3, key_8, value_8, key_9, value_9;
+    uint64_t map_address, r6, r6_2, slot, place, at_2, nodes_len, at_3, r2_020, r10, r11, r2_0, r3_0, r305964, free,
+        r10_2, key, value, r2_0_2, key_2, value_2, r26, at_4, at_5, r2_0_3, r10_3, r12, r8, at_6, free_2, key_3,
+        value_3, r3_0_2, r115, words_len, r33, r1, r1_2, r1_3, r26_2, bits, x14, x15, r49, index, key_4, value_4;
     char *map, *slot_2, *nodes, *node, *slot_3, *nodes_at, *node_2, *nodes_2, *node_3, *node_4, *node_5, *node_6,
-        *slot_4, *r11_2, *node_7;
-    uint32_t r6, low, r8_2, low_2;
-    uint16_t high, high_2, high_3, high_4, high_5;
+        *slot_4, *r11_2;
+    uint32_t r6_3, low, r8_2;
+    uint16_t high, high_2, high_3;
+    struct word_word r19, r19_2, r24;
     map_address = load64(handle);
     store64(handle, 0);
     map = (char *)(uintptr_t)map_address;
     if (map_address == 0) {
-        key = 0;
-        value = 0;
         r6 = 0;
+        r6_2 = 0;
+        r6_3 = 0;
     } else {
         slot = load64(at + CURSOR_SLOT);
         place = load64(at + CURSOR_PLACE);
@@ -2341,9 +2249,8 @@ static ALWAYS_INLINE char *do_intmap_cut(char *result, char *handle, char *at) {
                 if (place < r3_0) {
                     switch (place) {
                     case 0:
-                        at_4 = at_2;
                         high_2 = high;
-                        r306166 = slot;
+                        r305964 = slot;
                         slot_3 = slot_2;
                         nodes_at = map + INT_MAP_NODES;
                         goto arm_1_2;
@@ -2354,8 +2261,8 @@ static ALWAYS_INLINE char *do_intmap_cut(char *result, char *handle, char *at) {
                         }
                         free = load64(map + INT_MAP_FREE);
                         r10_2 = (((uint64_t)load16(node_2 + NODE_HIGH)) << 32) | ((uint64_t)load32(node_2 + NODE_LOW));
-                        key_2 = load64(node_2 + NODE_KEY);
-                        value_2 = load64(node_2 + NODE_VALUE);
+                        key = load64(node_2 + NODE_KEY);
+                        value = load64(node_2 + NODE_VALUE);
                         store16(node_2 + NODE_HAS_PAIR, 0);
                         store16(node_2 + NODE_HIGH, (uint16_t)(free >> 32));
                         store32(node_2 + NODE_LOW, (uint32_t)free);
@@ -2363,52 +2270,52 @@ static ALWAYS_INLINE char *do_intmap_cut(char *result, char *handle, char *at) {
                         store64(map + INT_MAP_FREE, at_2);
                         store64(map + INT_MAP_SPARE, load64(map + INT_MAP_SPARE) + 1);
                         r2_0_2 = r10_2;
-                        key_3 = key_2;
-                        value_3 = value_2;
+                        key_2 = key;
+                        value_2 = value;
                         break;
                     default:
                         r26 = place - 2;
                         nodes_2 = load_address(map + INT_MAP_NODES);
                         if (r26 == 0) {
-                            at_5 = at_2;
+                            at_4 = at_2;
                         } else {
-                            at_6 = at_2;
+                            at_5 = at_2;
                             r2_0_3 = 0;
                             for (;;) {
-                                node_3 = nodes_2 + (at_6 * NODE_SIZE);
+                                node_3 = nodes_2 + (at_5 * NODE_SIZE);
                                 if (load8(node_3 + NODE_HAS_PAIR) != 1) {
                                     abort();
                                 }
                                 r10_3 = (((uint64_t)load16(node_3 + NODE_HIGH)) << 32) | ((uint64_t)load32(node_3 + NODE_LOW));
                                 r12 = r2_0_3 + 1;
                                 if (r12 == r26) {
-                                    at_5 = r10_3;
+                                    at_4 = r10_3;
                                     break;
                                 }
-                                at_6 = r10_3;
+                                at_5 = r10_3;
                                 r2_0_3 = r12;
                             }
                         }
-                        r8 = at_5 * NODE_SIZE;
+                        r8 = at_4 * NODE_SIZE;
                         node_4 = nodes_2 + r8;
                         if (load8(node_4 + NODE_HAS_PAIR) != 1) {
                             abort();
                         }
-                        at_7 = (((uint64_t)load16(node_4 + NODE_HIGH)) << 32) | ((uint64_t)load32(node_4 + NODE_LOW));
-                        node_5 = nodes_2 + (at_7 * NODE_SIZE);
+                        at_6 = (((uint64_t)load16(node_4 + NODE_HIGH)) << 32) | ((uint64_t)load32(node_4 + NODE_LOW));
+                        node_5 = nodes_2 + (at_6 * NODE_SIZE);
                         if (load8(node_5 + NODE_HAS_PAIR) != 1) {
                             abort();
                         }
                         high_3 = load16(node_5 + NODE_HIGH);
                         low = load32(node_5 + NODE_LOW);
                         free_2 = load64(map + INT_MAP_FREE);
-                        key_4 = load64(node_5 + NODE_KEY);
-                        value_4 = load64(node_5 + NODE_VALUE);
+                        key_3 = load64(node_5 + NODE_KEY);
+                        value_3 = load64(node_5 + NODE_VALUE);
                         store16(node_5 + NODE_HAS_PAIR, 0);
                         store16(node_5 + NODE_HIGH, (uint16_t)(free_2 >> 32));
                         store32(node_5 + NODE_LOW, (uint32_t)free_2);
                         memset(node_5 + NODE_KEY, 0, 16);
-                        store64(map + INT_MAP_FREE, at_7);
+                        store64(map + INT_MAP_FREE, at_6);
                         store64(map + INT_MAP_SPARE, load64(map + INT_MAP_SPARE) + 1);
                         node_6 = load_address(map + INT_MAP_NODES) + r8;
                         if (load8(node_6 + NODE_HAS_PAIR) != 1) {
@@ -2417,8 +2324,8 @@ static ALWAYS_INLINE char *do_intmap_cut(char *result, char *handle, char *at) {
                         store16(node_6 + NODE_HIGH, high_3);
                         store32(node_6 + NODE_LOW, low);
                         r2_0_2 = at_2;
-                        key_3 = key_4;
-                        value_3 = value_4;
+                        key_2 = key_3;
+                        value_2 = value_3;
                         break;
                     }
                     if (load8(slot_2 + SLOT_HAS_PAIR) != 1) {
@@ -2426,9 +2333,8 @@ static ALWAYS_INLINE char *do_intmap_cut(char *result, char *handle, char *at) {
                     }
                     store16(slot_2 + SLOT_HIGH, (uint16_t)(r2_0_2 >> 32));
                     store32(slot_2 + SLOT_LOW, (uint32_t)r2_0_2);
-                    key_5 = key_3;
-                    value_5 = value_3;
-                    goto x14;
+                    r19 = made_word_word(key_2, value_2);
+                    goto x13;
                 }
             }
         }
@@ -2447,9 +2353,9 @@ static ALWAYS_INLINE char *do_intmap_cut(char *result, char *handle, char *at) {
         for (;;) {
             r26_2 = r1_3 + 1;
             if (words_len <= r26_2) {
-                key_6 = 0;
+                x14 = 0;
                 r8_2 = 0;
-                value_6 = 0;
+                x15 = 0;
                 goto after_walk_cut;
             }
             bits = load64(load_address(map + INT_MAP_WORDS) + (r26_2 << 3));
@@ -2469,63 +2375,41 @@ static ALWAYS_INLINE char *do_intmap_cut(char *result, char *handle, char *at) {
         if (load8(slot_4 + SLOT_HAS_PAIR) != 1) {
             abort();
         }
-        high_4 = load16(slot_4 + SLOT_HIGH);
-        at_4 = (((uint64_t)high_4) << 32) | ((uint64_t)load32(slot_4 + SLOT_LOW));
-        high_2 = high_4;
-        r306166 = index;
+        high_2 = load16(slot_4 + SLOT_HIGH);
+        r305964 = index;
         slot_3 = slot_4;
         nodes_at = map + INT_MAP_NODES;
     arm_1_2:;
         if (high_2 == 65535) {
-            key_7 = load64(slot_3 + SLOT_KEY);
-            value_7 = load64(slot_3 + SLOT_VALUE);
+            key_4 = load64(slot_3 + SLOT_KEY);
+            value_4 = load64(slot_3 + SLOT_VALUE);
             memset(slot_3, 0, 24);
-            r11_2 = load_address(map + INT_MAP_WORDS) + ((r306166 >> 3) & UINT64_C(2305843009213693944));
-            store64(r11_2, load64(r11_2) & (((uint64_t)1 << (r306166 & 63)) ^ UINT64_C(18446744073709551615)));
-            key_5 = key_7;
-            value_5 = value_7;
+            r19_2 = made_word_word(key_4, value_4);
         } else {
-            node_7 = load_address(nodes_at + POOL_NODES) + (at_4 * NODE_SIZE);
-            if (load8(node_7 + NODE_HAS_PAIR) != 1) {
-                abort();
+            r24 = row_take_first_of_several(slot_3, nodes_at);
+            if (load8(slot_3 + SLOT_HAS_PAIR) != 0) {
+                r19 = r24;
+                goto x13;
             }
-            high_5 = load16(node_7 + NODE_HIGH);
-            low_2 = load32(node_7 + NODE_LOW);
-            free_3 = load64(map + INT_MAP_FREE);
-            key_8 = load64(node_7 + NODE_KEY);
-            value_8 = load64(node_7 + NODE_VALUE);
-            store16(node_7 + NODE_HAS_PAIR, 0);
-            store16(node_7 + NODE_HIGH, (uint16_t)(free_3 >> 32));
-            store32(node_7 + NODE_LOW, (uint32_t)free_3);
-            memset(node_7 + NODE_KEY, 0, 16);
-            store64(map + INT_MAP_FREE, at_4);
-            store64(map + INT_MAP_SPARE, load64(map + INT_MAP_SPARE) + 1);
-            if (load8(slot_3 + SLOT_HAS_PAIR) != 1) {
-                abort();
-            }
-            store16(slot_3 + SLOT_HIGH, high_5);
-            store32(slot_3 + SLOT_LOW, low_2);
-            key_9 = load64(slot_3 + SLOT_KEY);
-            value_9 = load64(slot_3 + SLOT_VALUE);
-            store64(slot_3 + SLOT_KEY, key_8);
-            store64(slot_3 + SLOT_VALUE, value_8);
-            key_5 = key_9;
-            value_5 = value_9;
+            r19_2 = r24;
         }
-    x14:;
+        r11_2 = load_address(map + INT_MAP_WORDS) + ((r305964 >> 3) & UINT64_C(2305843009213693944));
+        store64(r11_2, load64(r11_2) & (((uint64_t)1 << (r305964 & 63)) ^ UINT64_C(18446744073709551615)));
+        r19 = r19_2;
+    x13:;
         store64(map + INT_MAP_LEN, load64(map + INT_MAP_LEN) - 1);
-        key_6 = key_5;
+        x14 = r19.first;
         r8_2 = 1;
-        value_6 = value_5;
+        x15 = r19.second;
     after_walk_cut:;
         store64(handle, map_address);
-        key = key_6;
-        value = value_6;
-        r6 = r8_2;
+        r6 = x14;
+        r6_2 = x15;
+        r6_3 = r8_2;
     }
-    store64(result + FOUND_PAIR_KEY, key);
-    store64(result + FOUND_PAIR_VALUE, value);
-    store32(result + FOUND_PAIR_STATUS, r6);
+    store64(result + FOUND_PAIR_KEY, r6);
+    store64(result + FOUND_PAIR_VALUE, r6_2);
+    store32(result + FOUND_PAIR_STATUS, r6_3);
     store32(result + 20, 0);
     return result;
 }

@@ -30,7 +30,7 @@
 //! std's with a multiplying hasher. It is the range of what several programs found with 1,000 and
 //! 20,000 keys and values of type `u64`. A time is the least of many rounds in which the maps took
 //! turns, on machines that were mostly busy. Bytes were counted at the allocator. The times are those
-//! of version 1.0.0: since then random keys take less time, and to insert ids in order takes 1.8
+//! of version 1.0.0: since then random keys take less time, and to insert ids in order takes 1.6
 //! times as long.
 //!
 //! The traits of serde are in the crate `intmap_proved_serde`.

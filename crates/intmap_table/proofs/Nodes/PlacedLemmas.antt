@@ -154,15 +154,6 @@ module _ {P : Type 0} where
       let h = further-fewer R from i (omega (arith, up)) in
       omega (arith, e, f, h)
 
-  -- the next row with a pair is so too of rows that are the same from there on
-  pub next-same : (S R : List (List P)) (from i : ℕ) → IsNextRow S from i → length S ≡ length R → ((j : ℕ) → from ≤ j → get_or S j [] ≡ get_or R j []) → IsNextRow R from i
-  next-same S R from i next len same = record {
-    behind = next.behind;
-    within = (let w = next.within in omega (arith, w, len));
-    filled = subst (λ row. 0 < length row) (same i next.behind) next.filled;
-    between = λ j le lt. sym (same j le) ∙ next.between j le lt;
-  }
-
 module _ {K X : Type 0} (number : K → ℕ) (C D : ℕ) (grown : IsGrown C D) where
   -- pairs of the rows before a row don't go to a slot of that row, or of one behind it
   pub none-before : (R : List (List (K × X))) (n j : ℕ) → ((i : ℕ) → i < n → All (λ p. slot_number number p.0 C ≡ i) (get_or R i [])) → n ≤ j % C → slot_of number (joined (take n R)) D j ≡ []

@@ -1,12 +1,12 @@
 -- The marks of a table say which of its slots hold a pair.
-use Rattle.std.proofs.Common.{◌≡◌, ℕ, zero, suc, ◌+◌, ◌*◌, ◌/◌, ◌<◌, ◌≤◌, Bool, true, false, List, [], ◌∷◌, ◌++◌, length, get_or, set, replicate, refl, ◌∙◌, subst, arith, length-set, get_or-set_same, get_or-set_other}
+use Rattle.std.proofs.Common.{◌≡◌, ℕ, zero, suc, ◌+◌, ◌*◌, ◌/◌, ◌<◌, ◌≤◌, Bool, true, false, List, [], ◌∷◌, ◌++◌, length, get_or, set, replicate, refl, sym, ◌∙◌, subst, arith, length-set, get_or-set_same, get_or-set_other}
 use Rattle.std.specs.Prelude.{◌==◌, filter, count_by, nat_lt}
 use Rattle.std.specs.List.{list_any, range_with_len}
-use Rattle.std.proofs.lemmas.Bool.{lt-ltb}
+use Rattle.std.proofs.lemmas.Bool.{lt-ltb, ltb-true}
 use Rattle.std.proofs.lemmas.Bool.Decides.{nat_tests}
 use Rattle.std.proofs.lemmas.List.{length-replicate, length_push, get_or_past, set-get_or}
-use Rattle.intmap_table.specs.Tables.Bits.{marked, marked_indices}
-use Rattle.intmap_table.specs.Tables.Slots.{joined, pairs_at, AreMarked}
+use Rattle.intmap_table.specs.Tables.Bits.{marked, marked_indices, IsNextMark}
+use Rattle.intmap_table.specs.Tables.Slots.{joined, pairs_at, AreMarked, IsNextRow}
 use Rattle.intmap_table.proofs.Tables.MarkedLemmas.{get_or-of_default, row-none, flat_map-marked_indices, length-marked_indices}
 
 -- a row that holds a pair is one of the rows
@@ -67,3 +67,14 @@ row-unmarked R marks are i missed =
 pub joined-emptied : {P : Type 0} (R : List (List P)) → ((i : ℕ) → get_or R i [] ≡ []) → joined R ≡ []
 joined-emptied [] empty = refl
 joined-emptied (row ∷ R) empty = rw (empty 0) (joined-emptied R (λ i. empty (suc i)))
+
+-- the next marked index is that of the next row with a pair
+pub next-marked : {P : Type 0} (R : List (List P)) (marks : List Bool) → AreMarked R marks → (from i : ℕ) → IsNextMark marks from i → IsNextRow R from i
+next-marked R marks are from i next =
+    let some = ltb-true 0 (length (get_or R i [])) (sym (are.own i) ∙ next.is) in
+    record {
+      behind = next.behind;
+      within = row-within R i some;
+      filled = some;
+      between = λ j le lt. row-none (get_or R j []) (sym (are.own j) ∙ next.between j le lt);
+    }

@@ -181,6 +181,21 @@ pub(crate) fn take_front<P, A: Allocator>(slot: &mut Slot<P>, pool: &mut Pool<P,
     if link >= NODE_LIMIT {
         return slot.take();
     }
+    take_first_of_several(slot, pool)
+}
+
+/// Removes the first pair of a slot that holds others, which move up by one place.
+#[inline(never)]
+fn take_first_of_several<P, A: Allocator>(slot: &mut Slot<P>, pool: &mut Pool<P, A>) -> P
+    requires leads { IsSlot pool.old.nodes slot.old }
+    requires several { 1 < length (row_in pool.old.nodes slot.old) }
+    ensures row { (row : List P) × (row_in pool.old.nodes slot.old ≡ result ∷ row)
+        × IsSlotSet pool.old slot.old row pool.new slot.new }
+    ensures room { pool.old.room ≤ pool.new.room }
+{
+    let Some((link, _)) = slot.get() else {
+        unreachable!();
+    };
     let mut link = link;
     let second = take_behind(&mut link, pool);
     slot.set_link(link);
@@ -218,9 +233,25 @@ pub(crate) fn put_second<P, A: Allocator>(slot: &mut Slot<P>, pool: &mut Pool<P,
     ensures room { pool.old.room ≤ pool.new.room + 1 }
     ensures alone { row_in pool.old.nodes slot.old ≡ [] → pool.new.room ≡ pool.old.room }
 {
-    let Some((link, _)) = slot.get() else {
+    let Some(_) = slot.get() else {
         slot.fill(NOWHERE, pair);
         return;
+    };
+    put_behind_first(slot, pool, pair);
+}
+
+/// Puts a pair behind the first one of a slot that holds some. There is room for it.
+#[inline(never)]
+fn put_behind_first<P, A: Allocator>(slot: &mut Slot<P>, pool: &mut Pool<P, A>, pair: P)
+    requires leads { IsSlot pool.old.nodes slot.old }
+    requires filled { 0 < length (row_in pool.old.nodes slot.old) }
+    requires ready { 0 < pool.old.room }
+    ensures row { IsSlotSet pool.old slot.old
+        (put_second (row_in pool.old.nodes slot.old) pair) pool.new slot.new }
+    ensures room { pool.old.room ≤ pool.new.room + 1 }
+{
+    let Some((link, _)) = slot.get() else {
+        unreachable!();
     };
     match pool.add(link, pair) {
         Ok(at) => slot.set_link(at),

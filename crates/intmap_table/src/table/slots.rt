@@ -81,15 +81,6 @@ impl<K: IntKey, X, A: Allocator> Slots<K, X, A> {
         self.bits.count()
     }
 
-    /// Whether a slot holds a pair.
-    #[inline(always)]
-    pub(crate) fn is_filled(&self, index: usize) -> bool
-        requires { index < length self.now.rows }
-        ensures { result ≡ nat_lt 0 (length (row_at self.now index)) }
-    {
-        !self.slots[index].is_empty()
-    }
-
     /// The number of pairs of a slot.
     pub(crate) fn row_len(&self, index: usize) -> usize
         requires { index < length self.now.rows }

@@ -1,13 +1,15 @@
 //! Growth in one jump. All memory is allocated before the first pair moves.
-ghost use Rattle.std.specs.Prelude.{◌≡◌, ◌+◌, ◌<◌, ◌≤◌, ℕ, All, cond, nat_lt, [], ◌∷◌, ◌++◌, List, length, set, IfErr, OnErr, OnOk};
+ghost use Rattle.std.specs.Prelude.{◌≡◌, ◌+◌, ◌<◌, ◌≤◌, ℕ, All, cond, nat_lt, [], ◌∷◌, ◌++◌, false, List, length, slice_index_or, IfErr, OnErr, OnOk};
 ghost use Rattle.intmap_table.specs.Classes.{IsCapacity, slot_number};
 ghost use Rattle.intmap_table.specs.Walk.{slot_of};
-ghost use Rattle.intmap_table.specs.Tables.Nodes.{chain_of, further, node_limit, row_in, IsChain, IsSlot};
+ghost use Rattle.intmap_table.specs.Tables.Nodes.{chain_of, further, node_limit, is_empty, row_in, rows_in, Node, AreLinked, IsChain, IsSlot, IsSlotSet};
 ghost use Rattle.intmap_table.specs.Tables.Rows.{row_at, IsGrown, IsPlaced};
-ghost use Rattle.intmap_table.specs.Tables.Slots.{joined};
+ghost use Rattle.intmap_table.specs.Tables.Slots.{joined, AreMarked};
 
+use crate::bits::Bits;
 use crate::key::IntKey;
 use crate::linked::pool::Pool;
+use crate::linked::row;
 use crate::linked::slot::Slot;
 use crate::steps::Steps;
 use crate::table::masked_index_of;
@@ -60,67 +62,87 @@ fn goes_to<K: IntKey, X, A: Allocator>(
 
 /// The slot that the first pair of an old slot goes to among `mask + 1`.
 #[inline(always)]
-fn target_of<K: IntKey, X, A: Allocator>(old: &Slots<K, X, A>, index: usize, mask: usize) -> usize
+fn target_of<K: IntKey, X>(slot: &Slot<(Stored<K>, X)>, mask: usize) -> usize
     requires capacity { IsCapacity (mask + 1) }
-    requires some { 0 < length (row_at old.now index) }
-    ensures own { (p : K × X) (rest : List (K × X)) → row_at old.now index ≡ p ∷ rest
-        → slot_number K.number_of p.0 (mask + 1) ≡ result }
+    requires some { is_empty slot.now ≡ false }
+    ensures own { (nodes : List (Node (K × X))) (p : K × X) (rest : List (K × X))
+        → row_in nodes slot.now ≡ p ∷ rest → slot_number K.number_of p.0 (mask + 1) ≡ result }
     ensures within { result ≤ mask }
 {
-    masked_index_of(old.key_at(index, 0).key(), mask)
+    let Some((_, first)) = slot.get() else {
+        unreachable!();
+    };
+    masked_index_of(first.0.key(), mask)
 }
 
 /// Moves the pairs of an old slot that holds some, in order, to their new slots. The first of them
 /// goes to a slot without a pair.
 #[inline(always)]
 fn move_row<K: IntKey, X, A: Allocator>(
-    old: &mut Slots<K, X, A>,
-    index: usize,
+    slot: &mut Slot<(Stored<K>, X)>,
+    pool: &mut Pool<(Stored<K>, X), A>,
     new: &mut Slots<K, X, A>,
     placed: &mut Steps,
 )
+    requires leads { IsSlot pool.old.nodes slot.old }
+    requires some { 0 < length (row_in pool.old.nodes slot.old) }
     requires capacity { IsCapacity (length new.old.rows) }
-    requires some { 0 < length (row_at old.old index) }
-    requires free { (j : ℕ) → 0 < length (slot_of K.number_of (row_at old.old index)
+    requires free { (j : ℕ) → 0 < length (slot_of K.number_of (row_in pool.old.nodes slot.old)
         (length new.old.rows) j) → row_at new.old j ≡ [] }
-    requires room { length (row_at old.old index) ≤ new.old.room + 1 }
-    ensures old { old.new.rows ≡ set old.old.rows index [] }
+    requires room { length (row_in pool.old.nodes slot.old) ≤ new.old.room + 1 }
+    ensures row { IsSlotSet pool.old slot.old [] pool.new slot.new }
     ensures placed { (L : List (K × X)) → IsPlaced K.number_of (length new.old.rows) L new.old.rows
-        → IsPlaced K.number_of (length new.old.rows) (L ++ row_at old.old index) new.new.rows }
+        → IsPlaced K.number_of (length new.old.rows) (L ++ row_in pool.old.nodes slot.old)
+        new.new.rows }
     ensures len { length new.new.rows ≡ length new.old.rows }
-    ensures room { new.old.room + 1 ≤ new.new.room + length (row_at old.old index) }
-    ensures counted { placed.new ≡ placed.old + length (row_at old.old index) }
+    ensures room { new.old.room + 1 ≤ new.new.room + length (row_in pool.old.nodes slot.old) }
+    ensures counted { placed.new ≡ placed.old + length (row_in pool.old.nodes slot.old) }
 {
-    let target = target_of(old, index, new.mask());
-    let first = old.take_front(index);
+    let target = target_of(slot, new.mask());
+    let first = row::take_front(slot, pool);
     new.place(target, first, placed);
-    while old.is_filled(index) {
-        let target = target_of(old, index, new.mask());
-        let pair = old.take_front(index);
+    while !slot.is_empty() {
+        let target = target_of(slot, new.mask());
+        let pair = row::take_front(slot, pool);
         new.place(target, pair, placed);
     }
 }
 
-/// Moves the pairs of all old slots, slot after slot, to their new slots.
+/// Moves the pairs of all old slots, slot after slot, to their new slots. The bits mark the old slots
+/// that hold a pair, and stay.
 fn move_rows<K: IntKey, X, A: Allocator>(
-    old: &mut Slots<K, X, A>,
+    bits: &Bits<A>,
+    slots: &mut Vec<Slot<(Stored<K>, X)>, A>,
+    pool: &mut Pool<(Stored<K>, X), A>,
     new: &mut Slots<K, X, A>,
     placed: &mut Steps,
 )
-    requires grown { IsGrown (length old.old.rows) (length new.old.rows) }
-    requires own { (i : ℕ) → i < length old.old.rows
-        → All (λ p. slot_number K.number_of p.0 (length old.old.rows) ≡ i) (row_at old.old i) }
+    requires marks { AreMarked (rows_in slots.old.items pool.old.nodes) bits.now }
+    requires linked { AreLinked (λ p. slot_number K.number_of p.0 (length slots.old.items))
+        slots.old.items pool.old }
+    requires own { (i : ℕ) → i < length slots.old.items
+        → All (λ p. slot_number K.number_of p.0 (length slots.old.items) ≡ i)
+        (slice_index_or (rows_in slots.old.items pool.old.nodes) i []) }
+    requires grown { IsGrown (length slots.old.items) (length new.old.rows) }
     requires none { (j : ℕ) → row_at new.old j ≡ [] }
-    requires room { further old.old.rows ≤ new.old.room }
-    ensures placed { IsPlaced K.number_of (length new.old.rows) (joined old.old.rows) new.new.rows }
+    requires room { further (rows_in slots.old.items pool.old.nodes) ≤ new.old.room }
+    ensures linked { AreLinked (λ p. slot_number K.number_of p.0 (length slots.new.items))
+        slots.new.items pool.new }
+    ensures old_len { length slots.new.items ≡ length slots.old.items }
+    ensures empty { (i : ℕ)
+        → slice_index_or (rows_in slots.new.items pool.new.nodes) i [] ≡ [] }
+    ensures placed { IsPlaced K.number_of (length new.old.rows)
+        (joined (rows_in slots.old.items pool.old.nodes)) new.new.rows }
     ensures len { length new.new.rows ≡ length new.old.rows }
-    ensures room { new.old.room ≤ new.new.room + further old.old.rows }
-    ensures counted { placed.new ≡ placed.old + length (joined old.old.rows) }
+    ensures room { new.old.room
+        ≤ new.new.room + further (rows_in slots.old.items pool.old.nodes) }
+    ensures counted { placed.new
+        ≡ placed.old + length (joined (rows_in slots.old.items pool.old.nodes)) }
 {
     let mut from = 0;
-    let mut held = old.hold(from);
-    while let Some(index) = old.next_in(&mut held, from) {
-        move_row(old, index, new, placed);
+    let mut held = bits.hold(from);
+    while let Some(index) = bits.next_in(&mut held, from) {
+        move_row(&mut slots[index], pool, new, placed);
         from = index + 1;
     }
 }
@@ -132,6 +154,24 @@ impl<K: IntKey, X, A: Allocator> Slots<K, X, A> {
         ensures limit { result ≤ node_limit }
     {
         self.pool.held()
+    }
+
+    /// Moves all pairs, slot after slot, to new slots.
+    fn move_all(&mut self, new: &mut Slots<K, X, A>, placed: &mut Steps)
+        requires grown { IsGrown (length self.old.rows) (length new.old.rows) }
+        requires own { (i : ℕ) → i < length self.old.rows
+            → All (λ p. slot_number K.number_of p.0 (length self.old.rows) ≡ i)
+            (row_at self.old i) }
+        requires none { (j : ℕ) → row_at new.old j ≡ [] }
+        requires room { further self.old.rows ≤ new.old.room }
+        ensures placed { IsPlaced K.number_of (length new.old.rows) (joined self.old.rows)
+            new.new.rows }
+        ensures len { length new.new.rows ≡ length new.old.rows }
+        ensures room { new.old.room ≤ new.new.room + further self.old.rows }
+        ensures counted { placed.new ≡ placed.old + length (joined self.old.rows) }
+    {
+        move_rows(&self.bits, &mut self.slots, &mut self.pool, new, placed);
+        self.bits.clear_all();
     }
 
     /// For how many pairs behind the first ones of their slots there must be room, if a pair comes to
@@ -168,7 +208,7 @@ impl<K: IntKey, X: Drop, A: Allocator + Copy> Slots<K, X, A> {
         let Ok(mut new) = Slots::new(self.allocator(), capacity, self.further()) else {
             return Err(AllocError);
         };
-        move_rows(self, &mut new, placed);
+        self.move_all(&mut new, placed);
         new.turn_each();
         *self = new;
         Ok(())
@@ -204,7 +244,7 @@ impl<K: IntKey, X: Drop, A: Allocator + Copy> Slots<K, X, A> {
         let Ok(mut new) = Slots::new(self.allocator(), capacity, room) else {
             return Err(pair);
         };
-        move_rows(self, &mut new, placed);
+        self.move_all(&mut new, placed);
         new.place(target, pair, placed);
         new.turn_each();
         *self = new;

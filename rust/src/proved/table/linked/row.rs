@@ -131,6 +131,15 @@ pub(in crate::proved::table) fn take_front<P, A: Allocator>(slot: &mut Slot<P>, 
     if link >= NODE_LIMIT {
         return slot.take();
     }
+    take_first_of_several(slot, pool)
+}
+
+/// Removes the first pair of a slot that holds others, which move up by one place.
+#[inline(never)]
+fn take_first_of_several<P, A: Allocator>(slot: &mut Slot<P>, pool: &mut Pool<P, A>) -> P {
+    let Some((link, _)) = slot.get() else {
+        unreachable!();
+    };
     let mut link = link;
     let second = take_behind(&mut link, pool);
     slot.set_link(link);
@@ -140,9 +149,18 @@ pub(in crate::proved::table) fn take_front<P, A: Allocator>(slot: &mut Slot<P>, 
 /// Puts a pair behind the first one. If there is one, there is room for another.
 #[inline(always)]
 pub(in crate::proved::table) fn put_second<P, A: Allocator>(slot: &mut Slot<P>, pool: &mut Pool<P, A>, pair: P) {
-    let Some((link, _)) = slot.get() else {
+    let Some(_) = slot.get() else {
         slot.fill(NOWHERE, pair);
         return;
+    };
+    put_behind_first(slot, pool, pair);
+}
+
+/// Puts a pair behind the first one of a slot that holds some. There is room for it.
+#[inline(never)]
+fn put_behind_first<P, A: Allocator>(slot: &mut Slot<P>, pool: &mut Pool<P, A>, pair: P) {
+    let Some((link, _)) = slot.get() else {
+        unreachable!();
     };
     match pool.add(link, pair) {
         Ok(at) => slot.set_link(at),

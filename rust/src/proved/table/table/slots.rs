@@ -53,12 +53,6 @@ impl<K: IntKey, X, A: Allocator> Slots<K, X, A> {
         self.bits.count()
     }
 
-    /// Whether a slot holds a pair.
-    #[inline(always)]
-    pub(in crate::proved::table) fn is_filled(&self, index: usize) -> bool {
-        !self.slots[index].is_empty()
-    }
-
     /// The number of pairs of a slot.
     pub(in crate::proved::table) fn row_len(&self, index: usize) -> usize {
         row::len(&self.slots[index], &self.pool)

@@ -1,8 +1,10 @@
 //! Growth in one jump. All memory is allocated before the first pair moves.
 
 use crate::memory::prelude::*;
+use crate::proved::table::bits::Bits;
 use crate::proved::table::key::IntKey;
 use crate::proved::table::linked::pool::Pool;
+use crate::proved::table::linked::row;
 use crate::proved::table::linked::slot::Slot;
 use crate::proved::table::steps::Steps;
 use crate::proved::table::table::masked_index_of;
@@ -45,39 +47,45 @@ fn goes_to<K: IntKey, X, A: Allocator>(
 
 /// The slot that the first pair of an old slot goes to among `mask + 1`.
 #[inline(always)]
-fn target_of<K: IntKey, X, A: Allocator>(old: &Slots<K, X, A>, index: usize, mask: usize) -> usize {
-    masked_index_of(old.key_at(index, 0).key(), mask)
+fn target_of<K: IntKey, X>(slot: &Slot<(Stored<K>, X)>, mask: usize) -> usize {
+    let Some((_, first)) = slot.get() else {
+        unreachable!();
+    };
+    masked_index_of(first.0.key(), mask)
 }
 
 /// Moves the pairs of an old slot that holds some, in order, to their new slots. The first of them
 /// goes to a slot without a pair.
 #[inline(always)]
 fn move_row<K: IntKey, X, A: Allocator>(
-    old: &mut Slots<K, X, A>,
-    index: usize,
+    slot: &mut Slot<(Stored<K>, X)>,
+    pool: &mut Pool<(Stored<K>, X), A>,
     new: &mut Slots<K, X, A>,
     placed: &mut Steps,
 ) {
-    let target = target_of(old, index, new.mask());
-    let first = old.take_front(index);
+    let target = target_of(slot, new.mask());
+    let first = row::take_front(slot, pool);
     new.place(target, first, placed);
-    while old.is_filled(index) {
-        let target = target_of(old, index, new.mask());
-        let pair = old.take_front(index);
+    while !slot.is_empty() {
+        let target = target_of(slot, new.mask());
+        let pair = row::take_front(slot, pool);
         new.place(target, pair, placed);
     }
 }
 
-/// Moves the pairs of all old slots, slot after slot, to their new slots.
+/// Moves the pairs of all old slots, slot after slot, to their new slots. The bits mark the old slots
+/// that hold a pair, and stay.
 fn move_rows<K: IntKey, X, A: Allocator>(
-    old: &mut Slots<K, X, A>,
+    bits: &Bits<A>,
+    slots: &mut Vec<Slot<(Stored<K>, X)>, A>,
+    pool: &mut Pool<(Stored<K>, X), A>,
     new: &mut Slots<K, X, A>,
     placed: &mut Steps,
 ) {
     let mut from = 0;
-    let mut held = old.hold(from);
-    while let Some(index) = old.next_in(&mut held, from) {
-        move_row(old, index, new, placed);
+    let mut held = bits.hold(from);
+    while let Some(index) = bits.next_in(&mut held, from) {
+        move_row(&mut slots[index], pool, new, placed);
         from = index + 1;
     }
 }
@@ -86,6 +94,12 @@ impl<K: IntKey, X, A: Allocator> Slots<K, X, A> {
     /// How many pairs are behind the first ones of their slots.
     pub(super) fn further(&self) -> usize {
         self.pool.held()
+    }
+
+    /// Moves all pairs, slot after slot, to new slots.
+    fn move_all(&mut self, new: &mut Slots<K, X, A>, placed: &mut Steps) {
+        move_rows(&self.bits, &mut self.slots, &mut self.pool, new, placed);
+        self.bits.clear_all();
     }
 
     /// For how many pairs behind the first ones of their slots there must be room, if a pair comes to
@@ -106,7 +120,7 @@ impl<K: IntKey, X, A: Allocator + Copy> Slots<K, X, A> {
         let Ok(mut new) = Slots::new(self.allocator(), capacity, self.further()) else {
             return Err(AllocError);
         };
-        super::mending::moving(self, &mut new, |old, new| move_rows(old, new, placed));
+        super::mending::moving(self, &mut new, |old, new| old.move_all(new, placed));
         new.turn_each();
         *self = new;
         Ok(())
@@ -127,7 +141,7 @@ impl<K: IntKey, X, A: Allocator + Copy> Slots<K, X, A> {
         let Ok(mut new) = Slots::new(self.allocator(), capacity, room) else {
             return Err(pair);
         };
-        super::mending::moving(self, &mut new, |old, new| move_rows(old, new, placed));
+        super::mending::moving(self, &mut new, |old, new| old.move_all(new, placed));
         new.place(target, pair, placed);
         new.turn_each();
         *self = new;

@@ -21,7 +21,7 @@ impl<K: IntKey, X, A: Allocator> Drop for Moving<'_, K, X, A> {
         self.new.turn_each();
         let mut from = 0;
         while let Some(index) = self.new.next_filled(from) {
-            while self.new.is_filled(index) {
+            while !self.new.slots[index].is_empty() {
                 let pair = self.new.take_front(index);
                 drop(self.old.push(index & self.old.mask, pair));
             }
@@ -36,10 +36,10 @@ impl<K: IntKey, X, A: Allocator> Drop for Moving<'_, K, X, A> {
 pub(super) fn moving<K: IntKey, X, A: Allocator>(
     old: &mut Slots<K, X, A>,
     new: &mut Slots<K, X, A>,
-    move_rows: impl FnOnce(&mut Slots<K, X, A>, &mut Slots<K, X, A>),
+    move_all: impl FnOnce(&mut Slots<K, X, A>, &mut Slots<K, X, A>),
 ) {
     let moving = Moving { old, new };
-    move_rows(moving.old, moving.new);
+    move_all(moving.old, moving.new);
     forget(moving);
 }
 

@@ -1,19 +1,19 @@
-use Rattle.std.proofs.Common.{◌≡◌, ◌+◌, ◌≤◌, ◌<◌, length, set}
-use Rattle.intmap_table.specs.Tables.Rows.{row_at}
+use Rattle.std.proofs.Common.{◌≡◌, ◌+◌, ◌≤◌, length}
+use Rattle.intmap_table.specs.Tables.Nodes.{row_in}
+use Rattle.intmap_table.proofs.Nodes.DroppedLemmas.{IsDropped}
 use Rattle.intmap_table.proofs.Nodes.PlacedLemmas.{Moving}
 use Rattle.intmap_table.proofs.table.slots.grow.move_row.Given as goal
 
--- of the old row some pairs are left, for which there is room, and nothing else of the old slots has changed
-abbrev pub invariant-loop-old : goal.invariant-loop-old
-invariant-loop-old g l = record {
-  within : l.index < length l.old.rows;
-  others : l.old.rows ≡ set l.fn.old.rows l.index (row_at l.old l.index);
-  moving : Moving g.K.IntKey.number_of (length l.fn.new.rows) (row_at l.fn.old l.index) (row_at l.old l.index) l.fn.new.rows l.new.rows;
+-- some pairs of the old slot are left, for which there is room
+abbrev pub invariant-loop-slot : goal.invariant-loop-slot
+invariant-loop-slot g l = record {
+  left : IsDropped l.fn.pool l.fn.slot l.pool l.slot;
+  moving : Moving g.K.IntKey.number_of (length l.fn.new.rows) (row_in l.fn.pool.nodes l.fn.slot) (row_in l.pool.nodes l.slot) l.fn.new.rows l.new.rows;
   len : length l.new.rows ≡ length l.fn.new.rows;
-  ready : length (row_at l.old l.index) ≤ l.new.room;
-  room : l.fn.new.room + 1 + length (row_at l.old l.index) ≤ l.new.room + length (row_at l.fn.old l.index);
-  counted : l.placed + length (row_at l.old l.index) ≡ l.fn.placed + length (row_at l.fn.old l.index);
+  ready : length (row_in l.pool.nodes l.slot) ≤ l.new.room;
+  room : l.fn.new.room + 1 + length (row_in l.pool.nodes l.slot) ≤ l.new.room + length (row_in l.fn.pool.nodes l.fn.slot);
+  counted : l.placed + length (row_in l.pool.nodes l.slot) ≡ l.fn.placed + length (row_in l.fn.pool.nodes l.fn.slot);
 }
 
-abbrev pub decreases-loop-old : goal.decreases-loop-old
-decreases-loop-old g l = length (row_at l.old l.index)
+abbrev pub decreases-loop-slot : goal.decreases-loop-slot
+decreases-loop-slot g l = length (row_in l.pool.nodes l.slot)
