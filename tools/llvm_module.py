@@ -204,6 +204,16 @@ class Function:
                 self.uses[value] = [it for it in users if it[0] not in unused]
 
 
+def kept_apart(text, ends):
+    """A module that keeps the functions apart whose names end so: LLVM may inline none of them."""
+    for it in ends:
+        head = rf'^(define [^\n]*@"[^"\n]*::{it}(?:::<[^"\n]*)?"\([^\n]*\) )#\d+ \{{$'
+        text, count = re.subn(head, r"\1noinline nounwind {", text, flags=re.M)
+        if not count:
+            raise SystemExit(f"llvm_module: no function is called {it}")
+    return text
+
+
 def functions_of(text):
     """The functions that a module defines."""
     attributes = dict(GROUP.findall(text))

@@ -12,8 +12,11 @@ from places import MAP, Places, title
 from origins import WIDTH, Origins, path_of
 
 PARTS = "tools/portable_driver"
-# How clang prints a module: behind the optimiser, with names. Vectors have no form in C, and unrolled loops are longer
-# and no faster.
+# Functions that stay functions, so that no other becomes too long to read. The compiler of the C inlines them in LLVM's place.
+APART = ("IntMap::get_counted", "Slots::clone", "chain::last_in", "chain::seek", "chain::swap_behind", "Pool::append")
+# How clang prints a module, with names: as it is given, and behind the optimiser. Vectors have no form in C, and unrolled
+# loops are longer and no faster.
+GIVEN = "-Xclang -disable-llvm-passes -fno-discard-value-names -S -emit-llvm"
 MODULE = "-O2 -fno-vectorize -fno-slp-vectorize -fno-unroll-loops -fno-discard-value-names -S -emit-llvm"
 BINARY = {
     "add": "+",
@@ -677,7 +680,7 @@ class FunctionInC:
         """The function as it is declared."""
         marks = "ALIGNED NOINLINE" if "noinline" in self.function.attributes else "ALIGNED"
         marks = "COLD" if "cold" in self.function.attributes else marks
-        marks = "ALWAYS_INLINE" if self.is_call_of_c else marks
+        marks = "ALWAYS_INLINE" if self.is_call_of_c or self.function.name.split("::<")[0].endswith(APART) else marks
         places = ", ".join(declared(kind, self.variable(it)) for kind, it in self.function.parameters)
         return f"static {marks} {declared(self.function.result, self.name)}({places or 'void'})"
 

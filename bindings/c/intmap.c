@@ -464,10 +464,13 @@ enum {
 };
 #define MULTIPLIER UINT64_C(11400714819323198549)
 
-static ALIGNED struct byte_address intmap_get_counted(char *map, uint64_t key);
+static ALWAYS_INLINE uint64_t chain_seek(char *pool, uint64_t from, uint64_t place);
+static ALWAYS_INLINE struct byte_address intmap_get_counted(char *map, uint64_t key);
 static ALIGNED NOINLINE struct word_word row_take_first_of_several(char *slot, char *pool);
-static ALIGNED void pool_append(char *result, char *nodes_at, uint64_t link, uint64_t a3, uint64_t a4);
-static COLD bool vec_grow_amortized(char *a0);
+static ALWAYS_INLINE uint64_t chain_swap_behind(uint64_t link, char *pool, uint64_t place, uint64_t a3, uint64_t a4);
+static ALWAYS_INLINE void slots_clone(char *result, char *map);
+static ALWAYS_INLINE void pool_append(char *result, char *nodes_at, uint64_t link, uint64_t a3, uint64_t a4);
+static COLD bool vec_grow_amortized(char *nodes_at);
 static ALIGNED uint32_t make_keep(char *handle, char *a1);
 static ALIGNED void intmap_with_slots(char *result, uint64_t slots);
 static ALIGNED void slots_new(char *result, uint64_t capacity, uint64_t room);
@@ -476,6 +479,8 @@ static ALIGNED NOINLINE void intmap_add_growing(char *result, char *map, uint64_
 static ALIGNED void slots_move_all(char *map, char *new_);
 static ALIGNED NOINLINE struct word_word row_take_first_of_several_2(char *slot, char *pool);
 static ALIGNED NOINLINE void row_put_behind_first(char *slot, char *pool, uint64_t a2, uint64_t a3);
+static ALWAYS_INLINE uint64_t chain_last_in(char *pool, uint64_t from);
+static ALWAYS_INLINE struct word_word chain_last_in_2(char *pool, uint64_t from);
 static ALIGNED uint8_t table_grow_to(char *map, uint64_t capacity);
 static ALWAYS_INLINE void do_intmap_place(char *word, uint64_t key, char *at);
 static ALWAYS_INLINE uint32_t do_intmap_version(void);
@@ -501,11 +506,37 @@ static ALWAYS_INLINE struct word_word do_intmap_insert(char *handle, uint64_t ke
 static ALWAYS_INLINE uint32_t do_intmap_reserve_slots(char *handle, uint64_t additional);
 static ALWAYS_INLINE uint32_t do_intmap_set_load_factor(char *handle, uint64_t thousandths);
 
+// The node at a place of a chain.
+// intmap_table::linked::chain::seek, in crates/intmap_table/src/linked/chain.rt
+static ALWAYS_INLINE uint64_t chain_seek(char *pool, uint64_t from, uint64_t place) {
+    char *nodes, *node;
+    uint64_t at, r2_013, r10, r12;
+    if (place == 0) {
+        return from;
+    }
+    nodes = load_address(pool + POOL_NODES);
+    at = from;
+    r2_013 = 0;
+    for (;;) {
+        node = nodes + (at * NODE_SIZE);
+        if (load8(node + NODE_HAS_PAIR) != 1) {
+            abort();
+        }
+        r10 = (((uint64_t)load16(node + NODE_HIGH)) << 32) | ((uint64_t)load32(node + NODE_LOW));
+        r12 = r2_013 + 1;
+        if (r12 == place) {
+            return r10;
+        }
+        at = r10;
+        r2_013 = r12;
+    }
+}
+
 // The same as `get`, but each comparison of a stored key with the sought one is counted in `steps`.
 // intmap::map::IntMap::get_counted, in crates/intmap/src/map/get.rt
-static ALIGNED struct byte_address intmap_get_counted(char *map, uint64_t key) {
-    char *slot, *r11, *nodes, *node, *nodes_2, *node_2, *node_3;
-    uint64_t r10, nodes_len, at, r2_0, at_2, at_3, r2_0_2, r10_2, r12, r10_3;
+static ALWAYS_INLINE struct byte_address intmap_get_counted(char *map, uint64_t key) {
+    char *slot, *r11, *nodes, *node, *node_2;
+    uint64_t r10, nodes_len, at, r2_0, at_2, r10_2;
     slot = load_address(map + INT_MAP_SLOTS) + ((load64(map + INT_MAP_MASK) & (key * MULTIPLIER)) * SLOT_SIZE);
     if (load8(slot + SLOT_HAS_PAIR) != 1) {
         return made_byte_address(0, NULL);
@@ -531,39 +562,19 @@ static ALIGNED struct byte_address intmap_get_counted(char *map, uint64_t key) {
                     r11 = slot;
                     break;
                 }
-                nodes_2 = load_address(map + INT_MAP_NODES);
-                if (r2_0 == 0) {
-                    at_2 = r10;
-                } else {
-                    at_3 = r10;
-                    r2_0_2 = 0;
-                    for (;;) {
-                        node_2 = nodes_2 + (at_3 * NODE_SIZE);
-                        if (load8(node_2 + NODE_HAS_PAIR) != 1) {
-                            abort();
-                        }
-                        r10_2 = (((uint64_t)load16(node_2 + NODE_HIGH)) << 32) | ((uint64_t)load32(node_2 + NODE_LOW));
-                        r12 = r2_0_2 + 1;
-                        if (r12 == r2_0) {
-                            at_2 = r10_2;
-                            break;
-                        }
-                        at_3 = r10_2;
-                        r2_0_2 = r12;
-                    }
-                }
-                node_3 = nodes_2 + (at_2 * NODE_SIZE);
-                if (load8(node_3 + NODE_HAS_PAIR) != 1) {
+                at_2 = chain_seek(map + INT_MAP_NODES, r10, r2_0);
+                node_2 = load_address(map + INT_MAP_NODES) + (at_2 * NODE_SIZE);
+                if (load8(node_2 + NODE_HAS_PAIR) != 1) {
                     abort();
                 }
-                r11 = node_3;
+                r11 = node_2;
                 break;
             }
-            r10_3 = (((uint64_t)load16(node + NODE_HIGH)) << 32) | ((uint64_t)load32(node + NODE_LOW));
-            if (nodes_len <= r10_3) {
+            r10_2 = (((uint64_t)load16(node + NODE_HIGH)) << 32) | ((uint64_t)load32(node + NODE_LOW));
+            if (nodes_len <= r10_2) {
                 return made_byte_address(0, NULL);
             }
-            at = r10_3;
+            at = r10_2;
             r2_0 = r2_0 + 1;
         }
     }
@@ -608,22 +619,232 @@ static ALIGNED NOINLINE struct word_word row_take_first_of_several(char *slot, c
     return made_word_word(key_2, value_2);
 }
 
+// Puts a pair into the place of another of those that a link leads through, and returns that one.
+// intmap_table::linked::chain::swap_behind, in crates/intmap_table/src/linked/chain.rt
+static ALWAYS_INLINE uint64_t chain_swap_behind(uint64_t link, char *pool, uint64_t place, uint64_t a3, uint64_t a4) {
+    uint64_t at, value;
+    char *node;
+    at = chain_seek(pool, link, place);
+    node = load_address(pool + POOL_NODES) + (at * NODE_SIZE);
+    if (load8(node + NODE_HAS_PAIR) != 1) {
+        abort();
+    }
+    value = load64(node + NODE_VALUE);
+    store64(node + NODE_KEY, a3);
+    store64(node + NODE_VALUE, a4);
+    return value;
+}
+
+// The same keys in the same slots, with clones of their values.
+// intmap_table::table::slots::Slots::clone, in crates/intmap_table/src/table/slots/clone.rt
+static ALWAYS_INLINE void slots_clone(char *result, char *map) {
+    uint64_t slots_len, words_len, r7_pre_phi33, r19_2, r0_05, r18, r30, nodes_len, spare, r10, slots_len_2, index,
+        r111, value, key, r0, r10_2, at, r10_3, key_2, value_2, next_index, mask;
+    bool r12, r12_2;
+    char *r19, *words, *r9_45_0_ph34, *r8_2, *r26, *r31, *r8_3, *slots, *slot, *node, *r22;
+    struct word_word block, block_2, block_3;
+    uint16_t high, high_2, r48, r48_2;
+    uint32_t low, r48_3;
+    char *dangling = (char *)no_bytes;
+    uint64_t r14_room[3];
+    char *r14 = (char *)r14_room;
+    uint64_t r0_27_room[5];
+    char *r0_27 = (char *)r0_27_room;
+    uint64_t r8_room[5];
+    char *r8 = (char *)r8_room;
+    memset(r8, 0, 40);
+    slots_len = load64(map + INT_MAP_SLOTS_LEN);
+    r12 = slots_len == 0;
+    if (!r12) {
+        if (slots_len < UINT64_C(384307168202282326)) {
+            block = rattle_alloc(slots_len * 24, 8);
+            if ((block.first & 1) != 0) {
+                r19 = (char *)(uintptr_t)block.second;
+                goto arm_1;
+            }
+        }
+        store8(result, 1);
+        memset(result + 8, 0, 96);
+        return;
+    }
+    r19 = dangling;
+arm_1:;
+    words = load_address(map + INT_MAP_WORDS);
+    words_len = load64(map + INT_MAP_WORDS_LEN);
+    r12_2 = words_len == 0;
+    if (!r12_2) {
+        if (words_len < UINT64_C(1152921504606846976)) {
+            r19_2 = words_len << 3;
+            block_2 = rattle_alloc(r19_2, 8);
+            if ((block_2.first & 1) != 0) {
+                r8_2 = (char *)(uintptr_t)block_2.second;
+                if ((block_2.second - ((uint64_t)(uintptr_t)words)) >= r19_2) {
+                    r9_45_0_ph34 = r8_2;
+                    r7_pre_phi33 = r19_2;
+                    goto apart_2;
+                }
+                r0_05 = 0;
+                for (;;) {
+                    r18 = r0_05 << 3;
+                    store64(r8_2 + r18, load64(words + r18));
+                    r30 = r0_05 + 1;
+                    if (r30 == words_len) {
+                        r26 = r8_2;
+                        goto arm_5;
+                    }
+                    r0_05 = r30;
+                }
+            }
+        }
+        if (!r12) {
+            rattle_dealloc(r19);
+        }
+        store8(result, 1);
+        memset(result + 8, 0, 96);
+        return;
+    }
+    r9_45_0_ph34 = dangling;
+    r7_pre_phi33 = 0;
+apart_2:;
+    memmove(r9_45_0_ph34, words, r7_pre_phi33);
+    r26 = r9_45_0_ph34;
+arm_5:;
+    nodes_len = load64(map + INT_MAP_NODES_LEN);
+    spare = load64(map + INT_MAP_SPARE);
+    r10 = nodes_len - spare;
+    if (nodes_len != spare) {
+        if (r10 < UINT64_C(384307168202282326)) {
+            block_3 = rattle_alloc(r10 * 24, 8);
+            if ((block_3.first & 1) != 0) {
+                r8_3 = (char *)(uintptr_t)block_3.second;
+                if (r10 <= UINT64_C(281470681743360)) {
+                    r31 = r8_3;
+                    goto arm_8;
+                }
+                rattle_dealloc(r8_3);
+            }
+        }
+        memset(r0_27, 0, 40);
+        if (!r12_2) {
+            rattle_dealloc(r26);
+        }
+        if (!r12) {
+            rattle_dealloc(r19);
+        }
+        store8(result, 1);
+        memset(result + 8, 0, 56);
+        memcpy(result + 64, r0_27, 40);
+        return;
+    }
+    r31 = dangling;
+arm_8:;
+    store_address(r8, r31);
+    store64(r8 + 8, 0);
+    store64(r8 + 16, r10);
+    store64(r8 + 24, UINT64_C(281474976710655));
+    store64(r8 + 32, 0);
+    slots = load_address(map + INT_MAP_SLOTS);
+    slots_len_2 = load64(map + INT_MAP_SLOTS_LEN);
+    if (slots_len_2 != 0) {
+        index = 0;
+        for (;;) {
+            r111 = index * SLOT_SIZE;
+            slot = slots + r111;
+            if (load8(slot + SLOT_HAS_PAIR) == 1) {
+                high = load16(slot + SLOT_HIGH);
+                low = load32(slot + SLOT_LOW);
+                value = load64(slot + SLOT_VALUE);
+                key = load64(slot + SLOT_KEY);
+                if (high == 65535) {
+                    r0 = UINT64_C(281474976710655);
+                } else {
+                    r10_2 = load64(r8 + 8) - load64(r8 + 32);
+                    at = (((uint64_t)high) << 32) | ((uint64_t)low);
+                    for (;;) {
+                        if (load64(map + INT_MAP_NODES_LEN) <= at) {
+                            r0 = r10_2;
+                            break;
+                        }
+                        node = load_address(map + INT_MAP_NODES) + (at * NODE_SIZE);
+                        if (load8(node + NODE_HAS_PAIR) != 1) {
+                            r0 = r10_2;
+                            break;
+                        }
+                        high_2 = load16(node + NODE_HIGH);
+                        r10_3 = (((uint64_t)high_2) << 32) | ((uint64_t)load32(node + NODE_LOW));
+                        pool_append(r14, r8, (high_2 == 65535) ? UINT64_C(281474976710655) : ((load64(r8 + 8) + 1) - load64(r8 + 32)), load64(node + NODE_KEY), load64(node + NODE_VALUE));
+                        if (load8(r14) != 0) {
+                            memset(r0_27, 0, 40);
+                            if (load64(r8 + 16) != 0) {
+                                rattle_dealloc(load_address(r8));
+                            }
+                            if (!r12_2) {
+                                rattle_dealloc(r26);
+                            }
+                            if (!r12) {
+                                rattle_dealloc(r19);
+                            }
+                            store8(result, 1);
+                            memset(result + 8, 0, 56);
+                            memcpy(result + 64, r0_27, 40);
+                            return;
+                        }
+                        at = r10_3;
+                    }
+                }
+                key_2 = key;
+                value_2 = value;
+                r48 = 1;
+                r48_2 = (uint16_t)(r0 >> 32);
+                r48_3 = (uint32_t)r0;
+            } else {
+                key_2 = 0;
+                value_2 = 0;
+                r48 = 0;
+                r48_2 = 0;
+                r48_3 = 0;
+            }
+            r22 = r19 + r111;
+            store16(r22, r48);
+            store16(r22 + 2, r48_2);
+            store32(r22 + 4, r48_3);
+            store64(r22 + 8, key_2);
+            store64(r22 + 16, value_2);
+            next_index = index + 1;
+            if (next_index == slots_len_2) {
+                break;
+            }
+            index = next_index;
+        }
+    }
+    mask = load64(map + INT_MAP_MASK);
+    store8(result, 0);
+    store64(result + 8, mask);
+    store_address(result + 16, r26);
+    store64(result + 24, words_len);
+    store64(result + 32, words_len);
+    store_address(result + 40, r19);
+    store64(result + 48, slots_len_2);
+    store64(result + 56, slots_len);
+    memcpy(result + 64, r8, 40);
+}
+
 // Puts a pair with a link into a new node behind the others, if none is free, and returns which.
 // intmap_table::linked::pool::Pool::append, in crates/intmap_table/src/linked/pool.rt
-static ALIGNED void pool_append(char *result, char *nodes_at, uint64_t link, uint64_t a3, uint64_t a4) {
-    uint64_t nodes_len, at;
+static ALWAYS_INLINE void pool_append(char *result, char *nodes_at, uint64_t link, uint64_t a3, uint64_t a4) {
+    uint64_t nodes_len, nodes_len_2;
     bool r24;
-    char *node;
+    char *r22;
     nodes_len = load64(nodes_at + POOL_NODES_LEN);
     if (load64(nodes_at + POOL_NODES_ROOM) == nodes_len) {
         r24 = vec_grow_amortized(nodes_at);
         if ((nodes_len != UINT64_C(281470681743360)) & r24) {
-            at = load64(nodes_at + POOL_NODES_LEN);
+            nodes_len_2 = load64(nodes_at + POOL_NODES_LEN);
             goto after_1;
         }
     } else {
         if (nodes_len != UINT64_C(281470681743360)) {
-            at = nodes_len;
+            nodes_len_2 = nodes_len;
             goto after_1;
         }
     }
@@ -632,49 +853,49 @@ static ALIGNED void pool_append(char *result, char *nodes_at, uint64_t link, uin
     store64(result + 16, a4);
     return;
 after_1:;
-    node = load_address(nodes_at + POOL_NODES) + (at * NODE_SIZE);
-    store16(node + NODE_HAS_PAIR, 1);
-    store16(node + NODE_HIGH, (uint16_t)(link >> 32));
-    store32(node + NODE_LOW, (uint32_t)link);
-    store64(node + NODE_KEY, a3);
-    store64(node + NODE_VALUE, a4);
-    store64(nodes_at + POOL_NODES_LEN, at + 1);
+    r22 = load_address(nodes_at + POOL_NODES) + (nodes_len_2 * 24);
+    store16(r22, 1);
+    store16(r22 + 2, (uint16_t)(link >> 32));
+    store32(r22 + 4, (uint32_t)link);
+    store64(r22 + 8, a3);
+    store64(r22 + 16, a4);
+    store64(nodes_at + POOL_NODES_LEN, nodes_len_2 + 1);
     store64(result, 0);
     store64(result + 8, nodes_len);
     store64(result + 16, 0);
 }
 
 // std_alloc::vec::Vec::grow_amortized, in Rattle's library std_alloc
-static COLD bool vec_grow_amortized(char *a0) {
-    uint64_t r2, r2_2, x0, a2_a1, x1, common_ret_op;
+static COLD bool vec_grow_amortized(char *nodes_at) {
+    uint64_t nodes_len, nodes_room, x0, a2_a1, x1, common_ret_op;
     struct word_word block, r0, block_2;
-    r2 = load64(a0 + 8);
-    if (r2 == UINT64_C(18446744073709551615)) {
+    nodes_len = load64(nodes_at + POOL_NODES_LEN);
+    if (nodes_len == UINT64_C(18446744073709551615)) {
         return false;
     }
-    r2_2 = load64(a0 + 16);
-    x0 = greater(r2, 3);
+    nodes_room = load64(nodes_at + POOL_NODES_ROOM);
+    x0 = greater(nodes_len, 3);
     a2_a1 = x0 + 1;
-    x1 = greater(a2_a1, r2_2 << 1);
-    common_ret_op = (r2_2 < UINT64_C(4611686018427387904)) ? x1 : a2_a1;
+    x1 = greater(a2_a1, nodes_room << 1);
+    common_ret_op = (nodes_room < UINT64_C(4611686018427387904)) ? x1 : a2_a1;
     if (common_ret_op >= UINT64_C(384307168202282326)) {
         return false;
     }
-    if (r2_2 == 0) {
+    if (nodes_room == 0) {
         block = rattle_alloc(x1 * 24, 8);
         if ((block.first & 1) == 0) {
             return false;
         }
         r0 = block;
     } else {
-        block_2 = rattle_realloc(load_address(a0), r2 * 24, common_ret_op * 24, 8);
+        block_2 = rattle_realloc(load_address(nodes_at + POOL_NODES), nodes_len * 24, common_ret_op * 24, 8);
         if ((block_2.first & 1) == 0) {
             return false;
         }
         r0 = block_2;
     }
-    store_address(a0, (char *)(uintptr_t)r0.second);
-    store64(a0 + 16, common_ret_op);
+    store_address(nodes_at + POOL_NODES, (char *)(uintptr_t)r0.second);
+    store64(nodes_at + POOL_NODES_ROOM, common_ret_op);
     return true;
 }
 
@@ -1388,10 +1609,11 @@ static ALIGNED NOINLINE struct word_word row_take_first_of_several_2(char *slot,
 static ALIGNED NOINLINE void row_put_behind_first(char *slot, char *pool, uint64_t a2, uint64_t a3) {
     uint16_t r19;
     uint32_t r21;
-    uint64_t spare, nodes_len, nodes_len_2, r6, free;
-    bool r24;
-    char *r22, *r11;
+    uint64_t spare, r6, free;
+    char *r11;
     uint8_t r15;
+    uint64_t r0_room[3];
+    char *r0 = (char *)r0_room;
     if (load8(slot) != 1) {
         abort();
     }
@@ -1399,29 +1621,11 @@ static ALIGNED NOINLINE void row_put_behind_first(char *slot, char *pool, uint64
     r21 = load32(slot + 4);
     spare = load64(pool + POOL_SPARE);
     if (spare == 0) {
-        nodes_len = load64(pool + POOL_NODES_LEN);
-        if (load64(pool + POOL_NODES_ROOM) == nodes_len) {
-            r24 = vec_grow_amortized(pool);
-            if ((nodes_len != UINT64_C(281470681743360)) & r24) {
-                nodes_len_2 = load64(pool + POOL_NODES_LEN);
-                goto after_Pool_add;
-            }
-        } else {
-            if (nodes_len != UINT64_C(281470681743360)) {
-                nodes_len_2 = nodes_len;
-                goto after_Pool_add;
-            }
+        pool_append(r0, pool, (((uint64_t)r19) << 32) | ((uint64_t)r21), a2, a3);
+        if (load8(r0) != 0) {
+            abort();
         }
-        abort();
-    after_Pool_add:;
-        r22 = load_address(pool + POOL_NODES) + (nodes_len_2 * 24);
-        store16(r22, 1);
-        store16(r22 + 2, r19);
-        store32(r22 + 4, r21);
-        store64(r22 + 8, a2);
-        store64(r22 + 16, a3);
-        store64(pool + POOL_NODES_LEN, nodes_len_2 + 1);
-        r6 = nodes_len;
+        r6 = load64(r0 + 8);
     } else {
         free = load64(pool + POOL_FREE);
         r11 = load_address(pool + POOL_NODES) + (free * 24);
@@ -1446,6 +1650,67 @@ static ALIGNED NOINLINE void row_put_behind_first(char *slot, char *pool, uint64
     }
     store16(slot + 2, (uint16_t)(r6 >> 32));
     store32(slot + 4, (uint32_t)r6);
+}
+
+// The last node of a chain, and its place there.
+// intmap_table::linked::chain::last_in, in crates/intmap_table/src/linked/chain.rt
+static ALWAYS_INLINE uint64_t chain_last_in(char *pool, uint64_t from) {
+    char *nodes, *node, *node_2;
+    uint16_t high, high_2;
+    uint64_t at;
+    nodes = load_address(pool + POOL_NODES);
+    node = nodes + (from * NODE_SIZE);
+    if (load8(node + NODE_HAS_PAIR) != 1) {
+        abort();
+    }
+    high = load16(node + NODE_HIGH);
+    if (high == 65535) {
+        return from;
+    }
+    at = (((uint64_t)high) << 32) | ((uint64_t)load32(node + NODE_LOW));
+    for (;;) {
+        node_2 = nodes + (at * NODE_SIZE);
+        if (load8(node_2 + NODE_HAS_PAIR) != 1) {
+            abort();
+        }
+        high_2 = load16(node_2 + NODE_HIGH);
+        if (high_2 == 65535) {
+            return at;
+        }
+        at = (((uint64_t)high_2) << 32) | ((uint64_t)load32(node_2 + NODE_LOW));
+    }
+}
+
+// The last node of a chain, and its place there.
+// intmap_table::linked::chain::last_in, in crates/intmap_table/src/linked/chain.rt
+static ALWAYS_INLINE struct word_word chain_last_in_2(char *pool, uint64_t from) {
+    char *nodes, *node, *node_2;
+    uint16_t high, high_2;
+    uint64_t at, r2_048, r14;
+    nodes = load_address(pool + POOL_NODES);
+    node = nodes + (from * NODE_SIZE);
+    if (load8(node + NODE_HAS_PAIR) != 1) {
+        abort();
+    }
+    high = load16(node + NODE_HIGH);
+    if (high == 65535) {
+        return made_word_word(from, 0);
+    }
+    at = (((uint64_t)high) << 32) | ((uint64_t)load32(node + NODE_LOW));
+    r2_048 = 0;
+    for (;;) {
+        node_2 = nodes + (at * NODE_SIZE);
+        if (load8(node_2 + NODE_HAS_PAIR) != 1) {
+            abort();
+        }
+        r14 = r2_048 + 1;
+        high_2 = load16(node_2 + NODE_HIGH);
+        if (high_2 == 65535) {
+            return made_word_word(at, r14);
+        }
+        at = (((uint64_t)high_2) << 32) | ((uint64_t)load32(node_2 + NODE_LOW));
+        r2_048 = r14;
+    }
 }
 
 // Moves all pairs, in the order of the walk, to their slots among `capacity` slots.
@@ -1559,8 +1824,8 @@ static ALIGNED uint8_t table_grow_to(char *map, uint64_t capacity) {
 // Writes the address of the value of the key, or null if the key is absent.
 // intmap_place, in crates/intmap_c/src/place.rt
 static ALWAYS_INLINE void do_intmap_place(char *word, uint64_t key, char *at) {
-    char *map, *slot, *r9, *nodes, *node, *node_2, *node_3;
-    uint64_t r10, nodes_len, at_2, r2_0, at_3, at_4, r2_0_2, r10_2, r12, r10_3;
+    char *map, *slot, *r9, *nodes, *node, *node_2;
+    uint64_t r10, nodes_len, at_2, r2_0, at_3, r10_2;
     store_address(at, NULL);
     map = load_address(word);
     if (map == NULL) {
@@ -1587,48 +1852,26 @@ static ALWAYS_INLINE void do_intmap_place(char *word, uint64_t key, char *at) {
                 return;
             }
             if (load64(node + NODE_KEY) == key) {
-                switch (r2_0) {
-                case UINT64_C(18446744073709551615):
+                if (r2_0 == UINT64_C(18446744073709551615)) {
                     r9 = slot;
-                    goto arm_5;
-                case 0:
-                    at_3 = r10;
-                    break;
-                default:
-                    at_4 = r10;
-                    r2_0_2 = 0;
-                    for (;;) {
-                        node_2 = nodes + (at_4 * NODE_SIZE);
-                        if (load8(node_2 + NODE_HAS_PAIR) != 1) {
-                            abort();
-                        }
-                        r10_2 = (((uint64_t)load16(node_2 + NODE_HIGH)) << 32) | ((uint64_t)load32(node_2 + NODE_LOW));
-                        r12 = r2_0_2 + 1;
-                        if (r12 == r2_0) {
-                            at_3 = r10_2;
-                            break;
-                        }
-                        at_4 = r10_2;
-                        r2_0_2 = r12;
-                    }
                     break;
                 }
-                node_3 = nodes + (at_3 * NODE_SIZE);
-                if (load8(node_3 + NODE_HAS_PAIR) != 1) {
+                at_3 = chain_seek(map + INT_MAP_NODES, r10, r2_0);
+                node_2 = nodes + (at_3 * NODE_SIZE);
+                if (load8(node_2 + NODE_HAS_PAIR) != 1) {
                     abort();
                 }
-                r9 = node_3;
+                r9 = node_2;
                 break;
             }
-            r10_3 = (((uint64_t)load16(node + NODE_HIGH)) << 32) | ((uint64_t)load32(node + NODE_LOW));
-            if (nodes_len <= r10_3) {
+            r10_2 = (((uint64_t)load16(node + NODE_HIGH)) << 32) | ((uint64_t)load32(node + NODE_LOW));
+            if (nodes_len <= r10_2) {
                 return;
             }
-            at_2 = r10_3;
+            at_2 = r10_2;
             r2_0 = r2_0 + 1;
         }
     }
-arm_5:;
     store_address(at, r9 + 16);
 }
 
@@ -1850,11 +2093,9 @@ static ALWAYS_INLINE struct word_word do_intmap_get(char *word, uint64_t key) {
 // The first pair of the walk from the cursor on, behind which the cursor moves.
 // intmap_step, in crates/intmap_c/src/read.rt
 static ALWAYS_INLINE char *do_intmap_step(char *result, char *word, char *at) {
-    char *map, *slot_2, *nodes, *node, *slot_3, *r11_2, *r11_3, *nodes_2, *node_2, *node_3, *node_4, *node_5,
-        *node_6, *slot_4;
-    uint64_t r6, r6_2, slot, place, r8, r10, nodes_len, at_2, r2_020, r10_2, r11, r2_0, r3_0, at_3, r19, at_4,
-        r2_0_2, at_5, r12, at_6, r2_0_3, at_7, r12_2, r3_0_2, r115, words_len, r33, r1, r1_2, r1_3, r26, bits, r49,
-        index;
+    char *map, *slot_2, *nodes, *node, *slot_3, *r11_2, *r11_pn137, *nodes_2, *node_2, *node_3, *slot_4;
+    uint64_t r6, r6_2, slot, place, r8, r10, nodes_len, at_2, r2_020, r10_2, r11, r2_0, r3_0, r10_3, r19, at_3, at_4,
+        r3_0_2, r115, words_len, r33, r1, r1_2, r1_3, r26, bits, r49, index;
     uint32_t r6_3;
     map = load_address(word);
     if (map == NULL) {
@@ -1897,65 +2138,29 @@ static ALWAYS_INLINE char *do_intmap_step(char *result, char *word, char *at) {
                     store64(at + CURSOR_PLACE, place + 1);
                     slot_3 = load_address(map + INT_MAP_SLOTS) + r8;
                     if (load8(slot_3 + SLOT_HAS_PAIR) != 1) {
-                        goto arm_2_6;
+                        goto arm_2_4;
                     }
                     if (place == 0) {
                         r11_2 = slot_3;
-                        r11_3 = slot_3;
+                        r11_pn137 = slot_3;
                         goto arm_5;
                     }
-                    at_3 = (((uint64_t)load16(slot_3 + SLOT_HIGH)) << 32) | ((uint64_t)load32(slot_3 + SLOT_LOW));
+                    r10_3 = (((uint64_t)load16(slot_3 + SLOT_HIGH)) << 32) | ((uint64_t)load32(slot_3 + SLOT_LOW));
                     r19 = place - 1;
+                    at_3 = chain_seek(map + INT_MAP_NODES, r10_3, r19);
                     nodes_2 = load_address(map + INT_MAP_NODES);
-                    if (r19 == 0) {
-                        node_2 = nodes_2 + (at_3 * NODE_SIZE);
-                        if (load8(node_2 + NODE_HAS_PAIR) == 1) {
-                            r11_2 = node_2;
-                            r11_3 = node_2;
-                            goto arm_5;
-                        }
-                    } else {
-                        at_4 = at_3;
-                        r2_0_2 = 0;
-                        for (;;) {
-                            node_3 = nodes_2 + (at_4 * NODE_SIZE);
-                            if (load8(node_3 + NODE_HAS_PAIR) != 1) {
-                                abort();
-                            }
-                            at_5 = (((uint64_t)load16(node_3 + NODE_HIGH)) << 32) | ((uint64_t)load32(node_3 + NODE_LOW));
-                            r12 = r2_0_2 + 1;
-                            if (r12 == r19) {
-                                node_4 = nodes_2 + (at_5 * NODE_SIZE);
-                                if (load8(node_4 + NODE_HAS_PAIR) != 1) {
-                                    break;
-                                }
-                                at_6 = at_3;
-                                r2_0_3 = 0;
-                                for (;;) {
-                                    node_5 = nodes_2 + (at_6 * NODE_SIZE);
-                                    if (load8(node_5 + NODE_HAS_PAIR) != 1) {
-                                        abort();
-                                    }
-                                    at_7 = (((uint64_t)load16(node_5 + NODE_HIGH)) << 32) | ((uint64_t)load32(node_5 + NODE_LOW));
-                                    r12_2 = r2_0_3 + 1;
-                                    if (r12_2 == r19) {
-                                        node_6 = nodes_2 + (at_7 * NODE_SIZE);
-                                        if (load8(node_6 + NODE_HAS_PAIR) != 1) {
-                                            abort();
-                                        }
-                                        r11_2 = node_4;
-                                        r11_3 = node_6;
-                                        goto arm_5;
-                                    }
-                                    at_6 = at_7;
-                                    r2_0_3 = r12_2;
-                                }
-                            }
-                            at_4 = at_5;
-                            r2_0_2 = r12;
-                        }
+                    node_2 = nodes_2 + (at_3 * NODE_SIZE);
+                    if (load8(node_2 + NODE_HAS_PAIR) != 1) {
+                        abort();
                     }
-                    abort();
+                    at_4 = chain_seek(map + INT_MAP_NODES, r10_3, r19);
+                    node_3 = nodes_2 + (at_4 * NODE_SIZE);
+                    if (load8(node_3 + NODE_HAS_PAIR) != 1) {
+                        abort();
+                    }
+                    r11_2 = node_2;
+                    r11_pn137 = node_3;
+                    goto arm_5;
                 }
             }
         }
@@ -1995,14 +2200,14 @@ static ALWAYS_INLINE char *do_intmap_step(char *result, char *word, char *at) {
         slot_4 = load_address(map + INT_MAP_SLOTS) + (index * SLOT_SIZE);
         if (load8(slot_4 + SLOT_HAS_PAIR) == 1) {
             r11_2 = slot_4;
-            r11_3 = slot_4;
+            r11_pn137 = slot_4;
             goto arm_5;
         }
-    arm_2_6:;
+    arm_2_4:;
         abort();
     arm_5:;
         r6 = load64(r11_2 + 8);
-        r6_2 = load64(r11_3 + 16);
+        r6_2 = load64(r11_pn137 + 16);
         r6_3 = 1;
     }
 after_read_intmap_step:;
@@ -2016,8 +2221,8 @@ after_read_intmap_step:;
 // Adds to the value of a present key, modulo 2^64, and returns the value before.
 // intmap_add_present, in crates/intmap_c/src/pairs.rt
 static ALWAYS_INLINE struct word_word do_intmap_add_present(char *handle, uint64_t key, uint64_t more) {
-    uint64_t map_address, r10, nodes_len, at, r2_0, at_2, at_3, r2_0_2, r10_2, r12, r10_3, r19, r0_2_8_ext;
-    char *map, *slot, *r9, *nodes, *node, *node_2, *node_3;
+    uint64_t map_address, r10, nodes_len, at, r2_0, at_2, r10_2, r19, r0_2_8_ext;
+    char *map, *slot, *r9, *nodes, *node, *node_2;
     struct word_half r23, r29;
     map_address = load64(handle);
     store64(handle, 0);
@@ -2046,49 +2251,27 @@ static ALWAYS_INLINE struct word_word do_intmap_add_present(char *handle, uint64
                         goto after_pairs_add_present;
                     }
                     if (load64(node + NODE_KEY) == key) {
-                        switch (r2_0) {
-                        case UINT64_C(18446744073709551615):
+                        if (r2_0 == UINT64_C(18446744073709551615)) {
                             r9 = slot;
-                            goto arm_1_3;
-                        case 0:
-                            at_2 = r10;
-                            break;
-                        default:
-                            at_3 = r10;
-                            r2_0_2 = 0;
-                            for (;;) {
-                                node_2 = nodes + (at_3 * NODE_SIZE);
-                                if (load8(node_2 + NODE_HAS_PAIR) != 1) {
-                                    abort();
-                                }
-                                r10_2 = (((uint64_t)load16(node_2 + NODE_HIGH)) << 32) | ((uint64_t)load32(node_2 + NODE_LOW));
-                                r12 = r2_0_2 + 1;
-                                if (r12 == r2_0) {
-                                    at_2 = r10_2;
-                                    break;
-                                }
-                                at_3 = r10_2;
-                                r2_0_2 = r12;
-                            }
                             break;
                         }
-                        node_3 = nodes + (at_2 * NODE_SIZE);
-                        if (load8(node_3 + NODE_HAS_PAIR) != 1) {
+                        at_2 = chain_seek(map + INT_MAP_NODES, r10, r2_0);
+                        node_2 = nodes + (at_2 * NODE_SIZE);
+                        if (load8(node_2 + NODE_HAS_PAIR) != 1) {
                             abort();
                         }
-                        r9 = node_3;
+                        r9 = node_2;
                         break;
                     }
-                    r10_3 = (((uint64_t)load16(node + NODE_HIGH)) << 32) | ((uint64_t)load32(node + NODE_LOW));
-                    if (nodes_len <= r10_3) {
+                    r10_2 = (((uint64_t)load16(node + NODE_HIGH)) << 32) | ((uint64_t)load32(node + NODE_LOW));
+                    if (nodes_len <= r10_2) {
                         r29 = empty_word_half();
                         goto after_pairs_add_present;
                     }
-                    at = r10_3;
+                    at = r10_2;
                     r2_0 = r2_0 + 1;
                 }
             }
-        arm_1_3:;
             r19 = load64(r9 + 16);
             store64(r9 + 16, r19 + more);
             r29 = made_word_half(r19, 1);
@@ -2199,11 +2382,11 @@ loop_2_2:;
 // Removes the first pair of the walk from the cursor on and returns it.
 // intmap_cut, in crates/intmap_c/src/walk.rt
 static ALWAYS_INLINE char *do_intmap_cut(char *result, char *handle, char *at) {
-    uint64_t map_address, r6, r6_2, slot, place, at_2, nodes_len, at_3, r2_020, r10, r11, r2_0, r3_0, r305964, free,
-        r10_2, key, value, r2_0_2, key_2, value_2, r26, at_4, at_5, r2_0_3, r10_3, r12, r8, at_6, free_2, key_3,
-        value_3, r3_0_2, r115, words_len, r33, r1, r1_2, r1_3, r26_2, bits, x14, x15, r49, index, key_4, value_4;
-    char *map, *slot_2, *nodes, *node, *slot_3, *nodes_at, *node_2, *nodes_2, *node_3, *node_4, *node_5, *node_6,
-        *slot_4, *r11_2;
+    uint64_t map_address, r6, r6_2, slot, place, at_2, nodes_len, at_3, r2_020, r10, r11, r2_0, r3_0, r305863, free,
+        r10_2, key, value, r2_0_2, key_2, value_2, at_4, r8, at_5, free_2, key_3, value_3, r3_0_2, r115, words_len,
+        r33, r1, r1_2, r1_3, r26, bits, x13, x14, r49, index, key_4, value_4;
+    char *map, *slot_2, *nodes, *node, *slot_3, *nodes_at, *node_2, *nodes_2, *node_3, *node_4, *node_5, *slot_4,
+        *r11_2;
     uint32_t r6_3, low, r8_2;
     uint16_t high, high_2, high_3;
     struct word_word r19, r19_2, r24;
@@ -2250,7 +2433,7 @@ static ALWAYS_INLINE char *do_intmap_cut(char *result, char *handle, char *at) {
                     switch (place) {
                     case 0:
                         high_2 = high;
-                        r305964 = slot;
+                        r305863 = slot;
                         slot_3 = slot_2;
                         nodes_at = map + INT_MAP_NODES;
                         goto arm_1_2;
@@ -2274,55 +2457,35 @@ static ALWAYS_INLINE char *do_intmap_cut(char *result, char *handle, char *at) {
                         value_2 = value;
                         break;
                     default:
-                        r26 = place - 2;
+                        at_4 = chain_seek(map + INT_MAP_NODES, at_2, place - 2);
                         nodes_2 = load_address(map + INT_MAP_NODES);
-                        if (r26 == 0) {
-                            at_4 = at_2;
-                        } else {
-                            at_5 = at_2;
-                            r2_0_3 = 0;
-                            for (;;) {
-                                node_3 = nodes_2 + (at_5 * NODE_SIZE);
-                                if (load8(node_3 + NODE_HAS_PAIR) != 1) {
-                                    abort();
-                                }
-                                r10_3 = (((uint64_t)load16(node_3 + NODE_HIGH)) << 32) | ((uint64_t)load32(node_3 + NODE_LOW));
-                                r12 = r2_0_3 + 1;
-                                if (r12 == r26) {
-                                    at_4 = r10_3;
-                                    break;
-                                }
-                                at_5 = r10_3;
-                                r2_0_3 = r12;
-                            }
-                        }
                         r8 = at_4 * NODE_SIZE;
-                        node_4 = nodes_2 + r8;
+                        node_3 = nodes_2 + r8;
+                        if (load8(node_3 + NODE_HAS_PAIR) != 1) {
+                            abort();
+                        }
+                        at_5 = (((uint64_t)load16(node_3 + NODE_HIGH)) << 32) | ((uint64_t)load32(node_3 + NODE_LOW));
+                        node_4 = nodes_2 + (at_5 * NODE_SIZE);
                         if (load8(node_4 + NODE_HAS_PAIR) != 1) {
                             abort();
                         }
-                        at_6 = (((uint64_t)load16(node_4 + NODE_HIGH)) << 32) | ((uint64_t)load32(node_4 + NODE_LOW));
-                        node_5 = nodes_2 + (at_6 * NODE_SIZE);
+                        high_3 = load16(node_4 + NODE_HIGH);
+                        low = load32(node_4 + NODE_LOW);
+                        free_2 = load64(map + INT_MAP_FREE);
+                        key_3 = load64(node_4 + NODE_KEY);
+                        value_3 = load64(node_4 + NODE_VALUE);
+                        store16(node_4 + NODE_HAS_PAIR, 0);
+                        store16(node_4 + NODE_HIGH, (uint16_t)(free_2 >> 32));
+                        store32(node_4 + NODE_LOW, (uint32_t)free_2);
+                        memset(node_4 + NODE_KEY, 0, 16);
+                        store64(map + INT_MAP_FREE, at_5);
+                        store64(map + INT_MAP_SPARE, load64(map + INT_MAP_SPARE) + 1);
+                        node_5 = load_address(map + INT_MAP_NODES) + r8;
                         if (load8(node_5 + NODE_HAS_PAIR) != 1) {
                             abort();
                         }
-                        high_3 = load16(node_5 + NODE_HIGH);
-                        low = load32(node_5 + NODE_LOW);
-                        free_2 = load64(map + INT_MAP_FREE);
-                        key_3 = load64(node_5 + NODE_KEY);
-                        value_3 = load64(node_5 + NODE_VALUE);
-                        store16(node_5 + NODE_HAS_PAIR, 0);
-                        store16(node_5 + NODE_HIGH, (uint16_t)(free_2 >> 32));
-                        store32(node_5 + NODE_LOW, (uint32_t)free_2);
-                        memset(node_5 + NODE_KEY, 0, 16);
-                        store64(map + INT_MAP_FREE, at_6);
-                        store64(map + INT_MAP_SPARE, load64(map + INT_MAP_SPARE) + 1);
-                        node_6 = load_address(map + INT_MAP_NODES) + r8;
-                        if (load8(node_6 + NODE_HAS_PAIR) != 1) {
-                            abort();
-                        }
-                        store16(node_6 + NODE_HIGH, high_3);
-                        store32(node_6 + NODE_LOW, low);
+                        store16(node_5 + NODE_HIGH, high_3);
+                        store32(node_5 + NODE_LOW, low);
                         r2_0_2 = at_2;
                         key_2 = key_3;
                         value_2 = value_3;
@@ -2334,7 +2497,7 @@ static ALWAYS_INLINE char *do_intmap_cut(char *result, char *handle, char *at) {
                     store16(slot_2 + SLOT_HIGH, (uint16_t)(r2_0_2 >> 32));
                     store32(slot_2 + SLOT_LOW, (uint32_t)r2_0_2);
                     r19 = made_word_word(key_2, value_2);
-                    goto x13;
+                    goto x12;
                 }
             }
         }
@@ -2351,20 +2514,20 @@ static ALWAYS_INLINE char *do_intmap_cut(char *result, char *handle, char *at) {
         }
         r1_3 = r115;
         for (;;) {
-            r26_2 = r1_3 + 1;
-            if (words_len <= r26_2) {
-                x14 = 0;
+            r26 = r1_3 + 1;
+            if (words_len <= r26) {
+                x13 = 0;
                 r8_2 = 0;
-                x15 = 0;
+                x14 = 0;
                 goto after_walk_cut;
             }
-            bits = load64(load_address(map + INT_MAP_WORDS) + (r26_2 << 3));
+            bits = load64(load_address(map + INT_MAP_WORDS) + (r26 << 3));
             if (bits != 0) {
-                r1 = r26_2;
+                r1 = r26;
                 r1_2 = bits;
                 break;
             }
-            r1_3 = r26_2;
+            r1_3 = r26;
         }
     join_3_thread:;
         r49 = low_zeros(r1_2);
@@ -2376,7 +2539,7 @@ static ALWAYS_INLINE char *do_intmap_cut(char *result, char *handle, char *at) {
             abort();
         }
         high_2 = load16(slot_4 + SLOT_HIGH);
-        r305964 = index;
+        r305863 = index;
         slot_3 = slot_4;
         nodes_at = map + INT_MAP_NODES;
     arm_1_2:;
@@ -2389,22 +2552,22 @@ static ALWAYS_INLINE char *do_intmap_cut(char *result, char *handle, char *at) {
             r24 = row_take_first_of_several(slot_3, nodes_at);
             if (load8(slot_3 + SLOT_HAS_PAIR) != 0) {
                 r19 = r24;
-                goto x13;
+                goto x12;
             }
             r19_2 = r24;
         }
-        r11_2 = load_address(map + INT_MAP_WORDS) + ((r305964 >> 3) & UINT64_C(2305843009213693944));
-        store64(r11_2, load64(r11_2) & (((uint64_t)1 << (r305964 & 63)) ^ UINT64_C(18446744073709551615)));
+        r11_2 = load_address(map + INT_MAP_WORDS) + ((r305863 >> 3) & UINT64_C(2305843009213693944));
+        store64(r11_2, load64(r11_2) & (((uint64_t)1 << (r305863 & 63)) ^ UINT64_C(18446744073709551615)));
         r19 = r19_2;
-    x13:;
+    x12:;
         store64(map + INT_MAP_LEN, load64(map + INT_MAP_LEN) - 1);
-        x14 = r19.first;
+        x13 = r19.first;
         r8_2 = 1;
-        x15 = r19.second;
+        x14 = r19.second;
     after_walk_cut:;
         store64(handle, map_address);
-        r6 = x14;
-        r6_2 = x15;
+        r6 = x13;
+        r6_2 = x14;
         r6_3 = r8_2;
     }
     store64(result + FOUND_PAIR_KEY, r6);
@@ -2447,11 +2610,10 @@ static ALWAYS_INLINE void do_intmap_free(char *handle) {
 // Removes the pair of the key, and returns its value.
 // intmap_remove, in crates/intmap_c/src/pairs.rt
 static ALWAYS_INLINE struct word_word do_intmap_remove(char *handle, uint64_t key) {
-    uint64_t map_address, index, at, r0, nodes_len, at_2, r2_0, r10, value, value_2, value_3, r8, free, key_2,
-        value_4, at_3, r9, key_3, value_5, at_4, r8_2, r6, r6_2, at_5, r3_0, at_6, r3_0_2, at_7, r8_3, r18, free_2,
-        key_4, value_6, value_7, value_8, r53, at_8, at_9, r2_0_2, r10_2, r12, value_9, r0_2_8_ext;
-    char *map, *slot, *nodes, *node, *nodes_2, *node_2, *node_3, *node_4, *node_5, *node_6, *nodes_3, *node_7,
-        *node_8, *r11;
+    uint64_t map_address, index, at, r0, nodes_len, at_2, r2_0, r10, x10, value, r72_1_merged, r8, free, key_2,
+        value_2, at_3, r9, key_3, value_3, at_4, r8_2, r6, r6_2, at_5, r3_0, at_6, r3_0_2, at_7, r8_3, r18, free_2,
+        key_4, value_4, value_5, r72_1_merged_2, r53, r68, r0_2_8_ext;
+    char *map, *slot, *nodes, *node, *nodes_2, *node_2, *node_3, *node_4, *node_5, *node_6, *r11;
     struct word_half r23;
     uint16_t high, high_2, high_3, high_4;
     uint32_t spec_select1;
@@ -2472,7 +2634,7 @@ static ALWAYS_INLINE struct word_word do_intmap_remove(char *handle, uint64_t ke
                 nodes_len = load64(map + INT_MAP_NODES_LEN);
                 if (nodes_len <= at) {
                     spec_select1 = 0;
-                    value = 0;
+                    x10 = 0;
                     goto after_pairs_remove;
                 }
                 nodes = load_address(map + INT_MAP_NODES);
@@ -2482,7 +2644,7 @@ static ALWAYS_INLINE struct word_word do_intmap_remove(char *handle, uint64_t ke
                     node = nodes + (at_2 * NODE_SIZE);
                     if (load8(node + NODE_HAS_PAIR) != 1) {
                         spec_select1 = 0;
-                        value = 0;
+                        x10 = 0;
                         goto after_pairs_remove;
                     }
                     if (load64(node + NODE_KEY) == key) {
@@ -2492,7 +2654,7 @@ static ALWAYS_INLINE struct word_word do_intmap_remove(char *handle, uint64_t ke
                     r10 = (((uint64_t)load16(node + NODE_HIGH)) << 32) | ((uint64_t)load32(node + NODE_LOW));
                     if (nodes_len <= r10) {
                         spec_select1 = 0;
-                        value = 0;
+                        x10 = 0;
                         goto after_pairs_remove;
                     }
                     at_2 = r10;
@@ -2500,9 +2662,9 @@ static ALWAYS_INLINE struct word_word do_intmap_remove(char *handle, uint64_t ke
                 }
             }
             if (high == 65535) {
-                value_2 = load64(slot + SLOT_VALUE);
+                value = load64(slot + SLOT_VALUE);
                 memset(slot, 0, 24);
-                value_3 = value_2;
+                r72_1_merged = value;
             } else {
                 nodes_2 = load_address(map + INT_MAP_NODES);
                 r8 = at * NODE_SIZE;
@@ -2514,7 +2676,7 @@ static ALWAYS_INLINE struct word_word do_intmap_remove(char *handle, uint64_t ke
                 if (high_2 == 65535) {
                     free = load64(map + INT_MAP_FREE);
                     key_2 = load64(node_2 + NODE_KEY);
-                    value_4 = load64(node_2 + NODE_VALUE);
+                    value_2 = load64(node_2 + NODE_VALUE);
                     store16(node_2 + NODE_HAS_PAIR, 0);
                     store16(node_2 + NODE_HIGH, (uint16_t)(free >> 32));
                     store32(node_2 + NODE_LOW, (uint32_t)free);
@@ -2524,7 +2686,7 @@ static ALWAYS_INLINE struct word_word do_intmap_remove(char *handle, uint64_t ke
                     at_3 = UINT64_C(281474976710655);
                     r9 = 0;
                     key_3 = key_2;
-                    value_5 = value_4;
+                    value_3 = value_2;
                 } else {
                     at_4 = (((uint64_t)high_2) << 32) | ((uint64_t)load32(node_2 + NODE_LOW));
                     r8_2 = at_4 * NODE_SIZE;
@@ -2565,7 +2727,7 @@ static ALWAYS_INLINE struct word_word do_intmap_remove(char *handle, uint64_t ke
                     node_5 = nodes_2 + r6_2;
                     free_2 = load64(map + INT_MAP_FREE);
                     key_4 = load64(node_5 + NODE_KEY);
-                    value_6 = load64(node_5 + NODE_VALUE);
+                    value_4 = load64(node_5 + NODE_VALUE);
                     store16(node_5 + NODE_HAS_PAIR, 0);
                     store16(node_5 + NODE_HIGH, (uint16_t)(free_2 >> 32));
                     store32(node_5 + NODE_LOW, (uint32_t)free_2);
@@ -2581,7 +2743,7 @@ static ALWAYS_INLINE struct word_word do_intmap_remove(char *handle, uint64_t ke
                     at_3 = at;
                     r9 = r3_0;
                     key_3 = key_4;
-                    value_5 = value_6;
+                    value_3 = value_4;
                 }
                 if (load8(slot + SLOT_HAS_PAIR) != 1) {
                     abort();
@@ -2589,65 +2751,38 @@ static ALWAYS_INLINE struct word_word do_intmap_remove(char *handle, uint64_t ke
                 store16(slot + SLOT_HIGH, (uint16_t)(at_3 >> 32));
                 store32(slot + SLOT_LOW, (uint32_t)at_3);
                 if (r0 == 0) {
-                    value_7 = load64(slot + SLOT_VALUE);
+                    value_5 = load64(slot + SLOT_VALUE);
                     store64(slot + SLOT_KEY, key_3);
-                    store64(slot + SLOT_VALUE, value_5);
-                    value_8 = value_7;
+                    store64(slot + SLOT_VALUE, value_3);
+                    r72_1_merged_2 = value_5;
                     goto after_row_take_3;
                 }
                 r53 = r0 - 1;
                 if (r53 == r9) {
-                    value_8 = value_5;
+                    r72_1_merged_2 = value_3;
                     goto after_row_take_3;
                 }
-                nodes_3 = load_address(map + INT_MAP_NODES);
-                if (r53 == 0) {
-                    at_8 = at_3;
-                } else {
-                    at_9 = at_3;
-                    r2_0_2 = 0;
-                    for (;;) {
-                        node_7 = nodes_3 + (at_9 * NODE_SIZE);
-                        if (load8(node_7 + NODE_HAS_PAIR) != 1) {
-                            abort();
-                        }
-                        r10_2 = (((uint64_t)load16(node_7 + NODE_HIGH)) << 32) | ((uint64_t)load32(node_7 + NODE_LOW));
-                        r12 = r2_0_2 + 1;
-                        if (r12 == r53) {
-                            at_8 = r10_2;
-                            break;
-                        }
-                        at_9 = r10_2;
-                        r2_0_2 = r12;
-                    }
-                }
-                node_8 = nodes_3 + (at_8 * NODE_SIZE);
-                if (load8(node_8 + NODE_HAS_PAIR) != 1) {
-                    abort();
-                }
-                value_9 = load64(node_8 + NODE_VALUE);
-                store64(node_8 + NODE_KEY, key_3);
-                store64(node_8 + NODE_VALUE, value_5);
+                r68 = chain_swap_behind(at_3, map + INT_MAP_NODES, r53, key_3, value_3);
                 if (load8(slot + SLOT_HAS_PAIR) != 0) {
-                    value_8 = value_9;
+                    r72_1_merged_2 = r68;
                     goto after_row_take_3;
                 }
-                value_3 = value_9;
+                r72_1_merged = r68;
             }
             r11 = load_address(map + INT_MAP_WORDS) + ((index >> 3) & UINT64_C(2305843009213693944));
             store64(r11, load64(r11) & (((uint64_t)1 << (index & 63)) ^ UINT64_C(18446744073709551615)));
-            value_8 = value_3;
+            r72_1_merged_2 = r72_1_merged;
         after_row_take_3:;
             store64(map + INT_MAP_LEN, load64(map + INT_MAP_LEN) - 1);
             spec_select1 = 1;
-            value = value_8;
+            x10 = r72_1_merged_2;
         } else {
             spec_select1 = 0;
-            value = 0;
+            x10 = 0;
         }
     after_pairs_remove:;
         store64(handle, map_address);
-        r23 = made_word_half(value, spec_select1);
+        r23 = made_word_half(x10, spec_select1);
     }
     r0_2_8_ext = (uint64_t)r23.second;
     return made_word_word(r23.first, r0_2_8_ext);
@@ -2656,8 +2791,8 @@ static ALWAYS_INLINE struct word_word do_intmap_remove(char *handle, uint64_t ke
 // Replaces the value of a present key, whose pair keeps its place, and returns the value before.
 // intmap_replace, in crates/intmap_c/src/pairs.rt
 static ALWAYS_INLINE struct word_word do_intmap_replace(char *handle, uint64_t key, uint64_t value) {
-    uint64_t map_address, r10, nodes_len, at, r2_0, at_2, at_3, r2_0_2, r10_2, r12, r10_3, r6, r0_2_8_ext;
-    char *map, *slot, *r9, *nodes, *node, *node_2, *node_3;
+    uint64_t map_address, r10, nodes_len, at, r2_0, at_2, r10_2, r6, r0_2_8_ext;
+    char *map, *slot, *r9, *nodes, *node, *node_2;
     struct word_half r23, r26;
     map_address = load64(handle);
     store64(handle, 0);
@@ -2686,49 +2821,27 @@ static ALWAYS_INLINE struct word_word do_intmap_replace(char *handle, uint64_t k
                         goto after_pairs_replace;
                     }
                     if (load64(node + NODE_KEY) == key) {
-                        switch (r2_0) {
-                        case UINT64_C(18446744073709551615):
+                        if (r2_0 == UINT64_C(18446744073709551615)) {
                             r9 = slot;
-                            goto arm_1_3;
-                        case 0:
-                            at_2 = r10;
-                            break;
-                        default:
-                            at_3 = r10;
-                            r2_0_2 = 0;
-                            for (;;) {
-                                node_2 = nodes + (at_3 * NODE_SIZE);
-                                if (load8(node_2 + NODE_HAS_PAIR) != 1) {
-                                    abort();
-                                }
-                                r10_2 = (((uint64_t)load16(node_2 + NODE_HIGH)) << 32) | ((uint64_t)load32(node_2 + NODE_LOW));
-                                r12 = r2_0_2 + 1;
-                                if (r12 == r2_0) {
-                                    at_2 = r10_2;
-                                    break;
-                                }
-                                at_3 = r10_2;
-                                r2_0_2 = r12;
-                            }
                             break;
                         }
-                        node_3 = nodes + (at_2 * NODE_SIZE);
-                        if (load8(node_3 + NODE_HAS_PAIR) != 1) {
+                        at_2 = chain_seek(map + INT_MAP_NODES, r10, r2_0);
+                        node_2 = nodes + (at_2 * NODE_SIZE);
+                        if (load8(node_2 + NODE_HAS_PAIR) != 1) {
                             abort();
                         }
-                        r9 = node_3;
+                        r9 = node_2;
                         break;
                     }
-                    r10_3 = (((uint64_t)load16(node + NODE_HIGH)) << 32) | ((uint64_t)load32(node + NODE_LOW));
-                    if (nodes_len <= r10_3) {
+                    r10_2 = (((uint64_t)load16(node + NODE_HIGH)) << 32) | ((uint64_t)load32(node + NODE_LOW));
+                    if (nodes_len <= r10_2) {
                         r26 = empty_word_half();
                         goto after_pairs_replace;
                     }
-                    at = r10_3;
+                    at = r10_2;
                     r2_0 = r2_0 + 1;
                 }
             }
-        arm_1_3:;
             r6 = load64(r9 + 16);
             store64(r9 + 16, value);
             r26 = made_word_half(r6, 1);
@@ -2747,29 +2860,18 @@ static ALWAYS_INLINE struct word_word do_intmap_replace(char *handle, uint64_t k
 // `OK`.
 // intmap_clone, in crates/intmap_c/src/read.rt
 static ALWAYS_INLINE uint32_t do_intmap_clone(char *word, char *to) {
-    char *map, *map_2, *words, *slots, *nodes, *r19, *words_2, *r9_45_0_ph34, *r8_2, *r26, *r31, *r8_3, *slots_2,
-        *r17, *slot, *r17_2, *r17_3, *node, *r17_4, *r22, *r17_5, *r22_2;
-    uint64_t map_address, slots_room, nodes_room, words_room, slots_len, words_len, r7_pre_phi33, r19_2, r0_05, r18,
-        r30, nodes_len, spare, r10, slots_len_2, r2, index, r111, value, key, r2_2, r0_2, r10_2, r10_3, r2_3, at,
-        r10_4, value_2, key_2, r10_5, r2_0, r2_4, r16, r41, r16_2, r62, r2_5, key_3, value_3, next_index, mask, len,
-        threshold, factor;
-    uint32_t r5_0, r48_3, r30_2;
-    bool r12, r12_2, r24;
-    struct word_word block, block_2, block_3;
-    uint16_t high, high_2, r48, r48_2;
-    char *dangling = (char *)no_bytes;
-    uint64_t r8_room[5];
-    char *r8 = (char *)r8_room;
-    uint64_t r5_19_room[5];
-    char *r5_19 = (char *)r5_19_room;
-    uint64_t r0_room[5];
-    char *r0 = (char *)r0_room;
-    uint64_t r2_13_room[5];
-    char *r2_13 = (char *)r2_13_room;
+    char *map, *map_2, *words, *slots, *nodes;
+    uint64_t map_address, slots_room, nodes_room, words_room, len, threshold, factor, len_2, threshold_2, factor_2;
+    uint32_t r5_0, r30;
+    uint8_t sink15;
+    uint64_t r5_room[13];
+    char *r5 = (char *)r5_room;
+    uint64_t r2_3_room[13];
+    char *r2_3 = (char *)r2_3_room;
     uint64_t r9_room[16];
     char *r9 = (char *)r9_room;
     map = load_address(word);
-    memset(r9, 0, 128);
+    memset(r9, 0, 104);
     if (map == NULL) {
         map_address = load64(to);
         store64(to, 0);
@@ -2798,247 +2900,32 @@ static ALWAYS_INLINE uint32_t do_intmap_clone(char *word, char *to) {
             }
         }
     } else {
-        memset(r0, 0, 40);
-        memset(r2_13, 0, 40);
-        memset(r5_19, 0, 40);
-        memset(r8, 0, 40);
-        slots_len = load64(map + INT_MAP_SLOTS_LEN);
-        r12 = slots_len == 0;
-        if (r12) {
-            r19 = dangling;
+        memset(r5, 0, 104);
+        slots_clone(r5, map);
+        if (load8(r5) == 0) {
+            memcpy(r2_3 + 7, r5 + 8, 96);
+            len = load64(map + INT_MAP_LEN);
+            threshold = load64(map + INT_MAP_THRESHOLD);
+            factor = load64(map + INT_MAP_FACTOR);
+            memcpy(r9 + 8, r2_3 + 7, 96);
+            sink15 = 0;
+            len_2 = len;
+            threshold_2 = threshold;
+            factor_2 = factor;
         } else {
-            if (slots_len >= UINT64_C(384307168202282326)) {
-                goto arm_2_2;
-            }
-            block = rattle_alloc(slots_len * 24, 8);
-            if ((block.first & 1) == 0) {
-                goto arm_2_2;
-            }
-            r19 = (char *)(uintptr_t)block.second;
+            memset(r9 + 8, 0, 96);
+            sink15 = 1;
+            len_2 = 0;
+            threshold_2 = 0;
+            factor_2 = 0;
         }
-        words_2 = load_address(map + INT_MAP_WORDS);
-        words_len = load64(map + INT_MAP_WORDS_LEN);
-        r12_2 = words_len == 0;
-        if (!r12_2) {
-            if (words_len < UINT64_C(1152921504606846976)) {
-                r19_2 = words_len << 3;
-                block_2 = rattle_alloc(r19_2, 8);
-                if ((block_2.first & 1) != 0) {
-                    r8_2 = (char *)(uintptr_t)block_2.second;
-                    if ((block_2.second - ((uint64_t)(uintptr_t)words_2)) >= r19_2) {
-                        r9_45_0_ph34 = r8_2;
-                        r7_pre_phi33 = r19_2;
-                        goto apart_2;
-                    }
-                    r0_05 = 0;
-                    for (;;) {
-                        r18 = r0_05 << 3;
-                        store64(r8_2 + r18, load64(words_2 + r18));
-                        r30 = r0_05 + 1;
-                        if (r30 == words_len) {
-                            r26 = r8_2;
-                            goto arm_5;
-                        }
-                        r0_05 = r30;
-                    }
-                }
-            }
-            if (r12) {
-                goto arm_2_2;
-            }
-            rattle_dealloc(r19);
-            goto arm_2_2;
-        }
-        r9_45_0_ph34 = dangling;
-        r7_pre_phi33 = 0;
-    apart_2:;
-        memmove(r9_45_0_ph34, words_2, r7_pre_phi33);
-        r26 = r9_45_0_ph34;
-    arm_5:;
-        nodes_len = load64(map + INT_MAP_NODES_LEN);
-        spare = load64(map + INT_MAP_SPARE);
-        r10 = nodes_len - spare;
-        if (nodes_len != spare) {
-            if (r10 < UINT64_C(384307168202282326)) {
-                block_3 = rattle_alloc(r10 * 24, 8);
-                if ((block_3.first & 1) != 0) {
-                    r8_3 = (char *)(uintptr_t)block_3.second;
-                    if (r10 <= UINT64_C(281470681743360)) {
-                        r31 = r8_3;
-                        goto arm_8;
-                    }
-                    rattle_dealloc(r8_3);
-                }
-            }
-            if (!r12_2) {
-                rattle_dealloc(r26);
-            }
-            if (r12) {
-                goto arm_2_2;
-            }
-            rattle_dealloc(r19);
-            goto arm_2_2;
-        }
-        r31 = dangling;
-    arm_8:;
-        store_address(r8, r31);
-        store64(r8 + 8, 0);
-        store64(r8 + 16, r10);
-        store64(r8 + 24, UINT64_C(281474976710655));
-        store64(r8 + 32, 0);
-        slots_2 = load_address(map + INT_MAP_SLOTS);
-        slots_len_2 = load64(map + INT_MAP_SLOTS_LEN);
-        if (slots_len_2 != 0) {
-            r17 = r31;
-            r2 = 0;
-            index = 0;
-            for (;;) {
-                r111 = index * SLOT_SIZE;
-                slot = slots_2 + r111;
-                if (load8(slot + SLOT_HAS_PAIR) == 1) {
-                    high = load16(slot + SLOT_HIGH);
-                    value = load64(slot + SLOT_VALUE);
-                    key = load64(slot + SLOT_KEY);
-                    if (high == 65535) {
-                        r17_2 = r17;
-                        r2_2 = r2;
-                        r0_2 = UINT64_C(281474976710655);
-                    } else {
-                        r10_2 = (((uint64_t)high) << 32) | ((uint64_t)load32(slot + SLOT_LOW));
-                        r10_3 = r2 - load64(r8 + 32);
-                        if (load64(map + INT_MAP_NODES_LEN) > r10_2) {
-                            r17_3 = r17;
-                            r2_3 = r2;
-                            at = r10_2;
-                            for (;;) {
-                                node = load_address(map + INT_MAP_NODES) + (at * NODE_SIZE);
-                                if (load8(node + NODE_HAS_PAIR) != 1) {
-                                    r17_2 = r17_3;
-                                    r2_2 = r2_3;
-                                    r0_2 = r10_3;
-                                    break;
-                                }
-                                high_2 = load16(node + NODE_HIGH);
-                                r10_4 = (((uint64_t)high_2) << 32) | ((uint64_t)load32(node + NODE_LOW));
-                                value_2 = load64(node + NODE_VALUE);
-                                key_2 = load64(node + NODE_KEY);
-                                r10_5 = r2_3 + 1;
-                                r2_0 = (high_2 == 65535) ? UINT64_C(281474976710655) : (r10_5 - load64(r8 + 32));
-                                r2_4 = load64(r8 + 16);
-                                if (r2_4 == r2_3) {
-                                    r24 = vec_grow_amortized(r8);
-                                    if ((r2_3 != UINT64_C(281470681743360)) & r24) {
-                                        r16 = load64(r8 + 8);
-                                        r17_4 = load_address(r8);
-                                        r41 = r16 + 1;
-                                        r16_2 = r16;
-                                        goto after_Pool_append;
-                                    }
-                                    r62 = load64(r8 + 16);
-                                } else {
-                                    if (r2_3 != UINT64_C(281470681743360)) {
-                                        r17_4 = r17_3;
-                                        r41 = r10_5;
-                                        r16_2 = r2_3;
-                                        goto after_Pool_append;
-                                    }
-                                    r62 = r2_4;
-                                }
-                                if (r62 != 0) {
-                                    rattle_dealloc(load_address(r8));
-                                }
-                                if (!r12_2) {
-                                    rattle_dealloc(r26);
-                                }
-                                if (r12) {
-                                    goto arm_2_2;
-                                }
-                                rattle_dealloc(r19);
-                                goto arm_2_2;
-                            after_Pool_append:;
-                                r22 = r17_4 + (r16_2 * 24);
-                                store16(r22, 1);
-                                store16(r22 + 2, (uint16_t)(r2_0 >> 32));
-                                store32(r22 + 4, (uint32_t)r2_0);
-                                store64(r22 + 8, key_2);
-                                store64(r22 + 16, value_2);
-                                store64(r8 + 8, r41);
-                                if (load64(map + INT_MAP_NODES_LEN) <= r10_4) {
-                                    r17_2 = r17_4;
-                                    r2_2 = r41;
-                                    r0_2 = r10_3;
-                                    break;
-                                }
-                                r17_3 = r17_4;
-                                r2_3 = r41;
-                                at = r10_4;
-                            }
-                        } else {
-                            r17_2 = r17;
-                            r2_2 = r2;
-                            r0_2 = r10_3;
-                        }
-                    }
-                    r17_5 = r17_2;
-                    r2_5 = r2_2;
-                    key_3 = key;
-                    value_3 = value;
-                    r48 = 1;
-                    r48_2 = (uint16_t)(r0_2 >> 32);
-                    r48_3 = (uint32_t)r0_2;
-                } else {
-                    r17_5 = r17;
-                    r2_5 = r2;
-                    key_3 = 0;
-                    value_3 = 0;
-                    r48 = 0;
-                    r48_2 = 0;
-                    r48_3 = 0;
-                }
-                r22_2 = r19 + r111;
-                store16(r22_2, r48);
-                store16(r22_2 + 2, r48_2);
-                store32(r22_2 + 4, r48_3);
-                store64(r22_2 + 8, key_3);
-                store64(r22_2 + 16, value_3);
-                next_index = index + 1;
-                if (next_index == slots_len_2) {
-                    break;
-                }
-                r17 = r17_5;
-                r2 = r2_5;
-                index = next_index;
-            }
-        }
-        mask = load64(map + INT_MAP_MASK);
-        memcpy(r5_19, r8, 40);
-        memcpy(r2_13, r5_19, 40);
-        len = load64(map + INT_MAP_LEN);
-        threshold = load64(map + INT_MAP_THRESHOLD);
-        factor = load64(map + INT_MAP_FACTOR);
-        store8(r9, 0);
+        store8(r9, sink15);
         store8(r9 + 1, 0);
-        store64(r9 + 8, mask);
-        store_address(r9 + 16, r26);
-        store64(r9 + 24, words_len);
-        store64(r9 + 32, words_len);
-        store_address(r9 + 40, r19);
-        store64(r9 + 48, slots_len_2);
-        store64(r9 + 56, slots_len);
-        memcpy(r9 + 64, r2_13, 40);
-        store64(r9 + 104, len);
-        store64(r9 + 112, threshold);
-        store64(r9 + 120, factor);
-        goto after_IntMap_clone;
-    arm_2_2:;
-        store8(r9, 1);
-        store8(r9 + 1, 0);
-        memset(r9 + 8, 0, 56);
-        memcpy(r9 + 64, r0, 40);
-        memset(r9 + 104, 0, 24);
-    after_IntMap_clone:;
-        r30_2 = make_keep(to, r9);
-        r5_0 = r30_2;
+        store64(r9 + 104, len_2);
+        store64(r9 + 112, threshold_2);
+        store64(r9 + 120, factor_2);
+        r30 = make_keep(to, r9);
+        r5_0 = r30;
     }
     return r5_0;
 }
@@ -3078,16 +2965,17 @@ static ALWAYS_INLINE uint32_t do_intmap_with_capacity(char *handle, uint64_t cap
 // Adds to the value of a present key as `intmap_add_present` does, or inserts an absent key with `more`.
 // intmap_add_or_insert, in crates/intmap_c/src/pairs.rt
 static ALWAYS_INLINE struct word_word do_intmap_add_or_insert(char *handle, uint64_t key, uint64_t more) {
-    uint64_t map_address, value, r19, map_address_2, index, at, nodes_len, at_2, r2_0, value_2, at_3, r2_0_2, at_4,
-        r12_2, at_5, r2_0_3, at_6, r12_3, value_3, at_7, r2_0_4, at_8, r12_4, at_9, r2_0_5, at_10, r12_5, r10, r40,
-        value_4, len, x28, r44, at_11, spare, nodes_len_2, at_12, r4_0, free, at_13, at_14, spare_2, nodes_len_3,
-        at_15, r21, free_2;
+    uint64_t map_address, value, r19, map_address_2, index, r10, nodes_len, at, r2_0, at_2, at_3, value_2, at_4,
+        at_5, value_3, r10_2, r40, value_4, len, x23, r44, r10_3, spare, r4_0, free, at_6, spare_2, r21, free_2;
     struct byte_address r15;
-    char *map, *slot, *nodes, *node, *node_2, *r9, *node_3, *node_4, *node_5, *node_6, *node_7, *node_8, *node_9,
-        *node_10, *nodes_2, *node_11, *node_12, *nodes_3, *node_13, *node_14, *node_15, *r11;
+    char *map, *slot, *nodes, *node, *node_2, *node_3, *r9, *node_4, *node_5, *node_6, *r11;
     uint8_t has_pair, has_pair_2, has_pair_3;
-    bool x4, r24, r24_2;
-    uint16_t high, high_2, high_3;
+    bool x4;
+    uint16_t high;
+    uint64_t r0_room[3];
+    char *r0 = (char *)r0_room;
+    uint64_t r0_2_room[3];
+    char *r0_2 = (char *)r0_2_room;
     uint64_t r12_room[4];
     char *r12 = (char *)r12_room;
     map_address = load64(handle);
@@ -3109,259 +2997,137 @@ static ALWAYS_INLINE struct word_word do_intmap_add_or_insert(char *handle, uint
     has_pair = load8(slot + SLOT_HAS_PAIR);
     x4 = has_pair == 1;
     if (x4) {
-        at = (((uint64_t)load16(slot + SLOT_HIGH)) << 32) | ((uint64_t)load32(slot + SLOT_LOW));
+        r10 = (((uint64_t)load16(slot + SLOT_HIGH)) << 32) | ((uint64_t)load32(slot + SLOT_LOW));
         if (load64(slot + SLOT_KEY) != key) {
             nodes_len = load64(map + INT_MAP_NODES_LEN);
-            if (nodes_len <= at) {
+            if (nodes_len <= r10) {
                 goto arm_2_2;
             }
             nodes = load_address(map + INT_MAP_NODES);
-            at_2 = at;
+            at = r10;
             r2_0 = 0;
             for (;;) {
-                node = nodes + (at_2 * NODE_SIZE);
+                node = nodes + (at * NODE_SIZE);
                 if (load8(node + NODE_HAS_PAIR) != 1) {
                     goto arm_2_2;
                 }
                 if (load64(node + NODE_KEY) == key) {
-                    switch (r2_0) {
-                    case UINT64_C(18446744073709551615):
-                        goto arm_1_thread;
-                    case 0:
-                        node_2 = nodes + (at * NODE_SIZE);
-                        if (load8(node_2 + NODE_HAS_PAIR) == 1) {
-                            value_2 = load64(node_2 + NODE_VALUE);
-                            r9 = node_2;
-                            goto after_OccupiedEntry_insert;
-                        }
-                        break;
-                    default:
-                        at_3 = at;
-                        r2_0_2 = 0;
-                        for (;;) {
-                            node_3 = nodes + (at_3 * NODE_SIZE);
-                            if (load8(node_3 + NODE_HAS_PAIR) != 1) {
-                                abort();
-                            }
-                            at_4 = (((uint64_t)load16(node_3 + NODE_HIGH)) << 32) | ((uint64_t)load32(node_3 + NODE_LOW));
-                            r12_2 = r2_0_2 + 1;
-                            if (r12_2 == r2_0) {
-                                if (load8((nodes + (at_4 * NODE_SIZE)) + NODE_HAS_PAIR) != 1) {
-                                    break;
-                                }
-                                at_5 = at;
-                                r2_0_3 = 0;
-                                for (;;) {
-                                    node_4 = nodes + (at_5 * NODE_SIZE);
-                                    if (load8(node_4 + NODE_HAS_PAIR) != 1) {
-                                        abort();
-                                    }
-                                    at_6 = (((uint64_t)load16(node_4 + NODE_HIGH)) << 32) | ((uint64_t)load32(node_4 + NODE_LOW));
-                                    r12_3 = r2_0_3 + 1;
-                                    if (r12_3 == r2_0) {
-                                        node_5 = nodes + (at_6 * NODE_SIZE);
-                                        if (load8(node_5 + NODE_HAS_PAIR) != 1) {
-                                            abort();
-                                        }
-                                        value_3 = load64(node_5 + NODE_VALUE);
-                                        at_7 = at;
-                                        r2_0_4 = 0;
-                                        for (;;) {
-                                            node_6 = nodes + (at_7 * NODE_SIZE);
-                                            if (load8(node_6 + NODE_HAS_PAIR) != 1) {
-                                                abort();
-                                            }
-                                            at_8 = (((uint64_t)load16(node_6 + NODE_HIGH)) << 32) | ((uint64_t)load32(node_6 + NODE_LOW));
-                                            r12_4 = r2_0_4 + 1;
-                                            if (r12_4 == r2_0) {
-                                                if (load8((nodes + (at_8 * NODE_SIZE)) + NODE_HAS_PAIR) != 1) {
-                                                    abort();
-                                                }
-                                                at_9 = at;
-                                                r2_0_5 = 0;
-                                                for (;;) {
-                                                    node_7 = nodes + (at_9 * NODE_SIZE);
-                                                    if (load8(node_7 + NODE_HAS_PAIR) != 1) {
-                                                        abort();
-                                                    }
-                                                    at_10 = (((uint64_t)load16(node_7 + NODE_HIGH)) << 32) | ((uint64_t)load32(node_7 + NODE_LOW));
-                                                    r12_5 = r2_0_5 + 1;
-                                                    if (r12_5 == r2_0) {
-                                                        node_8 = nodes + (at_10 * NODE_SIZE);
-                                                        if (load8(node_8 + NODE_HAS_PAIR) != 1) {
-                                                            abort();
-                                                        }
-                                                        value_2 = value_3;
-                                                        r9 = node_8;
-                                                        goto after_OccupiedEntry_insert;
-                                                    }
-                                                    at_9 = at_10;
-                                                    r2_0_5 = r12_5;
-                                                }
-                                            }
-                                            at_7 = at_8;
-                                            r2_0_4 = r12_4;
-                                        }
-                                    }
-                                    at_5 = at_6;
-                                    r2_0_3 = r12_3;
-                                }
-                            }
-                            at_3 = at_4;
-                            r2_0_2 = r12_2;
-                        }
+                    if (r2_0 == UINT64_C(18446744073709551615)) {
                         break;
                     }
-                    abort();
+                    at_2 = chain_seek(map + INT_MAP_NODES, r10, r2_0);
+                    if (load8((nodes + (at_2 * NODE_SIZE)) + NODE_HAS_PAIR) != 1) {
+                        abort();
+                    }
+                    at_3 = chain_seek(map + INT_MAP_NODES, r10, r2_0);
+                    node_2 = nodes + (at_3 * NODE_SIZE);
+                    if (load8(node_2 + NODE_HAS_PAIR) != 1) {
+                        abort();
+                    }
+                    value_2 = load64(node_2 + NODE_VALUE);
+                    at_4 = chain_seek(map + INT_MAP_NODES, r10, r2_0);
+                    if (load8((nodes + (at_4 * NODE_SIZE)) + NODE_HAS_PAIR) != 1) {
+                        abort();
+                    }
+                    at_5 = chain_seek(map + INT_MAP_NODES, r10, r2_0);
+                    node_3 = nodes + (at_5 * NODE_SIZE);
+                    if (load8(node_3 + NODE_HAS_PAIR) != 1) {
+                        abort();
+                    }
+                    value_3 = value_2;
+                    r9 = node_3;
+                    goto after_OccupiedEntry_insert;
                 }
-                r10 = (((uint64_t)load16(node + NODE_HIGH)) << 32) | ((uint64_t)load32(node + NODE_LOW));
-                if (nodes_len <= r10) {
+                r10_2 = (((uint64_t)load16(node + NODE_HIGH)) << 32) | ((uint64_t)load32(node + NODE_LOW));
+                if (nodes_len <= r10_2) {
                     goto arm_2_2;
                 }
-                at_2 = r10;
+                at = r10_2;
                 r2_0 = r2_0 + 1;
             }
         }
-    arm_1_thread:;
-        value_2 = load64(slot + SLOT_VALUE);
+        value_3 = load64(slot + SLOT_VALUE);
         r9 = slot;
     after_OccupiedEntry_insert:;
-        store64(r9 + 16, value_2 + more);
+        store64(r9 + 16, value_3 + more);
         r40 = 1;
-        value_4 = value_2;
+        value_4 = value_3;
         goto after_pairs_add_or_insert;
     }
 arm_2_2:;
     memset(r12, 0, 32);
     len = load64(map + INT_MAP_LEN);
     if (len == UINT64_C(18446744073709551615)) {
-        x28 = UINT64_C(4294967294);
+        x23 = UINT64_C(4294967294);
     } else {
         r44 = len + 1;
         if (!(((r44 & 4) != 0) & (load64(map + INT_MAP_THRESHOLD) <= len))) {
             if (x4) {
                 high = load16(slot + SLOT_HIGH);
-                at_11 = (((uint64_t)high) << 32) | ((uint64_t)load32(slot + SLOT_LOW));
-                if (high == 65535) {
-                    spare = load64(map + INT_MAP_SPARE);
-                    if (spare != 0) {
-                        free = load64(map + INT_MAP_FREE);
-                        node_10 = load_address(map + INT_MAP_NODES) + (free * NODE_SIZE);
-                        if (load8(node_10 + NODE_HAS_PAIR) != 0) {
-                            abort();
-                        }
-                        store64(map + INT_MAP_FREE, (((uint64_t)load16(node_10 + NODE_HIGH)) << 32) | ((uint64_t)load32(node_10 + NODE_LOW)));
-                        store64(map + INT_MAP_SPARE, spare - 1);
-                        has_pair_2 = load8(node_10 + NODE_HAS_PAIR);
-                        store16(node_10 + NODE_HAS_PAIR, 1);
-                        store16(node_10 + NODE_HIGH, 65535);
-                        store32(node_10 + NODE_LOW, 4294967295u);
-                        store64(node_10 + NODE_KEY, key);
-                        store64(node_10 + NODE_VALUE, more);
-                        if (has_pair_2 != 0) {
-                            abort();
-                        }
-                        r4_0 = free;
-                        goto arm_5_3;
-                    }
-                    nodes_len_2 = load64(map + INT_MAP_NODES_LEN);
-                    if (load64(map + INT_MAP_NODES_ROOM) == nodes_len_2) {
-                        r24 = vec_grow_amortized(map + INT_MAP_NODES);
-                        if (!((nodes_len_2 != UINT64_C(281470681743360)) & r24)) {
+                r10_3 = (((uint64_t)high) << 32) | ((uint64_t)load32(slot + SLOT_LOW));
+                if (high != 65535) {
+                    at_6 = chain_last_in(map + INT_MAP_NODES, r10_3);
+                    spare_2 = load64(map + INT_MAP_SPARE);
+                    if (spare_2 == 0) {
+                        pool_append(r0_2, map + INT_MAP_NODES, UINT64_C(281474976710655), key, more);
+                        if (load8(r0_2) != 0) {
                             goto after_IntMap_add;
                         }
-                        at_12 = load64(map + INT_MAP_NODES_LEN);
+                        r21 = load64(r0_2 + 8);
                     } else {
-                        if (nodes_len_2 == UINT64_C(281470681743360)) {
-                            goto after_IntMap_add;
+                        free_2 = load64(map + INT_MAP_FREE);
+                        node_5 = load_address(map + INT_MAP_NODES) + (free_2 * NODE_SIZE);
+                        if (load8(node_5 + NODE_HAS_PAIR) != 0) {
+                            abort();
                         }
-                        at_12 = nodes_len_2;
+                        store64(map + INT_MAP_FREE, (((uint64_t)load16(node_5 + NODE_HIGH)) << 32) | ((uint64_t)load32(node_5 + NODE_LOW)));
+                        store64(map + INT_MAP_SPARE, spare_2 - 1);
+                        has_pair_3 = load8(node_5 + NODE_HAS_PAIR);
+                        store16(node_5 + NODE_HAS_PAIR, 1);
+                        store16(node_5 + NODE_HIGH, 65535);
+                        store32(node_5 + NODE_LOW, 4294967295u);
+                        store64(node_5 + NODE_KEY, key);
+                        store64(node_5 + NODE_VALUE, more);
+                        if (has_pair_3 != 0) {
+                            abort();
+                        }
+                        r21 = free_2;
                     }
-                    node_9 = load_address(map + INT_MAP_NODES) + (at_12 * NODE_SIZE);
-                    store16(node_9 + NODE_HAS_PAIR, 1);
-                    store16(node_9 + NODE_HIGH, 65535);
-                    store32(node_9 + NODE_LOW, 4294967295u);
-                    store64(node_9 + NODE_KEY, key);
-                    store64(node_9 + NODE_VALUE, more);
-                    store64(map + INT_MAP_NODES_LEN, at_12 + 1);
-                    r4_0 = nodes_len_2;
+                    node_6 = load_address(map + INT_MAP_NODES) + (at_6 * NODE_SIZE);
+                    if (load8(node_6 + NODE_HAS_PAIR) != 1) {
+                        abort();
+                    }
+                    store16(node_6 + NODE_HIGH, (uint16_t)(r21 >> 32));
+                    store32(node_6 + NODE_LOW, (uint32_t)r21);
+                    r4_0 = r10_3;
                     goto arm_5_3;
                 }
-                nodes_2 = load_address(map + INT_MAP_NODES);
-                node_11 = nodes_2 + (at_11 * NODE_SIZE);
-                if (load8(node_11 + NODE_HAS_PAIR) != 1) {
-                    abort();
-                }
-                high_2 = load16(node_11 + NODE_HIGH);
-                if (high_2 == 65535) {
-                    at_13 = at_11;
-                } else {
-                    at_14 = (((uint64_t)high_2) << 32) | ((uint64_t)load32(node_11 + NODE_LOW));
-                    for (;;) {
-                        node_12 = nodes_2 + (at_14 * NODE_SIZE);
-                        if (load8(node_12 + NODE_HAS_PAIR) != 1) {
-                            abort();
-                        }
-                        high_3 = load16(node_12 + NODE_HIGH);
-                        if (high_3 == 65535) {
-                            at_13 = at_14;
-                            break;
-                        }
-                        at_14 = (((uint64_t)high_3) << 32) | ((uint64_t)load32(node_12 + NODE_LOW));
-                    }
-                }
-                spare_2 = load64(map + INT_MAP_SPARE);
-                if (spare_2 == 0) {
-                    nodes_len_3 = load64(map + INT_MAP_NODES_LEN);
-                    if (load64(map + INT_MAP_NODES_ROOM) == nodes_len_3) {
-                        r24_2 = vec_grow_amortized(map + INT_MAP_NODES);
-                        if (!((nodes_len_3 != UINT64_C(281470681743360)) & r24_2)) {
-                            goto after_IntMap_add;
-                        }
-                        nodes_3 = load_address(map + INT_MAP_NODES);
-                        at_15 = load64(map + INT_MAP_NODES_LEN);
-                    } else {
-                        if (nodes_len_3 == UINT64_C(281470681743360)) {
-                            goto after_IntMap_add;
-                        }
-                        nodes_3 = nodes_2;
-                        at_15 = nodes_len_3;
-                    }
-                    node_13 = nodes_3 + (at_15 * NODE_SIZE);
-                    store16(node_13 + NODE_HAS_PAIR, 1);
-                    store16(node_13 + NODE_HIGH, 65535);
-                    store32(node_13 + NODE_LOW, 4294967295u);
-                    store64(node_13 + NODE_KEY, key);
-                    store64(node_13 + NODE_VALUE, more);
-                    store64(map + INT_MAP_NODES_LEN, at_15 + 1);
-                    r21 = nodes_len_3;
-                } else {
-                    free_2 = load64(map + INT_MAP_FREE);
-                    node_14 = nodes_2 + (free_2 * NODE_SIZE);
-                    if (load8(node_14 + NODE_HAS_PAIR) != 0) {
+                spare = load64(map + INT_MAP_SPARE);
+                if (spare != 0) {
+                    free = load64(map + INT_MAP_FREE);
+                    node_4 = load_address(map + INT_MAP_NODES) + (free * NODE_SIZE);
+                    if (load8(node_4 + NODE_HAS_PAIR) != 0) {
                         abort();
                     }
-                    store64(map + INT_MAP_FREE, (((uint64_t)load16(node_14 + NODE_HIGH)) << 32) | ((uint64_t)load32(node_14 + NODE_LOW)));
-                    store64(map + INT_MAP_SPARE, spare_2 - 1);
-                    has_pair_3 = load8(node_14 + NODE_HAS_PAIR);
-                    store16(node_14 + NODE_HAS_PAIR, 1);
-                    store16(node_14 + NODE_HIGH, 65535);
-                    store32(node_14 + NODE_LOW, 4294967295u);
-                    store64(node_14 + NODE_KEY, key);
-                    store64(node_14 + NODE_VALUE, more);
-                    if (has_pair_3 != 0) {
+                    store64(map + INT_MAP_FREE, (((uint64_t)load16(node_4 + NODE_HIGH)) << 32) | ((uint64_t)load32(node_4 + NODE_LOW)));
+                    store64(map + INT_MAP_SPARE, spare - 1);
+                    has_pair_2 = load8(node_4 + NODE_HAS_PAIR);
+                    store16(node_4 + NODE_HAS_PAIR, 1);
+                    store16(node_4 + NODE_HIGH, 65535);
+                    store32(node_4 + NODE_LOW, 4294967295u);
+                    store64(node_4 + NODE_KEY, key);
+                    store64(node_4 + NODE_VALUE, more);
+                    if (has_pair_2 != 0) {
                         abort();
                     }
-                    r21 = free_2;
+                    r4_0 = free;
+                    goto arm_5_3;
                 }
-                node_15 = load_address(map + INT_MAP_NODES) + (at_13 * NODE_SIZE);
-                if (load8(node_15 + NODE_HAS_PAIR) != 1) {
-                    abort();
+                pool_append(r0, map + INT_MAP_NODES, UINT64_C(281474976710655), key, more);
+                if (load8(r0) == 0) {
+                    r4_0 = load64(r0 + 8);
+                    goto arm_5_3;
                 }
-                store16(node_15 + NODE_HIGH, (uint16_t)(r21 >> 32));
-                store32(node_15 + NODE_LOW, (uint32_t)r21);
-                r4_0 = at_11;
-                goto arm_5_3;
             after_IntMap_add:;
                 r40 = UINT64_C(4294967295);
                 value_4 = 0;
@@ -3395,9 +3161,9 @@ arm_2_2:;
             value_4 = 0;
             goto after_pairs_add_or_insert;
         }
-        x28 = ((load64(r12 + 16) & 255) == 0) ? UINT64_C(4294967295) : UINT64_C(4294967294);
+        x23 = ((load64(r12 + 16) & 255) == 0) ? UINT64_C(4294967295) : UINT64_C(4294967294);
     }
-    r40 = x28;
+    r40 = x23;
     value_4 = 0;
 after_pairs_add_or_insert:;
     store64(handle, map_address_2);
@@ -3410,16 +3176,18 @@ after_pairs_intmap_add_or_insert:;
 // Finds the key, or inserts the pair if the key is absent, and returns whether the key was present.
 // intmap_find_or_insert, in crates/intmap_c/src/pairs.rt
 static ALWAYS_INLINE uint32_t do_intmap_find_or_insert(char *handle, uint64_t key, uint64_t value) {
-    uint64_t map_address, map_address_2, index, r10, nodes_len, at, r10_2, len, r44, at_2, spare, r4_0_2, free, at_3,
-        at_4, spare_2, nodes_len_2, at_5, r21, free_2;
+    uint64_t map_address, map_address_2, index, r10, nodes_len, at, r10_2, len, r44, r10_3, spare, r4_0_2, free,
+        at_2, spare_2, r21, free_2;
     struct byte_address r15;
-    char *map, *slot, *nodes, *node, *node_2, *nodes_2, *node_3, *node_4, *nodes_3, *node_5, *node_6, *node_7, *r11;
+    char *map, *slot, *nodes, *node, *node_2, *node_3, *node_4, *r11;
     uint8_t has_pair, has_pair_2, has_pair_3;
-    bool x4, r24;
+    bool x4;
     uint32_t r4_0;
-    uint16_t high, high_2, high_3;
+    uint16_t high;
     uint64_t r0_room[3];
     char *r0 = (char *)r0_room;
+    uint64_t r0_2_room[3];
+    char *r0_2 = (char *)r0_2_room;
     uint64_t r12_room[4];
     char *r12 = (char *)r12_room;
     map_address = load64(handle);
@@ -3474,82 +3242,42 @@ static ALWAYS_INLINE uint32_t do_intmap_find_or_insert(char *handle, uint64_t ke
         if (!(((r44 & 4) != 0) & (load64(map + INT_MAP_THRESHOLD) <= len))) {
             if (x4) {
                 high = load16(slot + SLOT_HIGH);
-                at_2 = (((uint64_t)high) << 32) | ((uint64_t)load32(slot + SLOT_LOW));
+                r10_3 = (((uint64_t)high) << 32) | ((uint64_t)load32(slot + SLOT_LOW));
                 if (high != 65535) {
-                    nodes_2 = load_address(map + INT_MAP_NODES);
-                    node_3 = nodes_2 + (at_2 * NODE_SIZE);
-                    if (load8(node_3 + NODE_HAS_PAIR) != 1) {
-                        abort();
-                    }
-                    high_2 = load16(node_3 + NODE_HIGH);
-                    if (high_2 == 65535) {
-                        at_3 = at_2;
-                    } else {
-                        at_4 = (((uint64_t)high_2) << 32) | ((uint64_t)load32(node_3 + NODE_LOW));
-                        for (;;) {
-                            node_4 = nodes_2 + (at_4 * NODE_SIZE);
-                            if (load8(node_4 + NODE_HAS_PAIR) != 1) {
-                                abort();
-                            }
-                            high_3 = load16(node_4 + NODE_HIGH);
-                            if (high_3 == 65535) {
-                                at_3 = at_4;
-                                break;
-                            }
-                            at_4 = (((uint64_t)high_3) << 32) | ((uint64_t)load32(node_4 + NODE_LOW));
-                        }
-                    }
+                    at_2 = chain_last_in(map + INT_MAP_NODES, r10_3);
                     spare_2 = load64(map + INT_MAP_SPARE);
                     if (spare_2 == 0) {
-                        nodes_len_2 = load64(map + INT_MAP_NODES_LEN);
-                        if (load64(map + INT_MAP_NODES_ROOM) == nodes_len_2) {
-                            r24 = vec_grow_amortized(map + INT_MAP_NODES);
-                            if (!((nodes_len_2 != UINT64_C(281470681743360)) & r24)) {
-                                goto arm_2_thread;
-                            }
-                            nodes_3 = load_address(map + INT_MAP_NODES);
-                            at_5 = load64(map + INT_MAP_NODES_LEN);
-                        } else {
-                            if (nodes_len_2 == UINT64_C(281470681743360)) {
-                                goto arm_2_thread;
-                            }
-                            nodes_3 = nodes_2;
-                            at_5 = nodes_len_2;
+                        pool_append(r0_2, map + INT_MAP_NODES, UINT64_C(281474976710655), key, value);
+                        if (load8(r0_2) != 0) {
+                            goto arm_2_thread;
                         }
-                        node_5 = nodes_3 + (at_5 * NODE_SIZE);
-                        store16(node_5 + NODE_HAS_PAIR, 1);
-                        store16(node_5 + NODE_HIGH, 65535);
-                        store32(node_5 + NODE_LOW, 4294967295u);
-                        store64(node_5 + NODE_KEY, key);
-                        store64(node_5 + NODE_VALUE, value);
-                        store64(map + INT_MAP_NODES_LEN, at_5 + 1);
-                        r21 = nodes_len_2;
+                        r21 = load64(r0_2 + 8);
                     } else {
                         free_2 = load64(map + INT_MAP_FREE);
-                        node_6 = nodes_2 + (free_2 * NODE_SIZE);
-                        if (load8(node_6 + NODE_HAS_PAIR) != 0) {
+                        node_3 = load_address(map + INT_MAP_NODES) + (free_2 * NODE_SIZE);
+                        if (load8(node_3 + NODE_HAS_PAIR) != 0) {
                             abort();
                         }
-                        store64(map + INT_MAP_FREE, (((uint64_t)load16(node_6 + NODE_HIGH)) << 32) | ((uint64_t)load32(node_6 + NODE_LOW)));
+                        store64(map + INT_MAP_FREE, (((uint64_t)load16(node_3 + NODE_HIGH)) << 32) | ((uint64_t)load32(node_3 + NODE_LOW)));
                         store64(map + INT_MAP_SPARE, spare_2 - 1);
-                        has_pair_3 = load8(node_6 + NODE_HAS_PAIR);
-                        store16(node_6 + NODE_HAS_PAIR, 1);
-                        store16(node_6 + NODE_HIGH, 65535);
-                        store32(node_6 + NODE_LOW, 4294967295u);
-                        store64(node_6 + NODE_KEY, key);
-                        store64(node_6 + NODE_VALUE, value);
+                        has_pair_3 = load8(node_3 + NODE_HAS_PAIR);
+                        store16(node_3 + NODE_HAS_PAIR, 1);
+                        store16(node_3 + NODE_HIGH, 65535);
+                        store32(node_3 + NODE_LOW, 4294967295u);
+                        store64(node_3 + NODE_KEY, key);
+                        store64(node_3 + NODE_VALUE, value);
                         if (has_pair_3 != 0) {
                             abort();
                         }
                         r21 = free_2;
                     }
-                    node_7 = load_address(map + INT_MAP_NODES) + (at_3 * NODE_SIZE);
-                    if (load8(node_7 + NODE_HAS_PAIR) != 1) {
+                    node_4 = load_address(map + INT_MAP_NODES) + (at_2 * NODE_SIZE);
+                    if (load8(node_4 + NODE_HAS_PAIR) != 1) {
                         abort();
                     }
-                    store16(node_7 + NODE_HIGH, (uint16_t)(r21 >> 32));
-                    store32(node_7 + NODE_LOW, (uint32_t)r21);
-                    r4_0_2 = at_2;
+                    store16(node_4 + NODE_HIGH, (uint16_t)(r21 >> 32));
+                    store32(node_4 + NODE_LOW, (uint32_t)r21);
+                    r4_0_2 = r10_3;
                     goto arm_5_3;
                 }
                 spare = load64(map + INT_MAP_SPARE);
@@ -3579,7 +3307,7 @@ static ALWAYS_INLINE uint32_t do_intmap_find_or_insert(char *handle, uint64_t ke
                     goto arm_5_3;
                 }
             arm_2_thread:;
-                goto x19;
+                goto x18;
             arm_5_3:;
                 if (load8(slot + SLOT_HAS_PAIR) != 1) {
                     abort();
@@ -3611,7 +3339,7 @@ static ALWAYS_INLINE uint32_t do_intmap_find_or_insert(char *handle, uint64_t ke
             r4_0 = 4294967294u;
             goto after_pairs_find_or_insert;
         }
-    x19:;
+    x18:;
         r4_0 = 4294967295u;
     }
 after_pairs_find_or_insert:;
@@ -3622,18 +3350,19 @@ after_pairs_find_or_insert:;
 // Inserts the pair of the key and the value at the end of its slot, and returns the value before.
 // intmap_insert, in crates/intmap_c/src/pairs.rt
 static ALWAYS_INLINE struct word_word do_intmap_insert(char *handle, uint64_t key, uint64_t value) {
-    uint64_t map_address, value_2, r19, map_address_2, index, at, r0_2, nodes_len, at_2, r2_0, r10, value_3, value_4,
-        spec_select1, r8, r6, r2_0_2, at_3, r2_0_3, r8_2, r14, key_2, value_5, value_6, r55, r6_2, at_4, r2_0_4,
-        r10_2, r12_2, value_7, len, x24, r44, at_5, spare, r4_0, free, at_6, at_7, spare_2, nodes_len_2, at_8, r21,
+    uint64_t map_address, r6, r19, map_address_2, index, r10, r0_3, nodes_len, at, r2_0, r10_2, value_2, r5,
+        spec_select1, key_2, value_3, value_4, r55, r69, len, x20, r44, r10_3, spare, r4_0, free, at_3, spare_2, r21,
         free_2;
     struct byte_address r15;
-    char *map, *slot, *nodes, *node, *nodes_2, *node_2, *node_3, *node_4, *nodes_3, *node_5, *node_6, *node_7,
-        *nodes_4, *node_8, *node_9, *nodes_5, *node_10, *node_11, *node_12, *r11;
+    char *map, *slot, *nodes, *node, *node_2, *node_3, *node_4, *node_5, *r11;
     uint8_t has_pair, has_pair_2, has_pair_3;
-    bool x4, r24;
-    uint16_t high, high_2, high_3, high_4, high_5, high_6;
+    bool x4;
+    uint16_t high, high_2;
+    struct word_word at_2;
     uint64_t r0_room[3];
     char *r0 = (char *)r0_room;
+    uint64_t r0_2_room[3];
+    char *r0_2 = (char *)r0_2_room;
     uint64_t r12_room[4];
     char *r12 = (char *)r12_room;
     map_address = load64(handle);
@@ -3641,7 +3370,7 @@ static ALWAYS_INLINE struct word_word do_intmap_insert(char *handle, uint64_t ke
     if (map_address == 0) {
         r15 = handle_make_first();
         if (r15.first == 0) {
-            value_2 = 0;
+            r6 = 0;
             r19 = UINT64_C(4294967295);
             goto after_pairs_intmap_insert;
         }
@@ -3656,123 +3385,70 @@ static ALWAYS_INLINE struct word_word do_intmap_insert(char *handle, uint64_t ke
     x4 = has_pair == 1;
     if (x4) {
         high = load16(slot + SLOT_HIGH);
-        at = (((uint64_t)high) << 32) | ((uint64_t)load32(slot + SLOT_LOW));
+        r10 = (((uint64_t)high) << 32) | ((uint64_t)load32(slot + SLOT_LOW));
         if (load64(slot + SLOT_KEY) == key) {
-            r0_2 = 0;
+            r0_3 = 0;
         } else {
             nodes_len = load64(map + INT_MAP_NODES_LEN);
-            if (nodes_len <= at) {
+            if (nodes_len <= r10) {
                 goto arm_2_2;
             }
             nodes = load_address(map + INT_MAP_NODES);
-            at_2 = at;
+            at = r10;
             r2_0 = 0;
             for (;;) {
-                node = nodes + (at_2 * NODE_SIZE);
+                node = nodes + (at * NODE_SIZE);
                 if (load8(node + NODE_HAS_PAIR) != 1) {
                     goto arm_2_2;
                 }
                 if (load64(node + NODE_KEY) == key) {
-                    r0_2 = r2_0 + 1;
+                    r0_3 = r2_0 + 1;
                     break;
                 }
-                r10 = (((uint64_t)load16(node + NODE_HIGH)) << 32) | ((uint64_t)load32(node + NODE_LOW));
-                if (nodes_len <= r10) {
+                r10_2 = (((uint64_t)load16(node + NODE_HIGH)) << 32) | ((uint64_t)load32(node + NODE_LOW));
+                if (nodes_len <= r10_2) {
                     goto arm_2_2;
                 }
-                at_2 = r10;
+                at = r10_2;
                 r2_0 = r2_0 + 1;
             }
         }
         if (high == 65535) {
-            value_3 = load64(slot + SLOT_VALUE);
+            value_2 = load64(slot + SLOT_VALUE);
             store64(slot + SLOT_KEY, key);
             store64(slot + SLOT_VALUE, value);
-            value_4 = value_3;
+            r5 = value_2;
             spec_select1 = 1;
             goto after_pairs_insert;
         }
-        nodes_2 = load_address(map + INT_MAP_NODES);
-        r8 = at * NODE_SIZE;
-        node_2 = nodes_2 + r8;
+        at_2 = chain_last_in_2(map + INT_MAP_NODES, r10);
+        node_2 = load_address(map + INT_MAP_NODES) + (at_2.first * NODE_SIZE);
         if (load8(node_2 + NODE_HAS_PAIR) != 1) {
             abort();
         }
-        high_2 = load16(node_2 + NODE_HIGH);
-        if (high_2 == 65535) {
-            r6 = r8;
-            r2_0_2 = 0;
-        } else {
-            at_3 = (((uint64_t)high_2) << 32) | ((uint64_t)load32(node_2 + NODE_LOW));
-            r2_0_3 = 0;
-            for (;;) {
-                r8_2 = at_3 * NODE_SIZE;
-                node_3 = nodes_2 + r8_2;
-                if (load8(node_3 + NODE_HAS_PAIR) != 1) {
-                    abort();
-                }
-                r14 = r2_0_3 + 1;
-                high_3 = load16(node_3 + NODE_HIGH);
-                if (high_3 == 65535) {
-                    r6 = r8_2;
-                    r2_0_2 = r14;
-                    break;
-                }
-                at_3 = (((uint64_t)high_3) << 32) | ((uint64_t)load32(node_3 + NODE_LOW));
-                r2_0_3 = r14;
-            }
-        }
-        node_4 = nodes_2 + r6;
-        key_2 = load64(node_4 + NODE_KEY);
-        value_5 = load64(node_4 + NODE_VALUE);
-        store64(node_4 + NODE_KEY, key);
-        store64(node_4 + NODE_VALUE, value);
-        if (r0_2 == 0) {
+        key_2 = load64(node_2 + NODE_KEY);
+        value_3 = load64(node_2 + NODE_VALUE);
+        store64(node_2 + NODE_KEY, key);
+        store64(node_2 + NODE_VALUE, value);
+        if (r0_3 == 0) {
             if (load8(slot + SLOT_HAS_PAIR) != 1) {
                 abort();
             }
-            value_6 = load64(slot + SLOT_VALUE);
+            value_4 = load64(slot + SLOT_VALUE);
             store64(slot + SLOT_KEY, key_2);
-            store64(slot + SLOT_VALUE, value_5);
-            value_4 = value_6;
+            store64(slot + SLOT_VALUE, value_3);
+            r5 = value_4;
             spec_select1 = 1;
             goto after_pairs_insert;
         }
-        r55 = r0_2 - 1;
-        if (r55 == r2_0_2) {
-            value_4 = value_5;
+        r55 = r0_3 - 1;
+        if (r55 == at_2.second) {
+            r5 = value_3;
             spec_select1 = 1;
             goto after_pairs_insert;
         }
-        nodes_3 = load_address(map + INT_MAP_NODES);
-        if (r55 == 0) {
-            r6_2 = r8;
-        } else {
-            at_4 = at;
-            r2_0_4 = 0;
-            for (;;) {
-                node_5 = nodes_3 + (at_4 * NODE_SIZE);
-                if (load8(node_5 + NODE_HAS_PAIR) != 1) {
-                    abort();
-                }
-                r10_2 = (((uint64_t)load16(node_5 + NODE_HIGH)) << 32) | ((uint64_t)load32(node_5 + NODE_LOW));
-                r12_2 = r2_0_4 + 1;
-                if (r12_2 == r55) {
-                    r6_2 = r10_2 * 24;
-                    break;
-                }
-                at_4 = r10_2;
-                r2_0_4 = r12_2;
-            }
-        }
-        node_6 = nodes_3 + r6_2;
-        if (load8(node_6 + NODE_HAS_PAIR) != 1) {
-            abort();
-        }
-        value_7 = load64(node_6 + NODE_VALUE);
-        store64(node_6 + NODE_KEY, key_2);
-        store64(node_6 + NODE_VALUE, value_5);
-        value_4 = value_7;
+        r69 = chain_swap_behind(r10, map + INT_MAP_NODES, r55, key_2, value_3);
+        r5 = r69;
         spec_select1 = 1;
         goto after_pairs_insert;
     }
@@ -3780,105 +3456,65 @@ arm_2_2:;
     memset(r12, 0, 32);
     len = load64(map + INT_MAP_LEN);
     if (len == UINT64_C(18446744073709551615)) {
-        x24 = UINT64_C(4294967294);
+        x20 = UINT64_C(4294967294);
     } else {
         r44 = len + 1;
         if (!(((r44 & 4) != 0) & (load64(map + INT_MAP_THRESHOLD) <= len))) {
             if (x4) {
-                high_4 = load16(slot + SLOT_HIGH);
-                at_5 = (((uint64_t)high_4) << 32) | ((uint64_t)load32(slot + SLOT_LOW));
-                if (high_4 != 65535) {
-                    nodes_4 = load_address(map + INT_MAP_NODES);
-                    node_8 = nodes_4 + (at_5 * NODE_SIZE);
-                    if (load8(node_8 + NODE_HAS_PAIR) != 1) {
-                        abort();
-                    }
-                    high_5 = load16(node_8 + NODE_HIGH);
-                    if (high_5 == 65535) {
-                        at_6 = at_5;
-                    } else {
-                        at_7 = (((uint64_t)high_5) << 32) | ((uint64_t)load32(node_8 + NODE_LOW));
-                        for (;;) {
-                            node_9 = nodes_4 + (at_7 * NODE_SIZE);
-                            if (load8(node_9 + NODE_HAS_PAIR) != 1) {
-                                abort();
-                            }
-                            high_6 = load16(node_9 + NODE_HIGH);
-                            if (high_6 == 65535) {
-                                at_6 = at_7;
-                                break;
-                            }
-                            at_7 = (((uint64_t)high_6) << 32) | ((uint64_t)load32(node_9 + NODE_LOW));
-                        }
-                    }
+                high_2 = load16(slot + SLOT_HIGH);
+                r10_3 = (((uint64_t)high_2) << 32) | ((uint64_t)load32(slot + SLOT_LOW));
+                if (high_2 != 65535) {
+                    at_3 = chain_last_in(map + INT_MAP_NODES, r10_3);
                     spare_2 = load64(map + INT_MAP_SPARE);
                     if (spare_2 == 0) {
-                        nodes_len_2 = load64(map + INT_MAP_NODES_LEN);
-                        if (load64(map + INT_MAP_NODES_ROOM) == nodes_len_2) {
-                            r24 = vec_grow_amortized(map + INT_MAP_NODES);
-                            if (!((nodes_len_2 != UINT64_C(281470681743360)) & r24)) {
-                                goto after_IntMap_add;
-                            }
-                            nodes_5 = load_address(map + INT_MAP_NODES);
-                            at_8 = load64(map + INT_MAP_NODES_LEN);
-                        } else {
-                            if (nodes_len_2 == UINT64_C(281470681743360)) {
-                                goto after_IntMap_add;
-                            }
-                            nodes_5 = nodes_4;
-                            at_8 = nodes_len_2;
+                        pool_append(r0_2, map + INT_MAP_NODES, UINT64_C(281474976710655), key, value);
+                        if (load8(r0_2) != 0) {
+                            goto after_IntMap_add;
                         }
-                        node_10 = nodes_5 + (at_8 * NODE_SIZE);
-                        store16(node_10 + NODE_HAS_PAIR, 1);
-                        store16(node_10 + NODE_HIGH, 65535);
-                        store32(node_10 + NODE_LOW, 4294967295u);
-                        store64(node_10 + NODE_KEY, key);
-                        store64(node_10 + NODE_VALUE, value);
-                        store64(map + INT_MAP_NODES_LEN, at_8 + 1);
-                        r21 = nodes_len_2;
+                        r21 = load64(r0_2 + 8);
                     } else {
                         free_2 = load64(map + INT_MAP_FREE);
-                        node_11 = nodes_4 + (free_2 * NODE_SIZE);
-                        if (load8(node_11 + NODE_HAS_PAIR) != 0) {
+                        node_4 = load_address(map + INT_MAP_NODES) + (free_2 * NODE_SIZE);
+                        if (load8(node_4 + NODE_HAS_PAIR) != 0) {
                             abort();
                         }
-                        store64(map + INT_MAP_FREE, (((uint64_t)load16(node_11 + NODE_HIGH)) << 32) | ((uint64_t)load32(node_11 + NODE_LOW)));
+                        store64(map + INT_MAP_FREE, (((uint64_t)load16(node_4 + NODE_HIGH)) << 32) | ((uint64_t)load32(node_4 + NODE_LOW)));
                         store64(map + INT_MAP_SPARE, spare_2 - 1);
-                        has_pair_3 = load8(node_11 + NODE_HAS_PAIR);
-                        store16(node_11 + NODE_HAS_PAIR, 1);
-                        store16(node_11 + NODE_HIGH, 65535);
-                        store32(node_11 + NODE_LOW, 4294967295u);
-                        store64(node_11 + NODE_KEY, key);
-                        store64(node_11 + NODE_VALUE, value);
+                        has_pair_3 = load8(node_4 + NODE_HAS_PAIR);
+                        store16(node_4 + NODE_HAS_PAIR, 1);
+                        store16(node_4 + NODE_HIGH, 65535);
+                        store32(node_4 + NODE_LOW, 4294967295u);
+                        store64(node_4 + NODE_KEY, key);
+                        store64(node_4 + NODE_VALUE, value);
                         if (has_pair_3 != 0) {
                             abort();
                         }
                         r21 = free_2;
                     }
-                    node_12 = load_address(map + INT_MAP_NODES) + (at_6 * NODE_SIZE);
-                    if (load8(node_12 + NODE_HAS_PAIR) != 1) {
+                    node_5 = load_address(map + INT_MAP_NODES) + (at_3 * NODE_SIZE);
+                    if (load8(node_5 + NODE_HAS_PAIR) != 1) {
                         abort();
                     }
-                    store16(node_12 + NODE_HIGH, (uint16_t)(r21 >> 32));
-                    store32(node_12 + NODE_LOW, (uint32_t)r21);
-                    r4_0 = at_5;
+                    store16(node_5 + NODE_HIGH, (uint16_t)(r21 >> 32));
+                    store32(node_5 + NODE_LOW, (uint32_t)r21);
+                    r4_0 = r10_3;
                     goto arm_5_3;
                 }
                 spare = load64(map + INT_MAP_SPARE);
                 if (spare != 0) {
                     free = load64(map + INT_MAP_FREE);
-                    node_7 = load_address(map + INT_MAP_NODES) + (free * NODE_SIZE);
-                    if (load8(node_7 + NODE_HAS_PAIR) != 0) {
+                    node_3 = load_address(map + INT_MAP_NODES) + (free * NODE_SIZE);
+                    if (load8(node_3 + NODE_HAS_PAIR) != 0) {
                         abort();
                     }
-                    store64(map + INT_MAP_FREE, (((uint64_t)load16(node_7 + NODE_HIGH)) << 32) | ((uint64_t)load32(node_7 + NODE_LOW)));
+                    store64(map + INT_MAP_FREE, (((uint64_t)load16(node_3 + NODE_HIGH)) << 32) | ((uint64_t)load32(node_3 + NODE_LOW)));
                     store64(map + INT_MAP_SPARE, spare - 1);
-                    has_pair_2 = load8(node_7 + NODE_HAS_PAIR);
-                    store16(node_7 + NODE_HAS_PAIR, 1);
-                    store16(node_7 + NODE_HIGH, 65535);
-                    store32(node_7 + NODE_LOW, 4294967295u);
-                    store64(node_7 + NODE_KEY, key);
-                    store64(node_7 + NODE_VALUE, value);
+                    has_pair_2 = load8(node_3 + NODE_HAS_PAIR);
+                    store16(node_3 + NODE_HAS_PAIR, 1);
+                    store16(node_3 + NODE_HIGH, 65535);
+                    store32(node_3 + NODE_LOW, 4294967295u);
+                    store64(node_3 + NODE_KEY, key);
+                    store64(node_3 + NODE_VALUE, value);
                     if (has_pair_2 != 0) {
                         abort();
                     }
@@ -3891,7 +3527,7 @@ arm_2_2:;
                     goto arm_5_3;
                 }
             after_IntMap_add:;
-                value_4 = 0;
+                r5 = 0;
                 spec_select1 = UINT64_C(4294967295);
                 goto after_pairs_insert;
             arm_5_3:;
@@ -3913,26 +3549,26 @@ arm_2_2:;
             r11 = load_address(map + INT_MAP_WORDS) + ((index >> 3) & UINT64_C(2305843009213693944));
             store64(r11, load64(r11) | ((uint64_t)1 << (index & 63)));
             store64(map + INT_MAP_LEN, r44);
-            value_4 = 0;
+            r5 = 0;
             spec_select1 = 0;
             goto after_pairs_insert;
         }
         intmap_add_growing(r12, map, r44, index, key, value);
         if (load8(r12) == 0) {
-            value_4 = 0;
+            r5 = 0;
             spec_select1 = 0;
             goto after_pairs_insert;
         }
-        x24 = (load8(r12 + 16) == 0) ? UINT64_C(4294967295) : UINT64_C(4294967294);
+        x20 = (load8(r12 + 16) == 0) ? UINT64_C(4294967295) : UINT64_C(4294967294);
     }
-    value_4 = 0;
-    spec_select1 = x24;
+    r5 = 0;
+    spec_select1 = x20;
 after_pairs_insert:;
     store64(handle, map_address_2);
-    value_2 = value_4;
+    r6 = r5;
     r19 = spec_select1;
 after_pairs_intmap_insert:;
-    return made_word_word(value_2, r19);
+    return made_word_word(r6, r19);
 }
 
 // Makes slots for the pairs and `additional` more, and returns `OK`.
