@@ -1,8 +1,9 @@
 """Where fields lie in memory, for tools/portable.py, read off the structs of Rattle's sources.
 
 The parts of a struct lie in the order in which they are declared, each at the next multiple of its alignment. An `Option`
-has a byte that is 1 if it is `Some`, and then the value. A `Vec` has an address, a length and a room. Another enum has a byte
-that numbers its variant, and then the parts of that variant. The parts of its longest variant stand for those of all."""
+has a byte that is 1 if it is `Some`, and then the value. A `Vec` has an address, a length and a room. A `Result` has a byte that
+is 1 if it is an `Err`, the byte of the cause, and the value. Another enum has a byte that numbers its variant, and then the parts
+of that variant. The parts of its longest variant stand for those of all."""
 import re
 from collections import namedtuple
 
@@ -11,6 +12,8 @@ from llvm_module import parted
 NUMBERS = {"u8": 1, "bool": 1, "u16": 2, "i32": 4, "u32": 4, "u64": 8, "i64": 8, "usize": 8}
 # types without bytes
 EMPTY = ("Global", "PhantomData", "Steps")
+# what the `Err` of a result has behind its first byte
+FAILURES = {"AllocError": [], "Cause": [("cause", "u8")]}
 # of std, with the same parameter
 KNOWN = {"Vec": [("", "*const T"), ("len", "usize"), ("room", "usize")], "Option": [("has", "u8"), ("", "T")]}
 # the parts of a variant have no names: numbers of these types are those of a link
@@ -55,6 +58,9 @@ class Layouts:
         head, _, given = kind.partition("<")
         if head in KNOWN:
             return [(name, with_types(it, {"T": parted_types(given[:-1])[0]})) for name, it in KNOWN[head]]
+        if head == "Result" and parted_types(given[:-1])[1] in FAILURES:
+            made, failed = parted_types(given[:-1])
+            return [("has_failed", "u8"), *FAILURES[failed], ("", made)]
         if head not in self.structs:
             raise SystemExit(f"layout: the type {kind} is unknown")
         parameters, fields = self.structs[head]

@@ -190,6 +190,19 @@ class Function:
 
         return {it: real(it) for it in [*self.made_by, *(one[0] for every in self.joined.values() for one in every)]}
 
+    def returned(self):
+        """The values that are returned, or of which what is returned is made or chosen."""
+        cases = {value: its.values() for every in self.joined.values() for value, _, its in every}
+        left, found = [line.split()[-1] for lines in self.blocks.values() for line in lines if line.startswith("ret ")], set()
+        while left:
+            value = bare(left.pop())
+            if value not in found:
+                found.add(value)
+                code = self.made_by.get(value, "")
+                left += cases.get(value, [])
+                left += re.findall(rf"%{NAME}", code) if re.match("insertvalue|select|zext|freeze", code) else []
+        return found
+
     def leave_out_unused(self):
         """Takes out what nobody uses, calls aside, until all that is left is used."""
         while True:

@@ -10,7 +10,8 @@ from sources import LINK, comment_above, impls
 GIVEN = {"K": "u64", "V": "u64", "X": "Kept<u64>", "A": "Global"}
 # what has more bytes is handed on by its address
 IN_REGISTERS = 16
-CONSTANT = re.compile(r"^(?:pub )?const (\w+): u64 = (\d{10,});", re.M)
+CONSTANT = re.compile(r"^(?:pub(?:\(crate\))? )?const (\w+): (?:u64|usize) = (\d{10,});", re.M)
+STATUS = re.compile(r"^pub const (\w+): i32 = (-\d+);", re.M)
 # what stands behind a function's name
 SIGNATURE = re.compile(r"(?:<(?:[^()]|\(\))*?>)?\((.*?)\)(?: -> ([^\n]+))?\n", re.S)
 # of a line of C
@@ -33,8 +34,12 @@ class Origins:
 
     def __init__(self, texts):
         self.texts, self.layouts = texts, Layouts(texts.values())
-        # large numbers that have a name
-        self.constants = {int(it): name for text in texts.values() for name, it in CONSTANT.findall(text)}
+        # large numbers that have a name, by their types, and how statuses of failures are called
+        self.constants = {("i64", int(it)): name for text in texts.values() for name, it in CONSTANT.findall(text)}
+        self.statuses = {int(it) % (1 << 32): name for text in texts.values() for name, it in STATUS.findall(text)}
+        for (_, number), name in list(self.constants.items()):
+            if name == "NOWHERE":
+                self.constants |= {("i16", number >> 32): "NOWHERE_HIGH", ("i32", number % (1 << 32)): "NOWHERE_LOW"}
 
     def file(self, name):
         """The file that has a function, as far as a look tells; None if none of the sources has it."""
@@ -80,7 +85,7 @@ class Origins:
         end, own = self.found(function.name)
         found = SIGNATURE.match(self.texts[self.file(function.name)], end)
         is_written = found[2] and (function.result == "void" or function.result == "ptr" and found[2][0] not in "&*")
-        places = [("result", f"&{found[2]}")] if is_written else []
+        places = [("result", f"&{with_types(found[2], GIVEN)}")] if is_written else []
         for it in parted_types(re.sub(r"//[^\n]*|\s+", " ", found[1])):
             name, _, kind = it.partition(": ")
             if name.endswith("self"):

@@ -4,6 +4,7 @@ It starts from what the sources say of parameters, and follows loads, stores, ca
 place is a type with a number of bytes behind its start; an address may be several, as the first field of a struct is at
 the struct's start. Where ways meet, those places stay that hold on each. So a name is only given where it is always right."""
 import re
+from collections import defaultdict
 
 from llvm_module import NAME, TYPE, VALUE, bare, groups_of, parted
 
@@ -29,6 +30,7 @@ PART = re.compile(rf"extractvalue {TYPE} ({VALUE}), (\d+)$")
 NEXT = re.compile(rf"add (?:(?:nuw|nsw) )*i64 ({VALUE}), 1$")
 HASHED = re.compile(rf"mul i64 {VALUE}, -7046029254386353067$")
 MASKED = re.compile(rf"and i64 ({VALUE}), ({VALUE})$")
+COPY = re.compile(rf"(?:tail )?call void @llvm\.mem(?:cpy|move)\S*\(.*?(%{NAME}), ptr .*?(%{NAME}), i64 (\d+), i1 false\)")
 CALL = re.compile(rf"(?:tail |musttail |notail )?call (?:fastcc )?.*?@({NAME})\((.*)\)")
 STORED = re.compile(rf"store {TYPE} ({VALUE}), ptr ({VALUE})(?:, align \d+)?$")
 
@@ -49,10 +51,12 @@ class Places:
         self.found, self.returned = {}, {}
         self.parameters = {it.name: self.declared(it, origins.parameters(it)) for it in functions}
         self.joined = {(it.name, value): cases for it in functions for every in it.joined.values() for value, _, cases in every}
-        self.calls = {it.name: [] for it in functions}
+        self.calls, self.copies = {it.name: [] for it in functions}, defaultdict(list)
         for function in functions:
             for line in (line for lines in function.blocks.values() for line in lines):
-                called = CALL.match(line.split(" = ", 1)[-1])
+                called, copied = CALL.match(line.split(" = ", 1)[-1]), COPY.match(line)
+                if copied:
+                    self.copies[function.name, bare(copied[1])].append((copied[2], int(copied[3])))
                 if called and called[1].strip('"') in self.calls:
                     self.calls[called[1].strip('"')].append((function.name, [it.split()[-1] for it in parted(called[2])]))
         self.made = self.made_blocks()
@@ -148,6 +152,8 @@ class Places:
         same, chosen, part = SAME.match(code), CHOSEN.match(code), PART.match(code)
         if code.startswith("alloca [0 x"):
             return None
+        if code.startswith("alloca "):
+            return self.of_room(function, value)
         if same:
             return self.of(function, same[1])
         if chosen:
@@ -159,6 +165,22 @@ class Places:
         if part:
             return self.of_part(function, bare(part[1]), int(part[2]))
         return ()
+
+    def of_room(self, function, value):
+        """What a room of a function leads to: what the sources say of calls that take it, and what is copied there."""
+        found = None
+        for called, calls in ((self.functions[name], its) for name, its in self.calls.items()):
+            for given in (given for caller, given in calls if caller == function.name and f"%{value}" in given):
+                found = meet(found, self.of_parameter(called, called.parameters[given.index(f"%{value}")][1]) or None)
+        for source, size in self.copies.get((function.name, value), ()):
+            kind = self.kind_of(function, source, size)
+            found = meet(found, tuple(self.layouts.views(kind, 0)) if kind else None)
+        return found or ()
+
+    def kind_of(self, function, address, size):
+        """The type of so many bytes that starts at an address, or nothing."""
+        there = (kind for kind, at in self.of(function, address) or () if at == 0 and kind[0] != ROW and kind not in WORDS)
+        return next((it for it in there if self.layouts.size(it) == size and self.layouts.declared(it)), None)
 
     def moved(self, function, code):
         base, by = groups_of(MOVED, code)
@@ -250,8 +272,9 @@ class Places:
         """The type of which a number skips several, as it is added to an address."""
         for user, _ in function.uses.get(value, ()):
             moved = MOVED.match(function.made_by.get(user, ""))
-            kind = (self.of(function, moved[1]) or [("", 0)])[0][0] if moved and bare(moved[2]) == value else ""
-            if kind[:1] == ROW and self.stride(function, moved[2]) == self.layouts.size(kind[1:]):
+            places = self.of(function, moved[1]) if moved and bare(moved[2]) == value else self.made.get((function.name, user))
+            kind = (places or [("", 0)])[0][0]
+            if kind[:1] == ROW and self.stride(function, f"%{value}") == self.layouts.size(kind[1:]):
                 return kind[1:]
         return None
 
@@ -319,5 +342,8 @@ class Places:
 
 def title(kind):
     """What a type is called."""
-    head = re.split("[<,]", kind.lstrip(ROW))[0]
+    head, _, given = kind.lstrip(ROW).partition("<")
+    if head == "Result":
+        return f"made_{title(given)}"
+    head = head.split(",")[0]
     return TITLES.get(head) or re.sub(r"(?<=[a-z])(?=[A-Z])", "_", head).lower()

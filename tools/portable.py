@@ -58,6 +58,8 @@ HEAP = ("rattle_alloc", "rattle_realloc", "rattle_dealloc")
 # a product by this is a key's hash
 FACTOR = "-7046029254386353067"
 ADDRESS_AND_NUMBER = rf"getelementptr (?:(?:inbounds|nuw|nusw) )*i8, ptr ({VALUE}), i64 (-?\d+)$"
+# numbers of things of 8 and of 24 bytes for which no block of memory has room
+TOO_MANY = {((1 << 63) - 1) // size + 1: size for size in (8, 24)}
 # what the optimiser appends to a name
 APPENDED = "i\\d*|sroa|sroa_idx|copyload|fca|extract|insert|pre-phi|pre|not|le|lcssa|unr|ph|preheader|fr|pn"
 INSERTED = rf"insertvalue ({TYPE}) ({VALUE}), ({TYPE}) ({VALUE}), (\d+)$"
@@ -118,12 +120,15 @@ def constant(number, kind):
     """A number as this type has it: none is negative."""
     number %= 1 << bits(kind)
     if bits(kind) == 128:
-        return (
-            f"u128_of({number}u)" if number < 1 << 31 else f"u128_two(UINT64_C({number >> 64}), UINT64_C({number % (1 << 64)}))"
-        )
+        parts = [constant(it, "i64") for it in (number >> 64, number)]
+        return f"u128_of({number}u)" if number < 1 << 31 else f"u128_two({parts[0]}, {parts[1]})"
     if number < 1 << 31:
         return str(number)
-    return f"UINT64_C({number})" if bits(kind) == 64 else f"{number}u"
+    if bits(kind) < 64:
+        return f"{number}u"
+    if number in TOO_MANY:
+        return f"TOO_MANY({TOO_MANY[number]})"
+    return "UINT64_MAX" if number == (1 << 64) - 1 else f"UINT64_C({number})"
 
 
 def nothing(kind):
@@ -193,12 +198,14 @@ class Printer:
         self.structs.setdefault(tuple(fields_of(kind)), kind)
         return struct_name(kind)
 
-    def constant(self, number, kind):
+    def constant(self, number, kind, is_returned=False):
         """A number, by the name that the sources give it, if any."""
-        name = self.origins.constants.get(number % (1 << bits(kind))) if kind == "i64" else None
+        number %= 1 << bits(kind)
+        status = self.origins.statuses.get(number) if is_returned and bits(kind) in (32, 64) else None
+        name = status or self.origins.constants.get((kind, number))
         if not name:
             return constant(number, kind)
-        self.defined[name] = constant(number, kind)
+        self.defined[name] = constant(number, "i32" if status else kind)
         return name
 
     def size(self, kind):
@@ -216,6 +223,8 @@ class Printer:
             places = {field or "address": at for at, (field, _) in layouts.fields(kind).items()} | {"size": layouts.size(kind)}
             words = ",\n".join(f"{STEP}{name}_{it} = {at}".upper() for it, at in places.items())
             yield from [*self.origins.about(kind), "enum {", words, "};"]
+        if self.defined:
+            yield "// Numbers that the sources name. Statuses are those of intmap.h, without a sign.\n"
         yield from (f"#define {name} {number}" for name, number in self.defined.items())
         yield ""
 
@@ -229,6 +238,7 @@ class FunctionInC:
         # blocks that only return: each way to one ends with a return of its own. With that clang would save one register
         # more in calls of C that return a struct
         is_apart = self.is_call_of_c and function.result[0] == "{"
+        self.returned = function.returned()
         self.ends = {it for it, lines in function.blocks.items() if not is_apart and all(ENDS.match(line) for line in lines)}
         self.graph.joins -= self.ends
         self.name, self.taken, self.names, self.types = printer.name(function.name), set(), {}, {}
@@ -262,8 +272,8 @@ class FunctionInC:
         self.variables.setdefault(value)
         return self.variable(value)
 
-    def operand(self, text, kind, is_whole_wanted=True):
-        """What an instruction takes, as an expression. What waits for this use is printed here."""
+    def operand(self, text, kind, is_whole_wanted=True, result=None):
+        """What an instruction takes for its result, as an expression. What waits for this use is printed here."""
         text = text.strip()
         if text[0] == "%":
             return self.used(bare(text), is_whole_wanted)
@@ -275,7 +285,7 @@ class FunctionInC:
             return text
         if number := re.fullmatch(r"inttoptr \(i64 (-?\d+) to ptr\)", text):
             return f"(char *)(uintptr_t){self.printer.constant(int(number[1]), 'i64')}"
-        return "(char *)no_bytes" if text[0] == "@" else self.printer.constant(int(text), kind)
+        return "(char *)no_bytes" if text[0] == "@" else self.printer.constant(int(text), kind, result in self.returned)
 
     def used(self, value, is_whole_wanted):
         if value in self.made:
@@ -290,7 +300,8 @@ class FunctionInC:
 
     def made_struct(self, value):
         kind, parts = self.made[value]
-        return f"made_{self.printer.struct(kind)}({', '.join(self.operand(part, it, False) for part, it in zip(parts, fields_of(kind)))})"
+        texts = [self.operand(part, it, False, value) for part, it in zip(parts, fields_of(kind))]
+        return f"made_{self.printer.struct(kind)}({', '.join(texts)})"
 
     def condition(self, text, is_contrary):
         value = bare(text)
@@ -317,7 +328,8 @@ class FunctionInC:
             kind, text = self.converted(word, line, is_contrary)
         elif word == "select":
             test, kind, one, other = groups_of(rf"select i1 ({VALUE}), ({TYPE}) ({VALUE}), {TYPE} ({VALUE})$", line)
-            text = f"{self.operand(test, 'i1')} ? {self.operand(one, kind)} : {self.operand(other, kind)}"
+            parts = [self.operand(it, kind, result=value) for it in (one, other)]
+            text = f"{self.operand(test, 'i1')} ? {parts[0]} : {parts[1]}"
         elif word == "freeze":
             kind, one = groups_of(rf"freeze ({TYPE}) ({VALUE})$", line)
             text = self.operand(one, kind, False)
@@ -378,8 +390,12 @@ class FunctionInC:
         left = self.operand(one, kind)
         if kind == "i64" and word == "add" and re.match(r"-\d", other):
             return kind, f"{left} - {constant(-int(other), kind)}"
+        if kind == "i64" and word == "xor" and other == "-1":
+            return kind, f"~{left}"
         skipped = self.printer.places.stride_name(self.function, value) if word == "mul" else None
         right = self.printer.size(skipped) if skipped else self.operand(other, kind)
+        if word == "and" and re.match(r"\d{10,}$", other):
+            right = f"UINT64_C(0x{int(other):X})"
         if kind == "i1":
             return kind, f"{left} {known(OF_TESTS, word, line)} {right}"
         # C computes with numbers of at least 32 bits, and with signs if they are shorter
@@ -432,7 +448,9 @@ class FunctionInC:
             return "abort();"
         moves = next((it for start, it in MOVES.items() if name.startswith(f"{start}.p0")), None)
         if moves:
-            return f"{moves}({', '.join(given[:3])});"
+            address = re.search(rf"({VALUE})$", parted(places)[0])[1]
+            kind = self.printer.places.kind_of(self.function, address, int(given[2])) if given[2].isdigit() else None
+            return f"{moves}({', '.join(given[:2])}, {self.printer.size(kind) if kind else given[2]});"
         if self.printer.places.is_for_a_map(self.function, value):
             if given[0] != str(self.printer.origins.layouts.size(MAP)):
                 raise SystemExit(f"portable: a map has {given[0]} bytes, and in the sources another number")
@@ -539,7 +557,7 @@ class FunctionInC:
             if not self.function.uses.get(value):
                 continue
             text = cases[block]
-            text = "0" if text in ("poison", "undef") and kind[0] == "i" else self.operand(text, kind, False)
+            text = "0" if text in ("poison", "undef") and kind[0] == "i" else self.operand(text, kind, False, value)
             name = self.assigned(value)
             if text != name:
                 left.append((name, kind, text))
@@ -638,13 +656,13 @@ class FunctionInC:
             code = self.function.made_by.get(bare(whole), "")
         if parts:
             self.made[bare(value)] = (kind, [parts.get(at, "poison") for at in range(len(fields_of(kind)))])
-        return f"return {self.operand(given.get(bare(value), value), kind, False)};"
+        return f"return {self.operand(given.get(bare(value), value), kind, False, bare(value))};"
 
     def switch(self, block, last, following):
         kind, value, otherwise, cases = groups_of(rf"switch ({TYPE}) ({VALUE}), label (%{NAME}) \[ (.*) \]$", last)
         out, goes_on = [f"switch ({self.operand(value, kind, False)}) {{"], False
         ways = [
-            (f"case {constant(int(number), kind)}:", target)
+            (f"case {self.printer.constant(int(number), kind)}:", target)
             for number, target in re.findall(rf"{TYPE} (-?\d+), label (%{NAME})", cases)
         ]
         for head, target in [*ways, ("default:", otherwise)]:

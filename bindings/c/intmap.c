@@ -216,6 +216,9 @@ static inline uint64_t sum_or_most(uint64_t one, uint64_t other) {
     return one > ~other ? UINT64_MAX : one + other;
 }
 
+// The least number of things of a size that take 2^63 bytes or more. No block of memory is so long.
+#define TOO_MANY(size) ((uint64_t)INT64_MAX / (size) + 1)
+
 // Numbers of 128 bits, which only the load factor needs.
 
 #if HAS_ADDITIONS && defined(__SIZEOF_INT128__)
@@ -379,8 +382,29 @@ static inline void rattle_dealloc(char *block) {
 
 // Where the fields of structs lie, by the names of the sources, and how many bytes a struct has.
 
+// Result<IntMap<u64, u64, Global>, Cause>
+enum {
+    MADE_INT_MAP_HAS_FAILED = 0,
+    MADE_INT_MAP_CAUSE = 1,
+    MADE_INT_MAP_MASK = 8,
+    MADE_INT_MAP_WORDS = 16,
+    MADE_INT_MAP_WORDS_LEN = 24,
+    MADE_INT_MAP_WORDS_ROOM = 32,
+    MADE_INT_MAP_SLOTS = 40,
+    MADE_INT_MAP_SLOTS_LEN = 48,
+    MADE_INT_MAP_SLOTS_ROOM = 56,
+    MADE_INT_MAP_NODES = 64,
+    MADE_INT_MAP_NODES_LEN = 72,
+    MADE_INT_MAP_NODES_ROOM = 80,
+    MADE_INT_MAP_FREE = 88,
+    MADE_INT_MAP_SPARE = 96,
+    MADE_INT_MAP_LEN = 104,
+    MADE_INT_MAP_THRESHOLD = 112,
+    MADE_INT_MAP_FACTOR = 120,
+    MADE_INT_MAP_SIZE = 128
+};
 // A hash map from integer keys to values.
-// IntMap<u64, u64, Global>, in crates/intmap/src/map.rt
+// IntMap<u64, u64>, in crates/intmap/src/map.rt
 enum {
     INT_MAP_MASK = 0,
     INT_MAP_WORDS = 8,
@@ -399,6 +423,23 @@ enum {
     INT_MAP_FACTOR = 112,
     INT_MAP_SIZE = 120
 };
+// Result<Slots<u64, Kept<u64>, Global>, AllocError>
+enum {
+    MADE_SLOTS_HAS_FAILED = 0,
+    MADE_SLOTS_MASK = 8,
+    MADE_SLOTS_WORDS = 16,
+    MADE_SLOTS_WORDS_LEN = 24,
+    MADE_SLOTS_WORDS_ROOM = 32,
+    MADE_SLOTS_SLOTS = 40,
+    MADE_SLOTS_SLOTS_LEN = 48,
+    MADE_SLOTS_SLOTS_ROOM = 56,
+    MADE_SLOTS_NODES = 64,
+    MADE_SLOTS_NODES_LEN = 72,
+    MADE_SLOTS_NODES_ROOM = 80,
+    MADE_SLOTS_FREE = 88,
+    MADE_SLOTS_SPARE = 96,
+    MADE_SLOTS_SIZE = 104
+};
 // Slots, the nodes of their further pairs, and one bit for each slot, which says whether it holds a pair.
 // Slots<u64, Kept<u64>, Global>, in crates/intmap_table/src/table/slots.rt
 enum {
@@ -415,6 +456,23 @@ enum {
     SLOTS_FREE = 80,
     SLOTS_SPARE = 88,
     SLOTS_SIZE = 96
+};
+// Slots, whose number is a power of two.
+// Table<u64, Kept<u64>, A>, in crates/intmap_table/src/table.rt
+enum {
+    TABLE_MASK = 0,
+    TABLE_WORDS = 8,
+    TABLE_WORDS_LEN = 16,
+    TABLE_WORDS_ROOM = 24,
+    TABLE_SLOTS = 32,
+    TABLE_SLOTS_LEN = 40,
+    TABLE_SLOTS_ROOM = 48,
+    TABLE_NODES = 56,
+    TABLE_NODES_LEN = 64,
+    TABLE_NODES_ROOM = 72,
+    TABLE_FREE = 80,
+    TABLE_SPARE = 88,
+    TABLE_SIZE = 96
 };
 // Nodes, and a list of those without a pair.
 // Pool<P, Global>, in crates/intmap_table/src/linked/pool.rt
@@ -462,7 +520,22 @@ enum {
     CURSOR_PLACE = 8,
     CURSOR_SIZE = 16
 };
+// (Stored<u64>, Kept<u64>)
+enum {
+    PAIR_KEY = 0,
+    PAIR_VALUE = 8,
+    PAIR_SIZE = 16
+};
+// Numbers that the sources name. Statuses are those of intmap.h, without a sign.
+
 #define MULTIPLIER UINT64_C(11400714819323198549)
+#define NODE_LIMIT UINT64_C(281470681743360)
+#define NOWHERE UINT64_C(281474976710655)
+#define NOWHERE_HIGH 65535
+#define NO_MEMORY 4294967295u
+#define TOO_LARGE 4294967294u
+#define GREATEST_CAPACITY UINT64_C(9223372036854775808)
+#define NOWHERE_LOW 4294967295u
 
 static ALWAYS_INLINE uint64_t chain_seek(char *pool, uint64_t from, uint64_t place);
 static ALWAYS_INLINE struct byte_address intmap_get_counted(char *map, uint64_t key);
@@ -471,7 +544,7 @@ static ALWAYS_INLINE uint64_t chain_swap_behind(uint64_t link, char *pool, uint6
 static ALWAYS_INLINE void slots_clone(char *result, char *map);
 static ALWAYS_INLINE void pool_append(char *result, char *nodes_at, uint64_t link, uint64_t a3, uint64_t a4);
 static COLD bool vec_grow_amortized(char *nodes_at);
-static ALIGNED uint32_t make_keep(char *handle, char *a1);
+static ALIGNED uint32_t make_keep(char *handle, char *made);
 static ALIGNED void intmap_with_slots(char *result, uint64_t slots);
 static ALIGNED void slots_new(char *result, uint64_t capacity, uint64_t room);
 static ALIGNED NOINLINE struct byte_address handle_make_first(void);
@@ -558,7 +631,7 @@ static ALWAYS_INLINE struct byte_address intmap_get_counted(char *map, uint64_t 
                 return made_byte_address(0, NULL);
             }
             if (load64(node + NODE_KEY) == key) {
-                if (r2_0 == UINT64_C(18446744073709551615)) {
+                if (r2_0 == UINT64_MAX) {
                     r11 = slot;
                     break;
                 }
@@ -604,7 +677,7 @@ static ALIGNED NOINLINE struct word_word row_take_first_of_several(char *slot, c
     store16(node + NODE_HAS_PAIR, 0);
     store16(node + NODE_HIGH, (uint16_t)(free >> 32));
     store32(node + NODE_LOW, (uint32_t)free);
-    memset(node + NODE_KEY, 0, 16);
+    memset(node + NODE_KEY, 0, PAIR_SIZE);
     store64(pool + POOL_FREE, at);
     store64(pool + POOL_SPARE, load64(pool + POOL_SPARE) + 1);
     if (load8(slot + SLOT_HAS_PAIR) != 1) {
@@ -641,7 +714,7 @@ static ALWAYS_INLINE void slots_clone(char *result, char *map) {
     uint64_t slots_len, words_len, r7_pre_phi33, r19_2, r0_05, r18, r30, nodes_len, spare, r10, slots_len_2, index,
         r111, value, key, r0, r10_2, at, r10_3, key_2, value_2, next_index, mask;
     bool r12, r12_2;
-    char *r19, *words, *r9_45_0_ph34, *r8_2, *r26, *r31, *r8_3, *slots, *slot, *node, *r22;
+    char *r19, *words, *r9_45_0_ph34, *r8, *r26, *r31, *r8_2, *slots, *slot, *node, *r22;
     struct word_word block, block_2, block_3;
     uint16_t high, high_2, r48, r48_2;
     uint32_t low, r48_3;
@@ -650,21 +723,21 @@ static ALWAYS_INLINE void slots_clone(char *result, char *map) {
     char *r14 = (char *)r14_room;
     uint64_t r0_27_room[5];
     char *r0_27 = (char *)r0_27_room;
-    uint64_t r8_room[5];
-    char *r8 = (char *)r8_room;
-    memset(r8, 0, 40);
+    uint64_t nodes_at_room[5];
+    char *nodes_at = (char *)nodes_at_room;
+    memset(nodes_at, 0, POOL_SIZE);
     slots_len = load64(map + INT_MAP_SLOTS_LEN);
     r12 = slots_len == 0;
     if (!r12) {
-        if (slots_len < UINT64_C(384307168202282326)) {
+        if (slots_len < TOO_MANY(24)) {
             block = rattle_alloc(slots_len * 24, 8);
             if ((block.first & 1) != 0) {
                 r19 = (char *)(uintptr_t)block.second;
                 goto arm_1;
             }
         }
-        store8(result, 1);
-        memset(result + 8, 0, 96);
+        store8(result + MADE_SLOTS_HAS_FAILED, 1);
+        memset(result + MADE_SLOTS_MASK, 0, SLOTS_SIZE);
         return;
     }
     r19 = dangling;
@@ -673,23 +746,23 @@ arm_1:;
     words_len = load64(map + INT_MAP_WORDS_LEN);
     r12_2 = words_len == 0;
     if (!r12_2) {
-        if (words_len < UINT64_C(1152921504606846976)) {
+        if (words_len < TOO_MANY(8)) {
             r19_2 = words_len << 3;
             block_2 = rattle_alloc(r19_2, 8);
             if ((block_2.first & 1) != 0) {
-                r8_2 = (char *)(uintptr_t)block_2.second;
+                r8 = (char *)(uintptr_t)block_2.second;
                 if ((block_2.second - ((uint64_t)(uintptr_t)words)) >= r19_2) {
-                    r9_45_0_ph34 = r8_2;
+                    r9_45_0_ph34 = r8;
                     r7_pre_phi33 = r19_2;
                     goto apart_2;
                 }
                 r0_05 = 0;
                 for (;;) {
                     r18 = r0_05 << 3;
-                    store64(r8_2 + r18, load64(words + r18));
+                    store64(r8 + r18, load64(words + r18));
                     r30 = r0_05 + 1;
                     if (r30 == words_len) {
-                        r26 = r8_2;
+                        r26 = r8;
                         goto arm_5;
                     }
                     r0_05 = r30;
@@ -699,8 +772,8 @@ arm_1:;
         if (!r12) {
             rattle_dealloc(r19);
         }
-        store8(result, 1);
-        memset(result + 8, 0, 96);
+        store8(result + MADE_SLOTS_HAS_FAILED, 1);
+        memset(result + MADE_SLOTS_MASK, 0, SLOTS_SIZE);
         return;
     }
     r9_45_0_ph34 = dangling;
@@ -713,15 +786,15 @@ arm_5:;
     spare = load64(map + INT_MAP_SPARE);
     r10 = nodes_len - spare;
     if (nodes_len != spare) {
-        if (r10 < UINT64_C(384307168202282326)) {
+        if (r10 < TOO_MANY(24)) {
             block_3 = rattle_alloc(r10 * 24, 8);
             if ((block_3.first & 1) != 0) {
-                r8_3 = (char *)(uintptr_t)block_3.second;
-                if (r10 <= UINT64_C(281470681743360)) {
-                    r31 = r8_3;
+                r8_2 = (char *)(uintptr_t)block_3.second;
+                if (r10 <= NODE_LIMIT) {
+                    r31 = r8_2;
                     goto arm_8;
                 }
-                rattle_dealloc(r8_3);
+                rattle_dealloc(r8_2);
             }
         }
         memset(r0_27, 0, 40);
@@ -731,18 +804,18 @@ arm_5:;
         if (!r12) {
             rattle_dealloc(r19);
         }
-        store8(result, 1);
-        memset(result + 8, 0, 56);
-        memcpy(result + 64, r0_27, 40);
+        store8(result + MADE_SLOTS_HAS_FAILED, 1);
+        memset(result + MADE_SLOTS_MASK, 0, 56);
+        memcpy(result + MADE_SLOTS_NODES, r0_27, POOL_SIZE);
         return;
     }
     r31 = dangling;
 arm_8:;
-    store_address(r8, r31);
-    store64(r8 + 8, 0);
-    store64(r8 + 16, r10);
-    store64(r8 + 24, UINT64_C(281474976710655));
-    store64(r8 + 32, 0);
+    store_address(nodes_at + POOL_NODES, r31);
+    store64(nodes_at + POOL_NODES_LEN, 0);
+    store64(nodes_at + POOL_NODES_ROOM, r10);
+    store64(nodes_at + POOL_FREE, NOWHERE);
+    store64(nodes_at + POOL_SPARE, 0);
     slots = load_address(map + INT_MAP_SLOTS);
     slots_len_2 = load64(map + INT_MAP_SLOTS_LEN);
     if (slots_len_2 != 0) {
@@ -755,10 +828,10 @@ arm_8:;
                 low = load32(slot + SLOT_LOW);
                 value = load64(slot + SLOT_VALUE);
                 key = load64(slot + SLOT_KEY);
-                if (high == 65535) {
-                    r0 = UINT64_C(281474976710655);
+                if (high == NOWHERE_HIGH) {
+                    r0 = NOWHERE;
                 } else {
-                    r10_2 = load64(r8 + 8) - load64(r8 + 32);
+                    r10_2 = load64(nodes_at + POOL_NODES_LEN) - load64(nodes_at + POOL_SPARE);
                     at = (((uint64_t)high) << 32) | ((uint64_t)low);
                     for (;;) {
                         if (load64(map + INT_MAP_NODES_LEN) <= at) {
@@ -772,11 +845,11 @@ arm_8:;
                         }
                         high_2 = load16(node + NODE_HIGH);
                         r10_3 = (((uint64_t)high_2) << 32) | ((uint64_t)load32(node + NODE_LOW));
-                        pool_append(r14, r8, (high_2 == 65535) ? UINT64_C(281474976710655) : ((load64(r8 + 8) + 1) - load64(r8 + 32)), load64(node + NODE_KEY), load64(node + NODE_VALUE));
+                        pool_append(r14, nodes_at, (high_2 == NOWHERE_HIGH) ? NOWHERE : ((load64(nodes_at + POOL_NODES_LEN) + 1) - load64(nodes_at + POOL_SPARE)), load64(node + NODE_KEY), load64(node + NODE_VALUE));
                         if (load8(r14) != 0) {
                             memset(r0_27, 0, 40);
-                            if (load64(r8 + 16) != 0) {
-                                rattle_dealloc(load_address(r8));
+                            if (load64(nodes_at + POOL_NODES_ROOM) != 0) {
+                                rattle_dealloc(load_address(nodes_at + POOL_NODES));
                             }
                             if (!r12_2) {
                                 rattle_dealloc(r26);
@@ -784,9 +857,9 @@ arm_8:;
                             if (!r12) {
                                 rattle_dealloc(r19);
                             }
-                            store8(result, 1);
-                            memset(result + 8, 0, 56);
-                            memcpy(result + 64, r0_27, 40);
+                            store8(result + MADE_SLOTS_HAS_FAILED, 1);
+                            memset(result + MADE_SLOTS_MASK, 0, 56);
+                            memcpy(result + MADE_SLOTS_NODES, r0_27, POOL_SIZE);
                             return;
                         }
                         at = r10_3;
@@ -818,15 +891,15 @@ arm_8:;
         }
     }
     mask = load64(map + INT_MAP_MASK);
-    store8(result, 0);
-    store64(result + 8, mask);
-    store_address(result + 16, r26);
-    store64(result + 24, words_len);
-    store64(result + 32, words_len);
-    store_address(result + 40, r19);
-    store64(result + 48, slots_len_2);
-    store64(result + 56, slots_len);
-    memcpy(result + 64, r8, 40);
+    store8(result + MADE_SLOTS_HAS_FAILED, 0);
+    store64(result + MADE_SLOTS_MASK, mask);
+    store_address(result + MADE_SLOTS_WORDS, r26);
+    store64(result + MADE_SLOTS_WORDS_LEN, words_len);
+    store64(result + MADE_SLOTS_WORDS_ROOM, words_len);
+    store_address(result + MADE_SLOTS_SLOTS, r19);
+    store64(result + MADE_SLOTS_SLOTS_LEN, slots_len_2);
+    store64(result + MADE_SLOTS_SLOTS_ROOM, slots_len);
+    memcpy(result + MADE_SLOTS_NODES, nodes_at, POOL_SIZE);
 }
 
 // Puts a pair with a link into a new node behind the others, if none is free, and returns which.
@@ -838,12 +911,12 @@ static ALWAYS_INLINE void pool_append(char *result, char *nodes_at, uint64_t lin
     nodes_len = load64(nodes_at + POOL_NODES_LEN);
     if (load64(nodes_at + POOL_NODES_ROOM) == nodes_len) {
         r24 = vec_grow_amortized(nodes_at);
-        if ((nodes_len != UINT64_C(281470681743360)) & r24) {
+        if ((nodes_len != NODE_LIMIT) & r24) {
             nodes_len_2 = load64(nodes_at + POOL_NODES_LEN);
             goto after_1;
         }
     } else {
-        if (nodes_len != UINT64_C(281470681743360)) {
+        if (nodes_len != NODE_LIMIT) {
             nodes_len_2 = nodes_len;
             goto after_1;
         }
@@ -870,7 +943,7 @@ static COLD bool vec_grow_amortized(char *nodes_at) {
     uint64_t nodes_len, nodes_room, x0, a2_a1, x1, common_ret_op;
     struct word_word block, r0, block_2;
     nodes_len = load64(nodes_at + POOL_NODES_LEN);
-    if (nodes_len == UINT64_C(18446744073709551615)) {
+    if (nodes_len == UINT64_MAX) {
         return false;
     }
     nodes_room = load64(nodes_at + POOL_NODES_ROOM);
@@ -878,7 +951,7 @@ static COLD bool vec_grow_amortized(char *nodes_at) {
     a2_a1 = x0 + 1;
     x1 = greater(a2_a1, nodes_room << 1);
     common_ret_op = (nodes_room < UINT64_C(4611686018427387904)) ? x1 : a2_a1;
-    if (common_ret_op >= UINT64_C(384307168202282326)) {
+    if (common_ret_op >= TOO_MANY(24)) {
         return false;
     }
     if (nodes_room == 0) {
@@ -901,54 +974,55 @@ static COLD bool vec_grow_amortized(char *nodes_at) {
 
 // Puts a new map into the handle and returns `OK`.
 // intmap_c::make::keep, in crates/intmap_c/src/make.rt
-static ALIGNED uint32_t make_keep(char *handle, char *a1) {
-    char *r2_3, *r2_4, *r2_7, *r2_10, *map, *map_2, *words, *slots, *nodes;
-    uint64_t r2_5, r2_6, r2_8, r2_9, r2_11, r2_12, map_address, slots_room, nodes_room, words_room;
+static ALIGNED uint32_t make_keep(char *handle, char *made) {
+    char *mask, *words, *slots, *nodes, *map, *map_2, *words_2, *slots_2, *nodes_2;
+    uint64_t words_len, words_room, slots_len, slots_room, nodes_len, nodes_room, map_address, slots_room_2,
+        nodes_room_2, words_room_2;
     struct word_word block;
     uint64_t r2_room[2];
     char *r2 = (char *)r2_room;
     uint64_t r2_2_room[3];
     char *r2_2 = (char *)r2_2_room;
-    r2_3 = load_address(a1 + 8);
-    r2_4 = load_address(a1 + 16);
-    r2_5 = load64(a1 + 24);
-    r2_6 = load64(a1 + 32);
-    r2_7 = load_address(a1 + 40);
-    r2_8 = load64(a1 + 48);
-    r2_9 = load64(a1 + 56);
-    r2_10 = load_address(a1 + 64);
-    r2_11 = load64(a1 + 72);
-    r2_12 = load64(a1 + 80);
-    if (load8(a1) != 0) {
-        return (load8(a1 + 1) == 0) ? 4294967295u : 4294967294u;
+    mask = load_address(made + MADE_INT_MAP_MASK);
+    words = load_address(made + MADE_INT_MAP_WORDS);
+    words_len = load64(made + MADE_INT_MAP_WORDS_LEN);
+    words_room = load64(made + MADE_INT_MAP_WORDS_ROOM);
+    slots = load_address(made + MADE_INT_MAP_SLOTS);
+    slots_len = load64(made + MADE_INT_MAP_SLOTS_LEN);
+    slots_room = load64(made + MADE_INT_MAP_SLOTS_ROOM);
+    nodes = load_address(made + MADE_INT_MAP_NODES);
+    nodes_len = load64(made + MADE_INT_MAP_NODES_LEN);
+    nodes_room = load64(made + MADE_INT_MAP_NODES_ROOM);
+    if (load8(made + MADE_INT_MAP_HAS_FAILED) != 0) {
+        return (load8(made + MADE_INT_MAP_CAUSE) == 0) ? NO_MEMORY : TOO_LARGE;
     }
-    memcpy(r2, a1 + 88, 16);
-    memcpy(r2_2, a1 + 104, 24);
+    memcpy(r2, made + MADE_INT_MAP_FREE, 16);
+    memcpy(r2_2, made + MADE_INT_MAP_LEN, 24);
     block = rattle_alloc(INT_MAP_SIZE, 8);
     if ((block.first & 1) == 0) {
-        if (r2_6 != 0) {
-            rattle_dealloc(r2_4);
+        if (words_room != 0) {
+            rattle_dealloc(words);
         }
-        if (r2_9 != 0) {
-            rattle_dealloc(r2_7);
+        if (slots_room != 0) {
+            rattle_dealloc(slots);
         }
-        if (r2_12 == 0) {
-            return 4294967295u;
+        if (nodes_room == 0) {
+            return NO_MEMORY;
         }
-        rattle_dealloc(r2_10);
-        return 4294967295u;
+        rattle_dealloc(nodes);
+        return NO_MEMORY;
     }
     map = (char *)(uintptr_t)block.second;
-    store_address(map + INT_MAP_MASK, r2_3);
-    store_address(map + INT_MAP_WORDS, r2_4);
-    store64(map + INT_MAP_WORDS_LEN, r2_5);
-    store64(map + INT_MAP_WORDS_ROOM, r2_6);
-    store_address(map + INT_MAP_SLOTS, r2_7);
-    store64(map + INT_MAP_SLOTS_LEN, r2_8);
-    store64(map + INT_MAP_SLOTS_ROOM, r2_9);
-    store_address(map + INT_MAP_NODES, r2_10);
-    store64(map + INT_MAP_NODES_LEN, r2_11);
-    store64(map + INT_MAP_NODES_ROOM, r2_12);
+    store_address(map + INT_MAP_MASK, mask);
+    store_address(map + INT_MAP_WORDS, words);
+    store64(map + INT_MAP_WORDS_LEN, words_len);
+    store64(map + INT_MAP_WORDS_ROOM, words_room);
+    store_address(map + INT_MAP_SLOTS, slots);
+    store64(map + INT_MAP_SLOTS_LEN, slots_len);
+    store64(map + INT_MAP_SLOTS_ROOM, slots_room);
+    store_address(map + INT_MAP_NODES, nodes);
+    store64(map + INT_MAP_NODES_LEN, nodes_len);
+    store64(map + INT_MAP_NODES_ROOM, nodes_room);
     memcpy(map + INT_MAP_FREE, r2, 16);
     memcpy(map + INT_MAP_LEN, r2_2, 24);
     map_address = load64(handle);
@@ -957,23 +1031,23 @@ static ALIGNED uint32_t make_keep(char *handle, char *a1) {
         return 0;
     }
     map_2 = (char *)(uintptr_t)map_address;
-    words = load_address(map_2 + INT_MAP_WORDS);
-    slots = load_address(map_2 + INT_MAP_SLOTS);
-    slots_room = load64(map_2 + INT_MAP_SLOTS_ROOM);
-    nodes = load_address(map_2 + INT_MAP_NODES);
-    nodes_room = load64(map_2 + INT_MAP_NODES_ROOM);
-    words_room = load64(map_2 + INT_MAP_WORDS_ROOM);
+    words_2 = load_address(map_2 + INT_MAP_WORDS);
+    slots_2 = load_address(map_2 + INT_MAP_SLOTS);
+    slots_room_2 = load64(map_2 + INT_MAP_SLOTS_ROOM);
+    nodes_2 = load_address(map_2 + INT_MAP_NODES);
+    nodes_room_2 = load64(map_2 + INT_MAP_NODES_ROOM);
+    words_room_2 = load64(map_2 + INT_MAP_WORDS_ROOM);
     rattle_dealloc(map_2);
-    if (words_room != 0) {
-        rattle_dealloc(words);
+    if (words_room_2 != 0) {
+        rattle_dealloc(words_2);
     }
-    if (slots_room != 0) {
-        rattle_dealloc(slots);
+    if (slots_room_2 != 0) {
+        rattle_dealloc(slots_2);
     }
-    if (nodes_room == 0) {
+    if (nodes_room_2 == 0) {
         return 0;
     }
-    rattle_dealloc(nodes);
+    rattle_dealloc(nodes_2);
     return 0;
 }
 
@@ -995,7 +1069,7 @@ static ALIGNED void intmap_with_slots(char *result, uint64_t slots) {
         r12_452_0_ph207 = dangling;
         r4_0 = 0;
     } else {
-        if (slots >= UINT64_C(384307168202282326)) {
+        if (slots >= TOO_MANY(24)) {
             r3_2 = 1;
             r4_2 = 0;
             r4_3 = NULL;
@@ -1068,25 +1142,25 @@ static ALIGNED void intmap_with_slots(char *result, uint64_t slots) {
     r4_6 = r12_452_0_ph207;
     slots_2 = slots;
     dangling_2 = dangling;
-    r4_7 = UINT64_C(281474976710655);
-    r4_8 = u128_above(r17, u128_two(UINT64_C(999), UINT64_C(18446744073709551615))) ? UINT64_C(18446744073709551615) : u128_low(u128_div(r17, u128_of(1000u)));
+    r4_7 = NOWHERE;
+    r4_8 = u128_above(r17, u128_two(999, UINT64_MAX)) ? UINT64_MAX : u128_low(u128_div(r17, u128_of(1000u)));
     r4_9 = 909;
 join_4:;
-    store8(result, r3_2);
-    store8(result + 1, 0);
-    store64(result + 8, r4_2);
-    store_address(result + 16, r4_3);
-    store64(result + 24, r4_4);
-    store64(result + 32, r4_5);
-    store_address(result + 40, r4_6);
-    store64(result + 48, slots_2);
-    store64(result + 56, slots_2);
-    store_address(result + 64, dangling_2);
-    memcpy(result + 72, r4, 16);
-    store64(result + 88, r4_7);
-    memset(result + 96, 0, 16);
-    store64(result + 112, r4_8);
-    store64(result + 120, r4_9);
+    store8(result + MADE_INT_MAP_HAS_FAILED, r3_2);
+    store8(result + MADE_INT_MAP_CAUSE, 0);
+    store64(result + MADE_INT_MAP_MASK, r4_2);
+    store_address(result + MADE_INT_MAP_WORDS, r4_3);
+    store64(result + MADE_INT_MAP_WORDS_LEN, r4_4);
+    store64(result + MADE_INT_MAP_WORDS_ROOM, r4_5);
+    store_address(result + MADE_INT_MAP_SLOTS, r4_6);
+    store64(result + MADE_INT_MAP_SLOTS_LEN, slots_2);
+    store64(result + MADE_INT_MAP_SLOTS_ROOM, slots_2);
+    store_address(result + MADE_INT_MAP_NODES, dangling_2);
+    memcpy(result + MADE_INT_MAP_NODES_LEN, r4, 16);
+    store64(result + MADE_INT_MAP_FREE, r4_7);
+    memset(result + MADE_INT_MAP_SPARE, 0, 16);
+    store64(result + MADE_INT_MAP_THRESHOLD, r4_8);
+    store64(result + MADE_INT_MAP_FACTOR, r4_9);
 }
 
 // `capacity` slots without a pair, and room for `room` pairs that share a slot with another.
@@ -1099,7 +1173,7 @@ static ALIGNED void slots_new(char *result, uint64_t capacity, uint64_t room) {
     char *dangling = (char *)no_bytes;
     r12 = capacity == 0;
     if (!r12) {
-        if (capacity < UINT64_C(384307168202282326)) {
+        if (capacity < TOO_MANY(24)) {
             block = rattle_alloc(capacity * 24, 8);
             if ((block.first & 1) != 0) {
                 r8 = (char *)(uintptr_t)block.second;
@@ -1108,8 +1182,8 @@ static ALIGNED void slots_new(char *result, uint64_t capacity, uint64_t room) {
                 block_2 = rattle_alloc(r19, 8);
                 if ((block_2.first & 1) == 0) {
                     rattle_dealloc(r8);
-                    store8(result, 1);
-                    memset(result + 8, 0, 96);
+                    store8(result + MADE_SLOTS_HAS_FAILED, 1);
+                    memset(result + MADE_SLOTS_MASK, 0, SLOTS_SIZE);
                     return;
                 }
                 r8_2 = (char *)(uintptr_t)block_2.second;
@@ -1127,8 +1201,8 @@ static ALIGNED void slots_new(char *result, uint64_t capacity, uint64_t room) {
                 goto arm_5;
             }
         }
-        store8(result, 1);
-        memset(result + 8, 0, 96);
+        store8(result + MADE_SLOTS_HAS_FAILED, 1);
+        memset(result + MADE_SLOTS_MASK, 0, SLOTS_SIZE);
         return;
     }
     r4_0 = 0;
@@ -1137,11 +1211,11 @@ static ALIGNED void slots_new(char *result, uint64_t capacity, uint64_t room) {
     r15_2 = 0;
 arm_5:;
     if (room != 0) {
-        if (room < UINT64_C(384307168202282326)) {
+        if (room < TOO_MANY(24)) {
             block_3 = rattle_alloc(room * 24, 8);
             if ((block_3.first & 1) != 0) {
                 r8_3 = (char *)(uintptr_t)block_3.second;
-                if (room <= UINT64_C(281470681743360)) {
+                if (room <= NODE_LIMIT) {
                     r18 = r8_3;
                     goto arm_8;
                 }
@@ -1152,8 +1226,8 @@ arm_5:;
             rattle_dealloc(r15);
             rattle_dealloc(r12_452_0_ph207);
         }
-        store8(result, 1);
-        memset(result + 8, 0, 96);
+        store8(result + MADE_SLOTS_HAS_FAILED, 1);
+        memset(result + MADE_SLOTS_MASK, 0, SLOTS_SIZE);
         return;
     }
     r18 = dangling;
@@ -1161,19 +1235,19 @@ arm_8:;
     if (!r12) {
         memset(r12_452_0_ph207, 0, capacity * 24);
     }
-    store8(result, 0);
-    store64(result + 8, capacity - 1);
-    store_address(result + 16, r15);
-    store64(result + 24, r15_2);
-    store64(result + 32, r4_0);
-    store_address(result + 40, r12_452_0_ph207);
-    store64(result + 48, capacity);
-    store64(result + 56, capacity);
-    store_address(result + 64, r18);
-    store64(result + 72, 0);
-    store64(result + 80, room);
-    store64(result + 88, UINT64_C(281474976710655));
-    store64(result + 96, 0);
+    store8(result + MADE_SLOTS_HAS_FAILED, 0);
+    store64(result + MADE_SLOTS_MASK, capacity - 1);
+    store_address(result + MADE_SLOTS_WORDS, r15);
+    store64(result + MADE_SLOTS_WORDS_LEN, r15_2);
+    store64(result + MADE_SLOTS_WORDS_ROOM, r4_0);
+    store_address(result + MADE_SLOTS_SLOTS, r12_452_0_ph207);
+    store64(result + MADE_SLOTS_SLOTS_LEN, capacity);
+    store64(result + MADE_SLOTS_SLOTS_ROOM, capacity);
+    store_address(result + MADE_SLOTS_NODES, r18);
+    store64(result + MADE_SLOTS_NODES_LEN, 0);
+    store64(result + MADE_SLOTS_NODES_ROOM, room);
+    store64(result + MADE_SLOTS_FREE, NOWHERE);
+    store64(result + MADE_SLOTS_SPARE, 0);
 }
 
 // Makes a new map, for which there may be no memory.
@@ -1211,7 +1285,7 @@ static ALIGNED NOINLINE struct byte_address handle_make_first(void) {
     store64(x0 + 48, 4);
     store_address(x0 + 56, dangling);
     memset(x0 + 64, 0, 16);
-    store64(x0 + 80, UINT64_C(281474976710655));
+    store64(x0 + 80, NOWHERE);
     memset(x0 + 88, 0, 16);
     store64(x0 + 104, 3);
     store64(x0 + 112, 909);
@@ -1221,18 +1295,18 @@ static ALIGNED NOINLINE struct byte_address handle_make_first(void) {
 // Adds the pair of an absent key, if the new length exceeds the load factor, and returns where it is.
 // intmap::map::IntMap::add_growing, in crates/intmap/src/map/insert.rt
 static ALIGNED NOINLINE void intmap_add_growing(char *result, char *map, uint64_t len, uint64_t slot, uint64_t key, uint64_t value) {
-    uint64_t slots_len, r0, r3_09, r31, r8_0, r2, index, nodes_len, r10_2, at, x2, r6_2, r2_2, r0_2, r1, r1_2, r1_3,
-        r26, r39, r1_4, r1_5, r49, r64, r1_017, r2_016, r10_3, slots_room, nodes_room, words_room, r10_4,
-        nodes_len_2, at_2, r2_016_2, r10_5, r11_4, r3_0, r12, r12_2, r17_4, r17_2;
+    uint64_t slots_len, r0, r3_09, r31, r8_0, r2, index, nodes_len, r10_2, at, x2, r6, words_len, bits, r1, r1_2,
+        r1_3, r26, bits_2, r1_4, r1_5, r49, r64, at_2, at_3, r10_3, slots_room, nodes_room, words_room, r10_4,
+        nodes_len_2, at_4, r2_016, r10_5, r11_2, r3_0, r12, r12_2, r17_4, r17_2;
     u128 r10, r13, r187, r15, r18, r17;
-    char *slot_2, *node, *r9, *r4_2, *r11_2, *r5, *r4_3, *r9_2, *r11_3, *words, *slots, *nodes, *slot_3, *nodes_2,
-        *node_2;
-    uint8_t r11, r17_3;
-    uint16_t r19, r19_2;
-    uint64_t r4_room[12];
-    char *r4 = (char *)r4_room;
-    uint64_t r6_room[13];
-    char *r6 = (char *)r6_room;
+    char *slot_2, *node, *slot_3, *words, *r11, *slots, *nodes, *slot_4, *node_2, *words_2, *slots_2, *nodes_2,
+        *slot_5, *nodes_3, *node_3;
+    uint8_t has_pair, r17_3;
+    uint16_t high, high_2;
+    uint64_t mask_at_room[12];
+    char *mask_at = (char *)mask_at_room;
+    uint64_t has_failed_at_room[13];
+    char *has_failed_at = (char *)has_failed_at_room;
     slots_len = load64(map + INT_MAP_SLOTS_LEN);
     r10 = u128_mul(u128_of(len), u128_of(1000u));
     r13 = u128_add(u128_of(load64(map + INT_MAP_FACTOR)), u128_of(1u));
@@ -1243,7 +1317,7 @@ static ALIGNED NOINLINE void intmap_add_growing(char *result, char *map, uint64_
     } else {
         r3_09 = slots_len;
         for (;;) {
-            if (r3_09 == UINT64_C(9223372036854775808)) {
+            if (r3_09 == GREATEST_CAPACITY) {
                 store64(result, 1);
                 store64(result + 8, value);
                 store8(result + 16, 1);
@@ -1262,10 +1336,10 @@ static ALIGNED NOINLINE void intmap_add_growing(char *result, char *map, uint64_
         }
     }
     r17 = u128_less_one(r15);
-    r8_0 = u128_above(r17, u128_two(UINT64_C(999), UINT64_C(18446744073709551615))) ? UINT64_C(18446744073709551615) : u128_low(u128_div(r17, u128_of(1000u)));
+    r8_0 = u128_above(r17, u128_two(999, UINT64_MAX)) ? UINT64_MAX : u128_low(u128_div(r17, u128_of(1000u)));
     r2 = r0 - 1;
     index = r2 & (key * MULTIPLIER);
-    memset(r6, 0, 104);
+    memset(has_failed_at, 0, MADE_SLOTS_SIZE);
     nodes_len = load64(map + INT_MAP_NODES_LEN);
     r10_2 = nodes_len - load64(map + INT_MAP_SPARE);
     slot_2 = load_address(map + INT_MAP_SLOTS) + (slot * SLOT_SIZE);
@@ -1293,51 +1367,51 @@ static ALIGNED NOINLINE void intmap_add_growing(char *result, char *map, uint64_
         x2 = r10_2;
     }
 after_Slots_needed:;
-    slots_new(r6, r0, x2);
-    if (load8(r6) == 0) {
-        memcpy(r4, r6 + 8, 96);
-        slots_move_all(map, r4);
-        r6_2 = index * SLOT_SIZE;
-        r9 = load_address(r4 + 32) + r6_2;
-        r11 = load8(r9);
-        if (r11 == 1) {
-            row_put_behind_first(r9, r4 + 56, key, value);
+    slots_new(has_failed_at, r0, x2);
+    if (load8(has_failed_at + MADE_SLOTS_HAS_FAILED) == 0) {
+        memcpy(mask_at, has_failed_at + MADE_SLOTS_MASK, SLOTS_SIZE);
+        slots_move_all(map, mask_at);
+        r6 = index * SLOT_SIZE;
+        slot_3 = load_address(mask_at + SLOTS_SLOTS) + r6;
+        has_pair = load8(slot_3 + SLOT_HAS_PAIR);
+        if (has_pair == 1) {
+            row_put_behind_first(slot_3, mask_at + SLOTS_NODES, key, value);
         } else {
-            store16(r9, 1);
-            store16(r9 + 2, 65535);
-            store32(r9 + 4, 4294967295u);
-            store64(r9 + 8, key);
-            store64(r9 + 16, value);
-            if (r11 != 0) {
+            store16(slot_3 + SLOT_HAS_PAIR, 1);
+            store16(slot_3 + SLOT_HIGH, NOWHERE_HIGH);
+            store32(slot_3 + SLOT_LOW, NOWHERE_LOW);
+            store64(slot_3 + SLOT_KEY, key);
+            store64(slot_3 + SLOT_VALUE, value);
+            if (has_pair != 0) {
                 abort();
             }
         }
-        r4_2 = load_address(r4 + 8);
-        r11_2 = r4_2 + ((index >> 3) & UINT64_C(2305843009213693944));
-        store64(r11_2, load64(r11_2) | ((uint64_t)1 << (index & 63)));
-        if (load64(r4 + 64) != load64(r4 + 88)) {
-            r2_2 = load64(r4 + 16);
-            if (r2_2 == 0) {
-                r0_2 = 0;
+        words = load_address(mask_at + SLOTS_WORDS);
+        r11 = words + ((index >> 3) & UINT64_C(0x1FFFFFFFFFFFFFF8));
+        store64(r11, load64(r11) | ((uint64_t)1 << (index & 63)));
+        if (load64(mask_at + SLOTS_NODES_LEN) != load64(mask_at + SLOTS_SPARE)) {
+            words_len = load64(mask_at + SLOTS_WORDS_LEN);
+            if (words_len == 0) {
+                bits = 0;
             } else {
-                r0_2 = load64(r4_2);
+                bits = load64(words);
             }
-            r5 = load_address(r4 + 32);
-            r4_3 = load_address(r4 + 56);
+            slots = load_address(mask_at + SLOTS_SLOTS);
+            nodes = load_address(mask_at + SLOTS_NODES);
             r1 = 0;
-            r1_2 = r0_2;
+            r1_2 = bits;
             for (;;) {
                 if (r1_2 == 0) {
                     r1_3 = r1;
                     for (;;) {
                         r26 = r1_3 + 1;
-                        if (r2_2 <= r26) {
+                        if (words_len <= r26) {
                             goto after_Slots_turn_each;
                         }
-                        r39 = load64(r4_2 + (r26 << 3));
-                        if (r39 != 0) {
+                        bits_2 = load64(words + (r26 << 3));
+                        if (bits_2 != 0) {
                             r1_4 = r26;
-                            r1_5 = r39;
+                            r1_5 = bits_2;
                             break;
                         }
                         r1_3 = r26;
@@ -1348,31 +1422,31 @@ after_Slots_needed:;
                 }
                 r49 = low_zeros(r1_5);
                 r64 = (r1_5 - 1) & r1_5;
-                r9_2 = r5 + ((r49 | (r1_4 << 6)) * 24);
-                if (load8(r9_2) == 1) {
-                    r19 = load16(r9_2 + 2);
-                    if (r19 != 65535) {
-                        r1_017 = UINT64_C(281474976710655);
-                        r2_016 = (((uint64_t)r19) << 32) | ((uint64_t)load32(r9_2 + 4));
+                slot_4 = slots + ((r49 | (r1_4 << 6)) * SLOT_SIZE);
+                if (load8(slot_4 + SLOT_HAS_PAIR) == 1) {
+                    high = load16(slot_4 + SLOT_HIGH);
+                    if (high != NOWHERE_HIGH) {
+                        at_2 = NOWHERE;
+                        at_3 = (((uint64_t)high) << 32) | ((uint64_t)load32(slot_4 + SLOT_LOW));
                         for (;;) {
-                            r11_3 = r4_3 + (r2_016 * 24);
-                            if (load8(r11_3) != 1) {
+                            node_2 = nodes + (at_3 * NODE_SIZE);
+                            if (load8(node_2 + NODE_HAS_PAIR) != 1) {
                                 abort();
                             }
-                            r19_2 = load16(r11_3 + 2);
-                            r10_3 = (((uint64_t)r19_2) << 32) | ((uint64_t)load32(r11_3 + 4));
-                            store16(r11_3 + 2, (uint16_t)(r1_017 >> 32));
-                            store32(r11_3 + 4, (uint32_t)r1_017);
-                            if (r19_2 == 65535) {
-                                if (load8(r9_2) != 1) {
+                            high_2 = load16(node_2 + NODE_HIGH);
+                            r10_3 = (((uint64_t)high_2) << 32) | ((uint64_t)load32(node_2 + NODE_LOW));
+                            store16(node_2 + NODE_HIGH, (uint16_t)(at_2 >> 32));
+                            store32(node_2 + NODE_LOW, (uint32_t)at_2);
+                            if (high_2 == NOWHERE_HIGH) {
+                                if (load8(slot_4 + SLOT_HAS_PAIR) != 1) {
                                     abort();
                                 }
-                                store16(r9_2 + 2, (uint16_t)(r2_016 >> 32));
-                                store32(r9_2 + 4, (uint32_t)r2_016);
+                                store16(slot_4 + SLOT_HIGH, (uint16_t)(at_3 >> 32));
+                                store32(slot_4 + SLOT_LOW, (uint32_t)at_3);
                                 break;
                             }
-                            r1_017 = r2_016;
-                            r2_016 = r10_3;
+                            at_2 = at_3;
+                            at_3 = r10_3;
                         }
                     }
                 }
@@ -1381,50 +1455,50 @@ after_Slots_needed:;
             }
         }
     after_Slots_turn_each:;
-        words = load_address(map + INT_MAP_WORDS);
-        slots = load_address(map + INT_MAP_SLOTS);
+        words_2 = load_address(map + INT_MAP_WORDS);
+        slots_2 = load_address(map + INT_MAP_SLOTS);
         slots_room = load64(map + INT_MAP_SLOTS_ROOM);
-        nodes = load_address(map + INT_MAP_NODES);
+        nodes_2 = load_address(map + INT_MAP_NODES);
         nodes_room = load64(map + INT_MAP_NODES_ROOM);
         words_room = load64(map + INT_MAP_WORDS_ROOM);
-        memcpy(map, r4, 96);
+        memcpy(map, mask_at, TABLE_SIZE);
         if (words_room != 0) {
-            rattle_dealloc(words);
+            rattle_dealloc(words_2);
         }
         if (slots_room != 0) {
-            rattle_dealloc(slots);
+            rattle_dealloc(slots_2);
         }
         if (nodes_room != 0) {
-            rattle_dealloc(nodes);
+            rattle_dealloc(nodes_2);
         }
-        slot_3 = load_address(map + INT_MAP_SLOTS) + r6_2;
-        if (load8(slot_3 + SLOT_HAS_PAIR) == 1) {
-            r10_4 = (((uint64_t)load16(slot_3 + SLOT_HIGH)) << 32) | ((uint64_t)load32(slot_3 + SLOT_LOW));
+        slot_5 = load_address(map + INT_MAP_SLOTS) + r6;
+        if (load8(slot_5 + SLOT_HAS_PAIR) == 1) {
+            r10_4 = (((uint64_t)load16(slot_5 + SLOT_HIGH)) << 32) | ((uint64_t)load32(slot_5 + SLOT_LOW));
             nodes_len_2 = load64(map + INT_MAP_NODES_LEN);
             if (nodes_len_2 > r10_4) {
-                nodes_2 = load_address(map + INT_MAP_NODES);
-                at_2 = r10_4;
-                r2_016_2 = 0;
+                nodes_3 = load_address(map + INT_MAP_NODES);
+                at_4 = r10_4;
+                r2_016 = 0;
                 for (;;) {
-                    node_2 = nodes_2 + (at_2 * NODE_SIZE);
-                    if (load8(node_2 + NODE_HAS_PAIR) != 1) {
-                        r3_0 = r2_016_2;
+                    node_3 = nodes_3 + (at_4 * NODE_SIZE);
+                    if (load8(node_3 + NODE_HAS_PAIR) != 1) {
+                        r3_0 = r2_016;
                         break;
                     }
-                    r10_5 = (((uint64_t)load16(node_2 + NODE_HIGH)) << 32) | ((uint64_t)load32(node_2 + NODE_LOW));
-                    r11_4 = r2_016_2 + 1;
+                    r10_5 = (((uint64_t)load16(node_3 + NODE_HIGH)) << 32) | ((uint64_t)load32(node_3 + NODE_LOW));
+                    r11_2 = r2_016 + 1;
                     if (nodes_len_2 <= r10_5) {
-                        r3_0 = r11_4;
+                        r3_0 = r11_2;
                         break;
                     }
-                    at_2 = r10_5;
-                    r2_016_2 = r11_4;
+                    at_4 = r10_5;
+                    r2_016 = r11_2;
                 }
             } else {
                 r3_0 = 0;
             }
         } else {
-            r3_0 = UINT64_C(18446744073709551615);
+            r3_0 = UINT64_MAX;
         }
         store64(map + INT_MAP_LEN, len);
         store64(map + INT_MAP_THRESHOLD, r8_0);
@@ -1501,9 +1575,9 @@ loop_2:;
         }
         key = load_key(slot + SLOT_KEY);
         index = (key * MULTIPLIER) & load64(new_ + SLOTS_MASK);
-        if (load16(slot + SLOT_HIGH) == 65535) {
+        if (load16(slot + SLOT_HIGH) == NOWHERE_HIGH) {
             value = load64(slot + SLOT_VALUE);
-            memset(slot, 0, 24);
+            memset(slot, 0, SLOT_SIZE);
             r18 = made_word_word(key, value);
         } else {
             r24 = row_take_first_of_several_2(slot, map + INT_MAP_NODES);
@@ -1515,15 +1589,15 @@ loop_2:;
             row_put_behind_first(slot_2, new_ + SLOTS_NODES, r18.first, r18.second);
         } else {
             store16(slot_2 + SLOT_HAS_PAIR, 1);
-            store16(slot_2 + SLOT_HIGH, 65535);
-            store32(slot_2 + SLOT_LOW, 4294967295u);
+            store16(slot_2 + SLOT_HIGH, NOWHERE_HIGH);
+            store32(slot_2 + SLOT_LOW, NOWHERE_LOW);
             store64(slot_2 + SLOT_KEY, r18.first);
             store64(slot_2 + SLOT_VALUE, r18.second);
             if (has_pair != 0) {
                 abort();
             }
         }
-        r11 = load_address(new_ + SLOTS_WORDS) + ((index >> 3) & UINT64_C(2305843009213693944));
+        r11 = load_address(new_ + SLOTS_WORDS) + ((index >> 3) & UINT64_C(0x1FFFFFFFFFFFFFF8));
         store64(r11, load64(r11) | ((uint64_t)1 << (index & 63)));
         for (;;) {
             switch (load8(slot + SLOT_HAS_PAIR)) {
@@ -1534,9 +1608,9 @@ loop_2:;
             case 1:
                 key_2 = load_key(slot + SLOT_KEY);
                 index_2 = (key_2 * MULTIPLIER) & load64(new_ + SLOTS_MASK);
-                if (load16(slot + SLOT_HIGH) == 65535) {
+                if (load16(slot + SLOT_HIGH) == NOWHERE_HIGH) {
                     value_2 = load64(slot + SLOT_VALUE);
-                    memset(slot, 0, 24);
+                    memset(slot, 0, SLOT_SIZE);
                     r18_2 = made_word_word(key_2, value_2);
                 } else {
                     r24_2 = row_take_first_of_several_2(slot, map + INT_MAP_NODES);
@@ -1548,15 +1622,15 @@ loop_2:;
                     row_put_behind_first(slot_3, new_ + SLOTS_NODES, r18_2.first, r18_2.second);
                 } else {
                     store16(slot_3 + SLOT_HAS_PAIR, 1);
-                    store16(slot_3 + SLOT_HIGH, 65535);
-                    store32(slot_3 + SLOT_LOW, 4294967295u);
+                    store16(slot_3 + SLOT_HIGH, NOWHERE_HIGH);
+                    store32(slot_3 + SLOT_LOW, NOWHERE_LOW);
                     store64(slot_3 + SLOT_KEY, r18_2.first);
                     store64(slot_3 + SLOT_VALUE, r18_2.second);
                     if (has_pair_2 != 0) {
                         abort();
                     }
                 }
-                r11_2 = load_address(new_ + SLOTS_WORDS) + ((index_2 >> 3) & UINT64_C(2305843009213693944));
+                r11_2 = load_address(new_ + SLOTS_WORDS) + ((index_2 >> 3) & UINT64_C(0x1FFFFFFFFFFFFFF8));
                 store64(r11_2, load64(r11_2) | ((uint64_t)1 << (index_2 & 63)));
                 break;
             default:
@@ -1589,7 +1663,7 @@ static ALIGNED NOINLINE struct word_word row_take_first_of_several_2(char *slot,
     store16(node + NODE_HAS_PAIR, 0);
     store16(node + NODE_HIGH, (uint16_t)(free >> 32));
     store32(node + NODE_LOW, (uint32_t)free);
-    memset(node + NODE_KEY, 0, 16);
+    memset(node + NODE_KEY, 0, PAIR_SIZE);
     store64(pool + POOL_FREE, at);
     store64(pool + POOL_SPARE, load64(pool + POOL_SPARE) + 1);
     if (load8(slot + SLOT_HAS_PAIR) != 1) {
@@ -1607,49 +1681,49 @@ static ALIGNED NOINLINE struct word_word row_take_first_of_several_2(char *slot,
 // Puts a pair behind the first one of a slot that holds some.
 // intmap_table::linked::row::put_behind_first, in crates/intmap_table/src/linked/row.rt
 static ALIGNED NOINLINE void row_put_behind_first(char *slot, char *pool, uint64_t a2, uint64_t a3) {
-    uint16_t r19;
-    uint32_t r21;
+    uint16_t high;
+    uint32_t low;
     uint64_t spare, r6, free;
-    char *r11;
-    uint8_t r15;
+    char *node;
+    uint8_t has_pair;
     uint64_t r0_room[3];
     char *r0 = (char *)r0_room;
-    if (load8(slot) != 1) {
+    if (load8(slot + SLOT_HAS_PAIR) != 1) {
         abort();
     }
-    r19 = load16(slot + 2);
-    r21 = load32(slot + 4);
+    high = load16(slot + SLOT_HIGH);
+    low = load32(slot + SLOT_LOW);
     spare = load64(pool + POOL_SPARE);
     if (spare == 0) {
-        pool_append(r0, pool, (((uint64_t)r19) << 32) | ((uint64_t)r21), a2, a3);
+        pool_append(r0, pool, (((uint64_t)high) << 32) | ((uint64_t)low), a2, a3);
         if (load8(r0) != 0) {
             abort();
         }
         r6 = load64(r0 + 8);
     } else {
         free = load64(pool + POOL_FREE);
-        r11 = load_address(pool + POOL_NODES) + (free * 24);
-        if (load8(r11) != 0) {
+        node = load_address(pool + POOL_NODES) + (free * NODE_SIZE);
+        if (load8(node + NODE_HAS_PAIR) != 0) {
             abort();
         }
-        store64(pool + POOL_FREE, (((uint64_t)load16(r11 + 2)) << 32) | ((uint64_t)load32(r11 + 4)));
+        store64(pool + POOL_FREE, (((uint64_t)load16(node + NODE_HIGH)) << 32) | ((uint64_t)load32(node + NODE_LOW)));
         store64(pool + POOL_SPARE, spare - 1);
-        r15 = load8(r11);
-        store16(r11, 1);
-        store16(r11 + 2, r19);
-        store32(r11 + 4, r21);
-        store64(r11 + 8, a2);
-        store64(r11 + 16, a3);
-        if (r15 != 0) {
+        has_pair = load8(node + NODE_HAS_PAIR);
+        store16(node + NODE_HAS_PAIR, 1);
+        store16(node + NODE_HIGH, high);
+        store32(node + NODE_LOW, low);
+        store64(node + NODE_KEY, a2);
+        store64(node + NODE_VALUE, a3);
+        if (has_pair != 0) {
             abort();
         }
         r6 = free;
     }
-    if (load8(slot) != 1) {
+    if (load8(slot + SLOT_HAS_PAIR) != 1) {
         abort();
     }
-    store16(slot + 2, (uint16_t)(r6 >> 32));
-    store32(slot + 4, (uint32_t)r6);
+    store16(slot + SLOT_HIGH, (uint16_t)(r6 >> 32));
+    store32(slot + SLOT_LOW, (uint32_t)r6);
 }
 
 // The last node of a chain, and its place there.
@@ -1664,7 +1738,7 @@ static ALWAYS_INLINE uint64_t chain_last_in(char *pool, uint64_t from) {
         abort();
     }
     high = load16(node + NODE_HIGH);
-    if (high == 65535) {
+    if (high == NOWHERE_HIGH) {
         return from;
     }
     at = (((uint64_t)high) << 32) | ((uint64_t)load32(node + NODE_LOW));
@@ -1674,7 +1748,7 @@ static ALWAYS_INLINE uint64_t chain_last_in(char *pool, uint64_t from) {
             abort();
         }
         high_2 = load16(node_2 + NODE_HIGH);
-        if (high_2 == 65535) {
+        if (high_2 == NOWHERE_HIGH) {
             return at;
         }
         at = (((uint64_t)high_2) << 32) | ((uint64_t)load32(node_2 + NODE_LOW));
@@ -1693,7 +1767,7 @@ static ALWAYS_INLINE struct word_word chain_last_in_2(char *pool, uint64_t from)
         abort();
     }
     high = load16(node + NODE_HIGH);
-    if (high == 65535) {
+    if (high == NOWHERE_HIGH) {
         return made_word_word(from, 0);
     }
     at = (((uint64_t)high) << 32) | ((uint64_t)load32(node + NODE_LOW));
@@ -1705,7 +1779,7 @@ static ALWAYS_INLINE struct word_word chain_last_in_2(char *pool, uint64_t from)
         }
         r14 = r2_048 + 1;
         high_2 = load16(node_2 + NODE_HIGH);
-        if (high_2 == 65535) {
+        if (high_2 == NOWHERE_HIGH) {
             return made_word_word(at, r14);
         }
         at = (((uint64_t)high_2) << 32) | ((uint64_t)load32(node_2 + NODE_LOW));
@@ -1716,109 +1790,109 @@ static ALWAYS_INLINE struct word_word chain_last_in_2(char *pool, uint64_t from)
 // Moves all pairs, in the order of the walk, to their slots among `capacity` slots.
 // intmap_table::table::Table::grow_to, in crates/intmap_table/src/table/grow.rt
 static ALIGNED uint8_t table_grow_to(char *map, uint64_t capacity) {
-    uint8_t r23;
-    uint64_t r2_2, r0, r1_2, r1_3, r1_4, r26, r39, r1_5, r1_6, r49, r64, r1_017, r2_016, r10, slots_room, nodes_room,
-        words_room;
-    char *r4, *r5, *r4_2, *r9, *r11, *words, *slots, *nodes;
-    uint16_t r19, r19_2;
-    uint64_t r1_room[12];
-    char *r1 = (char *)r1_room;
-    uint64_t r2_room[13];
-    char *r2 = (char *)r2_room;
+    uint8_t has_failed;
+    uint64_t words_len, bits, r1, r1_2, r1_3, r26, bits_2, r1_4, r1_5, r49, r64, at, at_2, r10, slots_room,
+        nodes_room, words_room;
+    char *words, *slots, *nodes, *slot, *node, *words_2, *slots_2, *nodes_2;
+    uint16_t high, high_2;
+    uint64_t mask_at_room[12];
+    char *mask_at = (char *)mask_at_room;
+    uint64_t has_failed_at_room[13];
+    char *has_failed_at = (char *)has_failed_at_room;
     if (capacity == load64(map + INT_MAP_SLOTS_LEN)) {
         return 0;
     }
-    memset(r2, 0, 104);
-    slots_new(r2, capacity, load64(map + INT_MAP_NODES_LEN) - load64(map + INT_MAP_SPARE));
-    r23 = load8(r2);
-    if (r23 == 0) {
-        memcpy(r1, r2 + 8, 96);
-        slots_move_all(map, r1);
-        if (load64(r1 + 64) != load64(r1 + 88)) {
-            r2_2 = load64(r1 + 16);
-            r4 = load_address(r1 + 8);
-            if (r2_2 == 0) {
-                r0 = 0;
+    memset(has_failed_at, 0, MADE_SLOTS_SIZE);
+    slots_new(has_failed_at, capacity, load64(map + INT_MAP_NODES_LEN) - load64(map + INT_MAP_SPARE));
+    has_failed = load8(has_failed_at + MADE_SLOTS_HAS_FAILED);
+    if (has_failed == 0) {
+        memcpy(mask_at, has_failed_at + MADE_SLOTS_MASK, SLOTS_SIZE);
+        slots_move_all(map, mask_at);
+        if (load64(mask_at + SLOTS_NODES_LEN) != load64(mask_at + SLOTS_SPARE)) {
+            words_len = load64(mask_at + SLOTS_WORDS_LEN);
+            words = load_address(mask_at + SLOTS_WORDS);
+            if (words_len == 0) {
+                bits = 0;
             } else {
-                r0 = load64(r4);
+                bits = load64(words);
             }
-            r5 = load_address(r1 + 32);
-            r4_2 = load_address(r1 + 56);
-            r1_2 = 0;
-            r1_3 = r0;
+            slots = load_address(mask_at + SLOTS_SLOTS);
+            nodes = load_address(mask_at + SLOTS_NODES);
+            r1 = 0;
+            r1_2 = bits;
             for (;;) {
-                if (r1_3 == 0) {
-                    r1_4 = r1_2;
+                if (r1_2 == 0) {
+                    r1_3 = r1;
                     for (;;) {
-                        r26 = r1_4 + 1;
-                        if (r2_2 <= r26) {
+                        r26 = r1_3 + 1;
+                        if (words_len <= r26) {
                             goto after_Slots_turn_each;
                         }
-                        r39 = load64(r4 + (r26 << 3));
-                        if (r39 != 0) {
-                            r1_5 = r26;
-                            r1_6 = r39;
+                        bits_2 = load64(words + (r26 << 3));
+                        if (bits_2 != 0) {
+                            r1_4 = r26;
+                            r1_5 = bits_2;
                             break;
                         }
-                        r1_4 = r26;
+                        r1_3 = r26;
                     }
                 } else {
+                    r1_4 = r1;
                     r1_5 = r1_2;
-                    r1_6 = r1_3;
                 }
-                r49 = low_zeros(r1_6);
-                r64 = (r1_6 - 1) & r1_6;
-                r9 = r5 + ((r49 | (r1_5 << 6)) * 24);
-                if (load8(r9) == 1) {
-                    r19 = load16(r9 + 2);
-                    if (r19 != 65535) {
-                        r1_017 = UINT64_C(281474976710655);
-                        r2_016 = (((uint64_t)r19) << 32) | ((uint64_t)load32(r9 + 4));
+                r49 = low_zeros(r1_5);
+                r64 = (r1_5 - 1) & r1_5;
+                slot = slots + ((r49 | (r1_4 << 6)) * SLOT_SIZE);
+                if (load8(slot + SLOT_HAS_PAIR) == 1) {
+                    high = load16(slot + SLOT_HIGH);
+                    if (high != NOWHERE_HIGH) {
+                        at = NOWHERE;
+                        at_2 = (((uint64_t)high) << 32) | ((uint64_t)load32(slot + SLOT_LOW));
                         for (;;) {
-                            r11 = r4_2 + (r2_016 * 24);
-                            if (load8(r11) != 1) {
+                            node = nodes + (at_2 * NODE_SIZE);
+                            if (load8(node + NODE_HAS_PAIR) != 1) {
                                 abort();
                             }
-                            r19_2 = load16(r11 + 2);
-                            r10 = (((uint64_t)r19_2) << 32) | ((uint64_t)load32(r11 + 4));
-                            store16(r11 + 2, (uint16_t)(r1_017 >> 32));
-                            store32(r11 + 4, (uint32_t)r1_017);
-                            if (r19_2 == 65535) {
-                                if (load8(r9) != 1) {
+                            high_2 = load16(node + NODE_HIGH);
+                            r10 = (((uint64_t)high_2) << 32) | ((uint64_t)load32(node + NODE_LOW));
+                            store16(node + NODE_HIGH, (uint16_t)(at >> 32));
+                            store32(node + NODE_LOW, (uint32_t)at);
+                            if (high_2 == NOWHERE_HIGH) {
+                                if (load8(slot + SLOT_HAS_PAIR) != 1) {
                                     abort();
                                 }
-                                store16(r9 + 2, (uint16_t)(r2_016 >> 32));
-                                store32(r9 + 4, (uint32_t)r2_016);
+                                store16(slot + SLOT_HIGH, (uint16_t)(at_2 >> 32));
+                                store32(slot + SLOT_LOW, (uint32_t)at_2);
                                 break;
                             }
-                            r1_017 = r2_016;
-                            r2_016 = r10;
+                            at = at_2;
+                            at_2 = r10;
                         }
                     }
                 }
-                r1_2 = r1_5;
-                r1_3 = r64;
+                r1 = r1_4;
+                r1_2 = r64;
             }
         }
     after_Slots_turn_each:;
-        words = load_address(map + INT_MAP_WORDS);
-        slots = load_address(map + INT_MAP_SLOTS);
+        words_2 = load_address(map + INT_MAP_WORDS);
+        slots_2 = load_address(map + INT_MAP_SLOTS);
         slots_room = load64(map + INT_MAP_SLOTS_ROOM);
-        nodes = load_address(map + INT_MAP_NODES);
+        nodes_2 = load_address(map + INT_MAP_NODES);
         nodes_room = load64(map + INT_MAP_NODES_ROOM);
         words_room = load64(map + INT_MAP_WORDS_ROOM);
-        memcpy(map, r1, 96);
+        memcpy(map, mask_at, TABLE_SIZE);
         if (words_room != 0) {
-            rattle_dealloc(words);
+            rattle_dealloc(words_2);
         }
         if (slots_room != 0) {
-            rattle_dealloc(slots);
+            rattle_dealloc(slots_2);
         }
         if (nodes_room != 0) {
-            rattle_dealloc(nodes);
+            rattle_dealloc(nodes_2);
         }
     }
-    return r23;
+    return has_failed;
 }
 
 // Writes the address of the value of the key, or null if the key is absent.
@@ -1852,7 +1926,7 @@ static ALWAYS_INLINE void do_intmap_place(char *word, uint64_t key, char *at) {
                 return;
             }
             if (load64(node + NODE_KEY) == key) {
-                if (r2_0 == UINT64_C(18446744073709551615)) {
+                if (r2_0 == UINT64_MAX) {
                     r9 = slot;
                     break;
                 }
@@ -1942,7 +2016,7 @@ static ALWAYS_INLINE bool do_intmap_equal(char *word, char *other) {
     }
     slots = load_address(map + INT_MAP_SLOTS);
     nodes_len = load64(map + INT_MAP_NODES_LEN);
-    at = UINT64_C(281474976710655);
+    at = NOWHERE;
     r1 = bits;
     r1_2 = 0;
     r1_3 = r6;
@@ -2168,7 +2242,7 @@ static ALWAYS_INLINE char *do_intmap_step(char *result, char *word, char *at) {
         r115 = r3_0_2 >> 6;
         words_len = load64(map + INT_MAP_WORDS_LEN);
         if (words_len > r115) {
-            r33 = load64(load_address(map + INT_MAP_WORDS) + (r115 << 3)) & (UINT64_C(18446744073709551615) << (r3_0_2 & 63));
+            r33 = load64(load_address(map + INT_MAP_WORDS) + (r115 << 3)) & (UINT64_MAX << (r3_0_2 & 63));
             if (r33 != 0) {
                 r1 = r115;
                 r1_2 = r33;
@@ -2251,7 +2325,7 @@ static ALWAYS_INLINE struct word_word do_intmap_add_present(char *handle, uint64
                         goto after_pairs_add_present;
                     }
                     if (load64(node + NODE_KEY) == key) {
-                        if (r2_0 == UINT64_C(18446744073709551615)) {
+                        if (r2_0 == UINT64_MAX) {
                             r9 = slot;
                             break;
                         }
@@ -2366,8 +2440,8 @@ loop_2_2:;
                 r1_6 = r1_13;
                 goto loop_2_2;
             case 1:
-                if (load16(slot + SLOT_HIGH) == 65535) {
-                    memset(slot, 0, 24);
+                if (load16(slot + SLOT_HIGH) == NOWHERE_HIGH) {
+                    memset(slot, 0, SLOT_SIZE);
                 } else {
                     row_take_first_of_several(slot, map + INT_MAP_NODES);
                 }
@@ -2449,7 +2523,7 @@ static ALWAYS_INLINE char *do_intmap_cut(char *result, char *handle, char *at) {
                         store16(node_2 + NODE_HAS_PAIR, 0);
                         store16(node_2 + NODE_HIGH, (uint16_t)(free >> 32));
                         store32(node_2 + NODE_LOW, (uint32_t)free);
-                        memset(node_2 + NODE_KEY, 0, 16);
+                        memset(node_2 + NODE_KEY, 0, PAIR_SIZE);
                         store64(map + INT_MAP_FREE, at_2);
                         store64(map + INT_MAP_SPARE, load64(map + INT_MAP_SPARE) + 1);
                         r2_0_2 = r10_2;
@@ -2477,7 +2551,7 @@ static ALWAYS_INLINE char *do_intmap_cut(char *result, char *handle, char *at) {
                         store16(node_4 + NODE_HAS_PAIR, 0);
                         store16(node_4 + NODE_HIGH, (uint16_t)(free_2 >> 32));
                         store32(node_4 + NODE_LOW, (uint32_t)free_2);
-                        memset(node_4 + NODE_KEY, 0, 16);
+                        memset(node_4 + NODE_KEY, 0, PAIR_SIZE);
                         store64(map + INT_MAP_FREE, at_5);
                         store64(map + INT_MAP_SPARE, load64(map + INT_MAP_SPARE) + 1);
                         node_5 = load_address(map + INT_MAP_NODES) + r8;
@@ -2505,7 +2579,7 @@ static ALWAYS_INLINE char *do_intmap_cut(char *result, char *handle, char *at) {
         r115 = r3_0_2 >> 6;
         words_len = load64(map + INT_MAP_WORDS_LEN);
         if (words_len > r115) {
-            r33 = load64(load_address(map + INT_MAP_WORDS) + (r115 << 3)) & (UINT64_C(18446744073709551615) << (r3_0_2 & 63));
+            r33 = load64(load_address(map + INT_MAP_WORDS) + (r115 << 3)) & (UINT64_MAX << (r3_0_2 & 63));
             if (r33 != 0) {
                 r1 = r115;
                 r1_2 = r33;
@@ -2543,10 +2617,10 @@ static ALWAYS_INLINE char *do_intmap_cut(char *result, char *handle, char *at) {
         slot_3 = slot_4;
         nodes_at = map + INT_MAP_NODES;
     arm_1_2:;
-        if (high_2 == 65535) {
+        if (high_2 == NOWHERE_HIGH) {
             key_4 = load64(slot_3 + SLOT_KEY);
             value_4 = load64(slot_3 + SLOT_VALUE);
-            memset(slot_3, 0, 24);
+            memset(slot_3, 0, SLOT_SIZE);
             r19_2 = made_word_word(key_4, value_4);
         } else {
             r24 = row_take_first_of_several(slot_3, nodes_at);
@@ -2556,8 +2630,8 @@ static ALWAYS_INLINE char *do_intmap_cut(char *result, char *handle, char *at) {
             }
             r19_2 = r24;
         }
-        r11_2 = load_address(map + INT_MAP_WORDS) + ((r305863 >> 3) & UINT64_C(2305843009213693944));
-        store64(r11_2, load64(r11_2) & (((uint64_t)1 << (r305863 & 63)) ^ UINT64_C(18446744073709551615)));
+        r11_2 = load_address(map + INT_MAP_WORDS) + ((r305863 >> 3) & UINT64_C(0x1FFFFFFFFFFFFFF8));
+        store64(r11_2, load64(r11_2) & (~((uint64_t)1 << (r305863 & 63))));
         r19 = r19_2;
     x12:;
         store64(map + INT_MAP_LEN, load64(map + INT_MAP_LEN) - 1);
@@ -2661,9 +2735,9 @@ static ALWAYS_INLINE struct word_word do_intmap_remove(char *handle, uint64_t ke
                     r2_0 = r2_0 + 1;
                 }
             }
-            if (high == 65535) {
+            if (high == NOWHERE_HIGH) {
                 value = load64(slot + SLOT_VALUE);
-                memset(slot, 0, 24);
+                memset(slot, 0, SLOT_SIZE);
                 r72_1_merged = value;
             } else {
                 nodes_2 = load_address(map + INT_MAP_NODES);
@@ -2673,17 +2747,17 @@ static ALWAYS_INLINE struct word_word do_intmap_remove(char *handle, uint64_t ke
                     abort();
                 }
                 high_2 = load16(node_2 + NODE_HIGH);
-                if (high_2 == 65535) {
+                if (high_2 == NOWHERE_HIGH) {
                     free = load64(map + INT_MAP_FREE);
                     key_2 = load64(node_2 + NODE_KEY);
                     value_2 = load64(node_2 + NODE_VALUE);
                     store16(node_2 + NODE_HAS_PAIR, 0);
                     store16(node_2 + NODE_HIGH, (uint16_t)(free >> 32));
                     store32(node_2 + NODE_LOW, (uint32_t)free);
-                    memset(node_2 + NODE_KEY, 0, 16);
+                    memset(node_2 + NODE_KEY, 0, PAIR_SIZE);
                     store64(map + INT_MAP_FREE, at);
                     store64(map + INT_MAP_SPARE, load64(map + INT_MAP_SPARE) + 1);
-                    at_3 = UINT64_C(281474976710655);
+                    at_3 = NOWHERE;
                     r9 = 0;
                     key_3 = key_2;
                     value_3 = value_2;
@@ -2695,7 +2769,7 @@ static ALWAYS_INLINE struct word_word do_intmap_remove(char *handle, uint64_t ke
                         abort();
                     }
                     high_3 = load16(node_3 + NODE_HIGH);
-                    if (high_3 == 65535) {
+                    if (high_3 == NOWHERE_HIGH) {
                         r6 = r8;
                         r6_2 = r8_2;
                         at_5 = at_4;
@@ -2712,7 +2786,7 @@ static ALWAYS_INLINE struct word_word do_intmap_remove(char *handle, uint64_t ke
                             }
                             r18 = r3_0_2 + 1;
                             high_4 = load16(node_4 + NODE_HIGH);
-                            if (high_4 == 65535) {
+                            if (high_4 == NOWHERE_HIGH) {
                                 r6 = at_7 * 24;
                                 r6_2 = r8_3;
                                 at_5 = at_6;
@@ -2731,15 +2805,15 @@ static ALWAYS_INLINE struct word_word do_intmap_remove(char *handle, uint64_t ke
                     store16(node_5 + NODE_HAS_PAIR, 0);
                     store16(node_5 + NODE_HIGH, (uint16_t)(free_2 >> 32));
                     store32(node_5 + NODE_LOW, (uint32_t)free_2);
-                    memset(node_5 + NODE_KEY, 0, 16);
+                    memset(node_5 + NODE_KEY, 0, PAIR_SIZE);
                     store64(map + INT_MAP_FREE, at_5);
                     store64(map + INT_MAP_SPARE, load64(map + INT_MAP_SPARE) + 1);
                     node_6 = load_address(map + INT_MAP_NODES) + r6;
                     if (load8(node_6 + NODE_HAS_PAIR) != 1) {
                         abort();
                     }
-                    store16(node_6 + NODE_HIGH, 65535);
-                    store32(node_6 + NODE_LOW, 4294967295u);
+                    store16(node_6 + NODE_HIGH, NOWHERE_HIGH);
+                    store32(node_6 + NODE_LOW, NOWHERE_LOW);
                     at_3 = at;
                     r9 = r3_0;
                     key_3 = key_4;
@@ -2769,8 +2843,8 @@ static ALWAYS_INLINE struct word_word do_intmap_remove(char *handle, uint64_t ke
                 }
                 r72_1_merged = r68;
             }
-            r11 = load_address(map + INT_MAP_WORDS) + ((index >> 3) & UINT64_C(2305843009213693944));
-            store64(r11, load64(r11) & (((uint64_t)1 << (index & 63)) ^ UINT64_C(18446744073709551615)));
+            r11 = load_address(map + INT_MAP_WORDS) + ((index >> 3) & UINT64_C(0x1FFFFFFFFFFFFFF8));
+            store64(r11, load64(r11) & (~((uint64_t)1 << (index & 63))));
             r72_1_merged_2 = r72_1_merged;
         after_row_take_3:;
             store64(map + INT_MAP_LEN, load64(map + INT_MAP_LEN) - 1);
@@ -2821,7 +2895,7 @@ static ALWAYS_INLINE struct word_word do_intmap_replace(char *handle, uint64_t k
                         goto after_pairs_replace;
                     }
                     if (load64(node + NODE_KEY) == key) {
-                        if (r2_0 == UINT64_C(18446744073709551615)) {
+                        if (r2_0 == UINT64_MAX) {
                             r9 = slot;
                             break;
                         }
@@ -2864,14 +2938,14 @@ static ALWAYS_INLINE uint32_t do_intmap_clone(char *word, char *to) {
     uint64_t map_address, slots_room, nodes_room, words_room, len, threshold, factor, len_2, threshold_2, factor_2;
     uint32_t r5_0, r30;
     uint8_t sink15;
-    uint64_t r5_room[13];
-    char *r5 = (char *)r5_room;
+    uint64_t has_failed_at_room[13];
+    char *has_failed_at = (char *)has_failed_at_room;
     uint64_t r2_3_room[13];
     char *r2_3 = (char *)r2_3_room;
-    uint64_t r9_room[16];
-    char *r9 = (char *)r9_room;
+    uint64_t has_failed_at_2_room[16];
+    char *has_failed_at_2 = (char *)has_failed_at_2_room;
     map = load_address(word);
-    memset(r9, 0, 104);
+    memset(has_failed_at_2, 0, 104);
     if (map == NULL) {
         map_address = load64(to);
         store64(to, 0);
@@ -2900,31 +2974,31 @@ static ALWAYS_INLINE uint32_t do_intmap_clone(char *word, char *to) {
             }
         }
     } else {
-        memset(r5, 0, 104);
-        slots_clone(r5, map);
-        if (load8(r5) == 0) {
-            memcpy(r2_3 + 7, r5 + 8, 96);
+        memset(has_failed_at, 0, MADE_SLOTS_SIZE);
+        slots_clone(has_failed_at, map);
+        if (load8(has_failed_at + MADE_SLOTS_HAS_FAILED) == 0) {
+            memcpy(r2_3 + 7, has_failed_at + MADE_SLOTS_MASK, 96);
             len = load64(map + INT_MAP_LEN);
             threshold = load64(map + INT_MAP_THRESHOLD);
             factor = load64(map + INT_MAP_FACTOR);
-            memcpy(r9 + 8, r2_3 + 7, 96);
+            memcpy(has_failed_at_2 + MADE_INT_MAP_MASK, r2_3 + 7, TABLE_SIZE);
             sink15 = 0;
             len_2 = len;
             threshold_2 = threshold;
             factor_2 = factor;
         } else {
-            memset(r9 + 8, 0, 96);
+            memset(has_failed_at_2 + MADE_INT_MAP_MASK, 0, TABLE_SIZE);
             sink15 = 1;
             len_2 = 0;
             threshold_2 = 0;
             factor_2 = 0;
         }
-        store8(r9, sink15);
-        store8(r9 + 1, 0);
-        store64(r9 + 104, len_2);
-        store64(r9 + 112, threshold_2);
-        store64(r9 + 120, factor_2);
-        r30 = make_keep(to, r9);
+        store8(has_failed_at_2 + MADE_INT_MAP_HAS_FAILED, sink15);
+        store8(has_failed_at_2 + MADE_INT_MAP_CAUSE, 0);
+        store64(has_failed_at_2 + MADE_INT_MAP_LEN, len_2);
+        store64(has_failed_at_2 + MADE_INT_MAP_THRESHOLD, threshold_2);
+        store64(has_failed_at_2 + MADE_INT_MAP_FACTOR, factor_2);
+        r30 = make_keep(to, has_failed_at_2);
         r5_0 = r30;
     }
     return r5_0;
@@ -2933,32 +3007,32 @@ static ALWAYS_INLINE uint32_t do_intmap_clone(char *word, char *to) {
 // Makes an empty map, with a load factor of 909 thousandths, and returns `OK`.
 // intmap_with_capacity, in crates/intmap_c/src/make.rt
 static ALWAYS_INLINE uint32_t do_intmap_with_capacity(char *handle, uint64_t capacity) {
-    uint8_t sink1, sink, x0, x1;
+    uint8_t has_failed, cause, has_failed_2, cause_2;
     uint64_t a0_a1, r13;
     uint32_t r5;
-    uint64_t r0_room[16];
-    char *r0 = (char *)r0_room;
-    uint64_t r3_room[16];
-    char *r3 = (char *)r3_room;
-    memset(r3, 0, 128);
-    memset(r0, 0, 128);
-    if (capacity > UINT64_C(9223372036854775808)) {
-        memset(r3 + 8, 0, 120);
-        sink1 = 1;
-        sink = 1;
+    uint64_t has_failed_at_room[16];
+    char *has_failed_at = (char *)has_failed_at_room;
+    uint64_t has_failed_at_2_room[16];
+    char *has_failed_at_2 = (char *)has_failed_at_2_room;
+    memset(has_failed_at_2, 0, MADE_INT_MAP_SIZE);
+    memset(has_failed_at, 0, MADE_INT_MAP_SIZE);
+    if (capacity > GREATEST_CAPACITY) {
+        memset(has_failed_at_2 + MADE_INT_MAP_MASK, 0, INT_MAP_SIZE);
+        has_failed = 1;
+        cause = 1;
     } else {
         a0_a1 = greater(capacity, 2);
         r13 = high_zeros(a0_a1 - 1);
-        intmap_with_slots(r0, (uint64_t)1 << ((uint64_t)64 - r13));
-        x0 = load8(r0);
-        x1 = load8(r0 + 1);
-        memcpy(r3 + 8, r0 + 8, 120);
-        sink1 = x0;
-        sink = x1;
+        intmap_with_slots(has_failed_at, (uint64_t)1 << ((uint64_t)64 - r13));
+        has_failed_2 = load8(has_failed_at + MADE_INT_MAP_HAS_FAILED);
+        cause_2 = load8(has_failed_at + MADE_INT_MAP_CAUSE);
+        memcpy(has_failed_at_2 + MADE_INT_MAP_MASK, has_failed_at + MADE_INT_MAP_MASK, INT_MAP_SIZE);
+        has_failed = has_failed_2;
+        cause = cause_2;
     }
-    store8(r3, sink1);
-    store8(r3 + 1, sink);
-    r5 = make_keep(handle, r3);
+    store8(has_failed_at_2 + MADE_INT_MAP_HAS_FAILED, has_failed);
+    store8(has_failed_at_2 + MADE_INT_MAP_CAUSE, cause);
+    r5 = make_keep(handle, has_failed_at_2);
     return r5;
 }
 
@@ -2984,7 +3058,7 @@ static ALWAYS_INLINE struct word_word do_intmap_add_or_insert(char *handle, uint
         r15 = handle_make_first();
         if (r15.first == 0) {
             value = 0;
-            r19 = UINT64_C(4294967295);
+            r19 = NO_MEMORY;
             goto after_pairs_intmap_add_or_insert;
         }
         map = r15.second;
@@ -3012,7 +3086,7 @@ static ALWAYS_INLINE struct word_word do_intmap_add_or_insert(char *handle, uint
                     goto arm_2_2;
                 }
                 if (load64(node + NODE_KEY) == key) {
-                    if (r2_0 == UINT64_C(18446744073709551615)) {
+                    if (r2_0 == UINT64_MAX) {
                         break;
                     }
                     at_2 = chain_seek(map + INT_MAP_NODES, r10, r2_0);
@@ -3057,19 +3131,19 @@ static ALWAYS_INLINE struct word_word do_intmap_add_or_insert(char *handle, uint
 arm_2_2:;
     memset(r12, 0, 32);
     len = load64(map + INT_MAP_LEN);
-    if (len == UINT64_C(18446744073709551615)) {
-        x23 = UINT64_C(4294967294);
+    if (len == UINT64_MAX) {
+        x23 = TOO_LARGE;
     } else {
         r44 = len + 1;
         if (!(((r44 & 4) != 0) & (load64(map + INT_MAP_THRESHOLD) <= len))) {
             if (x4) {
                 high = load16(slot + SLOT_HIGH);
                 r10_3 = (((uint64_t)high) << 32) | ((uint64_t)load32(slot + SLOT_LOW));
-                if (high != 65535) {
+                if (high != NOWHERE_HIGH) {
                     at_6 = chain_last_in(map + INT_MAP_NODES, r10_3);
                     spare_2 = load64(map + INT_MAP_SPARE);
                     if (spare_2 == 0) {
-                        pool_append(r0_2, map + INT_MAP_NODES, UINT64_C(281474976710655), key, more);
+                        pool_append(r0_2, map + INT_MAP_NODES, NOWHERE, key, more);
                         if (load8(r0_2) != 0) {
                             goto after_IntMap_add;
                         }
@@ -3084,8 +3158,8 @@ arm_2_2:;
                         store64(map + INT_MAP_SPARE, spare_2 - 1);
                         has_pair_3 = load8(node_5 + NODE_HAS_PAIR);
                         store16(node_5 + NODE_HAS_PAIR, 1);
-                        store16(node_5 + NODE_HIGH, 65535);
-                        store32(node_5 + NODE_LOW, 4294967295u);
+                        store16(node_5 + NODE_HIGH, NOWHERE_HIGH);
+                        store32(node_5 + NODE_LOW, NOWHERE_LOW);
                         store64(node_5 + NODE_KEY, key);
                         store64(node_5 + NODE_VALUE, more);
                         if (has_pair_3 != 0) {
@@ -3113,8 +3187,8 @@ arm_2_2:;
                     store64(map + INT_MAP_SPARE, spare - 1);
                     has_pair_2 = load8(node_4 + NODE_HAS_PAIR);
                     store16(node_4 + NODE_HAS_PAIR, 1);
-                    store16(node_4 + NODE_HIGH, 65535);
-                    store32(node_4 + NODE_LOW, 4294967295u);
+                    store16(node_4 + NODE_HIGH, NOWHERE_HIGH);
+                    store32(node_4 + NODE_LOW, NOWHERE_LOW);
                     store64(node_4 + NODE_KEY, key);
                     store64(node_4 + NODE_VALUE, more);
                     if (has_pair_2 != 0) {
@@ -3123,13 +3197,13 @@ arm_2_2:;
                     r4_0 = free;
                     goto arm_5_3;
                 }
-                pool_append(r0, map + INT_MAP_NODES, UINT64_C(281474976710655), key, more);
+                pool_append(r0, map + INT_MAP_NODES, NOWHERE, key, more);
                 if (load8(r0) == 0) {
                     r4_0 = load64(r0 + 8);
                     goto arm_5_3;
                 }
             after_IntMap_add:;
-                r40 = UINT64_C(4294967295);
+                r40 = NO_MEMORY;
                 value_4 = 0;
                 goto after_pairs_add_or_insert;
             arm_5_3:;
@@ -3140,15 +3214,15 @@ arm_2_2:;
                 store32(slot + SLOT_LOW, (uint32_t)r4_0);
             } else {
                 store16(slot + SLOT_HAS_PAIR, 1);
-                store16(slot + SLOT_HIGH, 65535);
-                store32(slot + SLOT_LOW, 4294967295u);
+                store16(slot + SLOT_HIGH, NOWHERE_HIGH);
+                store32(slot + SLOT_LOW, NOWHERE_LOW);
                 store64(slot + SLOT_KEY, key);
                 store64(slot + SLOT_VALUE, more);
                 if (has_pair != 0) {
                     abort();
                 }
             }
-            r11 = load_address(map + INT_MAP_WORDS) + ((index >> 3) & UINT64_C(2305843009213693944));
+            r11 = load_address(map + INT_MAP_WORDS) + ((index >> 3) & UINT64_C(0x1FFFFFFFFFFFFFF8));
             store64(r11, load64(r11) | ((uint64_t)1 << (index & 63)));
             store64(map + INT_MAP_LEN, r44);
             r40 = 0;
@@ -3161,7 +3235,7 @@ arm_2_2:;
             value_4 = 0;
             goto after_pairs_add_or_insert;
         }
-        x23 = ((load64(r12 + 16) & 255) == 0) ? UINT64_C(4294967295) : UINT64_C(4294967294);
+        x23 = ((load64(r12 + 16) & 255) == 0) ? NO_MEMORY : TOO_LARGE;
     }
     r40 = x23;
     value_4 = 0;
@@ -3195,7 +3269,7 @@ static ALWAYS_INLINE uint32_t do_intmap_find_or_insert(char *handle, uint64_t ke
     if (map_address == 0) {
         r15 = handle_make_first();
         if (r15.first == 0) {
-            return 4294967295u;
+            return NO_MEMORY;
         }
         map = r15.second;
     } else {
@@ -3235,19 +3309,19 @@ static ALWAYS_INLINE uint32_t do_intmap_find_or_insert(char *handle, uint64_t ke
     }
     memset(r12, 0, 32);
     len = load64(map + INT_MAP_LEN);
-    if (len == UINT64_C(18446744073709551615)) {
-        r4_0 = 4294967294u;
+    if (len == UINT64_MAX) {
+        r4_0 = TOO_LARGE;
     } else {
         r44 = len + 1;
         if (!(((r44 & 4) != 0) & (load64(map + INT_MAP_THRESHOLD) <= len))) {
             if (x4) {
                 high = load16(slot + SLOT_HIGH);
                 r10_3 = (((uint64_t)high) << 32) | ((uint64_t)load32(slot + SLOT_LOW));
-                if (high != 65535) {
+                if (high != NOWHERE_HIGH) {
                     at_2 = chain_last_in(map + INT_MAP_NODES, r10_3);
                     spare_2 = load64(map + INT_MAP_SPARE);
                     if (spare_2 == 0) {
-                        pool_append(r0_2, map + INT_MAP_NODES, UINT64_C(281474976710655), key, value);
+                        pool_append(r0_2, map + INT_MAP_NODES, NOWHERE, key, value);
                         if (load8(r0_2) != 0) {
                             goto arm_2_thread;
                         }
@@ -3262,8 +3336,8 @@ static ALWAYS_INLINE uint32_t do_intmap_find_or_insert(char *handle, uint64_t ke
                         store64(map + INT_MAP_SPARE, spare_2 - 1);
                         has_pair_3 = load8(node_3 + NODE_HAS_PAIR);
                         store16(node_3 + NODE_HAS_PAIR, 1);
-                        store16(node_3 + NODE_HIGH, 65535);
-                        store32(node_3 + NODE_LOW, 4294967295u);
+                        store16(node_3 + NODE_HIGH, NOWHERE_HIGH);
+                        store32(node_3 + NODE_LOW, NOWHERE_LOW);
                         store64(node_3 + NODE_KEY, key);
                         store64(node_3 + NODE_VALUE, value);
                         if (has_pair_3 != 0) {
@@ -3291,8 +3365,8 @@ static ALWAYS_INLINE uint32_t do_intmap_find_or_insert(char *handle, uint64_t ke
                     store64(map + INT_MAP_SPARE, spare - 1);
                     has_pair_2 = load8(node_2 + NODE_HAS_PAIR);
                     store16(node_2 + NODE_HAS_PAIR, 1);
-                    store16(node_2 + NODE_HIGH, 65535);
-                    store32(node_2 + NODE_LOW, 4294967295u);
+                    store16(node_2 + NODE_HIGH, NOWHERE_HIGH);
+                    store32(node_2 + NODE_LOW, NOWHERE_LOW);
                     store64(node_2 + NODE_KEY, key);
                     store64(node_2 + NODE_VALUE, value);
                     if (has_pair_2 != 0) {
@@ -3301,7 +3375,7 @@ static ALWAYS_INLINE uint32_t do_intmap_find_or_insert(char *handle, uint64_t ke
                     r4_0_2 = free;
                     goto arm_5_3;
                 }
-                pool_append(r0, map + INT_MAP_NODES, UINT64_C(281474976710655), key, value);
+                pool_append(r0, map + INT_MAP_NODES, NOWHERE, key, value);
                 if (load8(r0) == 0) {
                     r4_0_2 = load64(r0 + 8);
                     goto arm_5_3;
@@ -3316,15 +3390,15 @@ static ALWAYS_INLINE uint32_t do_intmap_find_or_insert(char *handle, uint64_t ke
                 store32(slot + SLOT_LOW, (uint32_t)r4_0_2);
             } else {
                 store16(slot + SLOT_HAS_PAIR, 1);
-                store16(slot + SLOT_HIGH, 65535);
-                store32(slot + SLOT_LOW, 4294967295u);
+                store16(slot + SLOT_HIGH, NOWHERE_HIGH);
+                store32(slot + SLOT_LOW, NOWHERE_LOW);
                 store64(slot + SLOT_KEY, key);
                 store64(slot + SLOT_VALUE, value);
                 if (has_pair != 0) {
                     abort();
                 }
             }
-            r11 = load_address(map + INT_MAP_WORDS) + ((index >> 3) & UINT64_C(2305843009213693944));
+            r11 = load_address(map + INT_MAP_WORDS) + ((index >> 3) & UINT64_C(0x1FFFFFFFFFFFFFF8));
             store64(r11, load64(r11) | ((uint64_t)1 << (index & 63)));
             store64(map + INT_MAP_LEN, r44);
             r4_0 = 0;
@@ -3336,11 +3410,11 @@ static ALWAYS_INLINE uint32_t do_intmap_find_or_insert(char *handle, uint64_t ke
             goto after_pairs_find_or_insert;
         }
         if (load8(r12 + 16) != 0) {
-            r4_0 = 4294967294u;
+            r4_0 = TOO_LARGE;
             goto after_pairs_find_or_insert;
         }
     x18:;
-        r4_0 = 4294967295u;
+        r4_0 = NO_MEMORY;
     }
 after_pairs_find_or_insert:;
     store64(handle, map_address_2);
@@ -3371,7 +3445,7 @@ static ALWAYS_INLINE struct word_word do_intmap_insert(char *handle, uint64_t ke
         r15 = handle_make_first();
         if (r15.first == 0) {
             r6 = 0;
-            r19 = UINT64_C(4294967295);
+            r19 = NO_MEMORY;
             goto after_pairs_intmap_insert;
         }
         map = r15.second;
@@ -3413,7 +3487,7 @@ static ALWAYS_INLINE struct word_word do_intmap_insert(char *handle, uint64_t ke
                 r2_0 = r2_0 + 1;
             }
         }
-        if (high == 65535) {
+        if (high == NOWHERE_HIGH) {
             value_2 = load64(slot + SLOT_VALUE);
             store64(slot + SLOT_KEY, key);
             store64(slot + SLOT_VALUE, value);
@@ -3455,19 +3529,19 @@ static ALWAYS_INLINE struct word_word do_intmap_insert(char *handle, uint64_t ke
 arm_2_2:;
     memset(r12, 0, 32);
     len = load64(map + INT_MAP_LEN);
-    if (len == UINT64_C(18446744073709551615)) {
-        x20 = UINT64_C(4294967294);
+    if (len == UINT64_MAX) {
+        x20 = TOO_LARGE;
     } else {
         r44 = len + 1;
         if (!(((r44 & 4) != 0) & (load64(map + INT_MAP_THRESHOLD) <= len))) {
             if (x4) {
                 high_2 = load16(slot + SLOT_HIGH);
                 r10_3 = (((uint64_t)high_2) << 32) | ((uint64_t)load32(slot + SLOT_LOW));
-                if (high_2 != 65535) {
+                if (high_2 != NOWHERE_HIGH) {
                     at_3 = chain_last_in(map + INT_MAP_NODES, r10_3);
                     spare_2 = load64(map + INT_MAP_SPARE);
                     if (spare_2 == 0) {
-                        pool_append(r0_2, map + INT_MAP_NODES, UINT64_C(281474976710655), key, value);
+                        pool_append(r0_2, map + INT_MAP_NODES, NOWHERE, key, value);
                         if (load8(r0_2) != 0) {
                             goto after_IntMap_add;
                         }
@@ -3482,8 +3556,8 @@ arm_2_2:;
                         store64(map + INT_MAP_SPARE, spare_2 - 1);
                         has_pair_3 = load8(node_4 + NODE_HAS_PAIR);
                         store16(node_4 + NODE_HAS_PAIR, 1);
-                        store16(node_4 + NODE_HIGH, 65535);
-                        store32(node_4 + NODE_LOW, 4294967295u);
+                        store16(node_4 + NODE_HIGH, NOWHERE_HIGH);
+                        store32(node_4 + NODE_LOW, NOWHERE_LOW);
                         store64(node_4 + NODE_KEY, key);
                         store64(node_4 + NODE_VALUE, value);
                         if (has_pair_3 != 0) {
@@ -3511,8 +3585,8 @@ arm_2_2:;
                     store64(map + INT_MAP_SPARE, spare - 1);
                     has_pair_2 = load8(node_3 + NODE_HAS_PAIR);
                     store16(node_3 + NODE_HAS_PAIR, 1);
-                    store16(node_3 + NODE_HIGH, 65535);
-                    store32(node_3 + NODE_LOW, 4294967295u);
+                    store16(node_3 + NODE_HIGH, NOWHERE_HIGH);
+                    store32(node_3 + NODE_LOW, NOWHERE_LOW);
                     store64(node_3 + NODE_KEY, key);
                     store64(node_3 + NODE_VALUE, value);
                     if (has_pair_2 != 0) {
@@ -3521,14 +3595,14 @@ arm_2_2:;
                     r4_0 = free;
                     goto arm_5_3;
                 }
-                pool_append(r0, map + INT_MAP_NODES, UINT64_C(281474976710655), key, value);
+                pool_append(r0, map + INT_MAP_NODES, NOWHERE, key, value);
                 if (load8(r0) == 0) {
                     r4_0 = load64(r0 + 8);
                     goto arm_5_3;
                 }
             after_IntMap_add:;
                 r5 = 0;
-                spec_select1 = UINT64_C(4294967295);
+                spec_select1 = NO_MEMORY;
                 goto after_pairs_insert;
             arm_5_3:;
                 if (load8(slot + SLOT_HAS_PAIR) != 1) {
@@ -3538,15 +3612,15 @@ arm_2_2:;
                 store32(slot + SLOT_LOW, (uint32_t)r4_0);
             } else {
                 store16(slot + SLOT_HAS_PAIR, 1);
-                store16(slot + SLOT_HIGH, 65535);
-                store32(slot + SLOT_LOW, 4294967295u);
+                store16(slot + SLOT_HIGH, NOWHERE_HIGH);
+                store32(slot + SLOT_LOW, NOWHERE_LOW);
                 store64(slot + SLOT_KEY, key);
                 store64(slot + SLOT_VALUE, value);
                 if (has_pair != 0) {
                     abort();
                 }
             }
-            r11 = load_address(map + INT_MAP_WORDS) + ((index >> 3) & UINT64_C(2305843009213693944));
+            r11 = load_address(map + INT_MAP_WORDS) + ((index >> 3) & UINT64_C(0x1FFFFFFFFFFFFFF8));
             store64(r11, load64(r11) | ((uint64_t)1 << (index & 63)));
             store64(map + INT_MAP_LEN, r44);
             r5 = 0;
@@ -3559,7 +3633,7 @@ arm_2_2:;
             spec_select1 = 0;
             goto after_pairs_insert;
         }
-        x20 = (load8(r12 + 16) == 0) ? UINT64_C(4294967295) : UINT64_C(4294967294);
+        x20 = (load8(r12 + 16) == 0) ? NO_MEMORY : TOO_LARGE;
     }
     r5 = 0;
     spec_select1 = x20;
@@ -3585,7 +3659,7 @@ static ALWAYS_INLINE uint32_t do_intmap_reserve_slots(char *handle, uint64_t add
     if (map_address == 0) {
         r15 = handle_make_first();
         if (r15.first == 0) {
-            return (additional > UINT64_C(9223372036854775808)) ? 4294967294u : 4294967295u;
+            return (additional > GREATEST_CAPACITY) ? TOO_LARGE : NO_MEMORY;
         }
         map = r15.second;
     } else {
@@ -3593,8 +3667,8 @@ static ALWAYS_INLINE uint32_t do_intmap_reserve_slots(char *handle, uint64_t add
     }
     map_address_2 = (uint64_t)(uintptr_t)map;
     len = load64(map + INT_MAP_LEN);
-    if ((len > UINT64_C(9223372036854775808)) ? true : ((UINT64_C(9223372036854775808) - len) < additional)) {
-        r4_0 = 4294967294u;
+    if ((len > GREATEST_CAPACITY) ? true : ((GREATEST_CAPACITY - len) < additional)) {
+        r4_0 = TOO_LARGE;
     } else {
         r40 = len + additional;
         if (r40 < 2) {
@@ -3606,10 +3680,10 @@ static ALWAYS_INLINE uint32_t do_intmap_reserve_slots(char *handle, uint64_t add
         a0_a1 = greater(load64(map + INT_MAP_SLOTS_LEN), r2_0);
         r50 = table_grow_to(map, a0_a1);
         if ((r50 & 1) != 0) {
-            r4_0 = 4294967295u;
+            r4_0 = NO_MEMORY;
         } else {
             r17 = u128_less_one(u128_mul(u128_add(u128_of(load64(map + INT_MAP_FACTOR)), u128_of(1u)), u128_of(a0_a1)));
-            store64(map + INT_MAP_THRESHOLD, u128_above(r17, u128_two(UINT64_C(999), UINT64_C(18446744073709551615))) ? UINT64_C(18446744073709551615) : u128_low(u128_div(r17, u128_of(1000u))));
+            store64(map + INT_MAP_THRESHOLD, u128_above(r17, u128_two(999, UINT64_MAX)) ? UINT64_MAX : u128_low(u128_div(r17, u128_of(1000u))));
             r4_0 = 0;
         }
     }
@@ -3631,7 +3705,7 @@ static ALWAYS_INLINE uint32_t do_intmap_set_load_factor(char *handle, uint64_t t
     if (map_address == 0) {
         r15 = handle_make_first();
         if (r15.first == 0) {
-            return 4294967295u;
+            return NO_MEMORY;
         }
         map = r15.second;
     } else {
@@ -3646,8 +3720,8 @@ static ALWAYS_INLINE uint32_t do_intmap_set_load_factor(char *handle, uint64_t t
     } else {
         r3_09 = slots_len;
         for (;;) {
-            if (r3_09 == UINT64_C(9223372036854775808)) {
-                r4_0 = 4294967294u;
+            if (r3_09 == GREATEST_CAPACITY) {
+                r4_0 = TOO_LARGE;
                 goto after_figures_set_load_factor;
             }
             r31 = r3_09 << 1;
@@ -3660,11 +3734,11 @@ static ALWAYS_INLINE uint32_t do_intmap_set_load_factor(char *handle, uint64_t t
     }
     r30 = table_grow_to(map, r0);
     if ((r30 & 1) != 0) {
-        r4_0 = 4294967295u;
+        r4_0 = NO_MEMORY;
     } else {
         store64(map + INT_MAP_FACTOR, thousandths);
         r17 = u128_less_one(u128_mul(r13, u128_of(r0)));
-        store64(map + INT_MAP_THRESHOLD, u128_above(r17, u128_two(UINT64_C(999), UINT64_C(18446744073709551615))) ? UINT64_C(18446744073709551615) : u128_low(u128_div(r17, u128_of(1000u))));
+        store64(map + INT_MAP_THRESHOLD, u128_above(r17, u128_two(999, UINT64_MAX)) ? UINT64_MAX : u128_low(u128_div(r17, u128_of(1000u))));
         r4_0 = 0;
     }
 after_figures_set_load_factor:;

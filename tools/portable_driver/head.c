@@ -176,6 +176,9 @@ static inline uint64_t sum_or_most(uint64_t one, uint64_t other) {
     return one > ~other ? UINT64_MAX : one + other;
 }
 
+// The least number of things of a size that take 2^63 bytes or more. No block of memory is so long.
+#define TOO_MANY(size) ((uint64_t)INT64_MAX / (size) + 1)
+
 // Numbers of 128 bits, which only the load factor needs.
 
 #if HAS_ADDITIONS && defined(__SIZEOF_INT128__)
