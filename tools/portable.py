@@ -4,12 +4,14 @@ Each function of the module becomes one of C, between the parts of tools/portabl
 value that is used once is printed where it is used, unless a store or a call comes between. Blocks become `if`, `for`,
 `switch` and `goto`, by who dominates whom. An instruction of an unknown form ends the printing, so none is left out."""
 import re
+import textwrap
 from collections import defaultdict, namedtuple
 
 from crates import text_of
 from llvm_module import NAME, NUMBERED, TYPE, VALUE, bare, functions_of, groups_of, parted, result_type
 from places import MAP, Places, title
 from origins import WIDTH, Origins, path_of
+from scopes import Scopes
 
 PARTS = "tools/portable_driver"
 # Functions that stay functions, so that no other becomes too long to read. The compiler of the C inlines them in LLVM's place.
@@ -46,7 +48,7 @@ WIDE_COMPARED = {
 SMALL_DIVISOR = range(1, 1 << 63)
 # of the compiler's own functions: the name in head.c, and how many arguments count
 HELPERS = {
-    "llvm.cttz.i64": ("low_zeros", 1),
+    "llvm.cttz.i64": ("place_of_lowest_1", 1),
     "llvm.ctlz.i64": ("high_zeros", 1),
     "llvm.ctpop.i64": ("ones_in", 1),
     "llvm.umax.i64": ("greater", 2),
@@ -457,6 +459,8 @@ class FunctionInC:
             given[0] = self.printer.size(MAP)
         helper, count = HELPERS.get(name, (None, len(given)))
         text = f"{helper or (name if name in HEAP else self.printer.name(name))}({', '.join(given[:count])});"
+        if name == "llvm.cttz.i64" and given[1] != "true":
+            text = f"({given[0]}) != 0 ? {text[:-1]} : 64;"
         uses = self.function.uses.get(value)
         is_used = kind != "void" and uses is not None and (uses or value in self.function.free)
         return f"{self.assigned(value)} = {text}" if is_used else text
@@ -702,49 +706,53 @@ class FunctionInC:
         places = ", ".join(declared(kind, self.variable(it)) for kind, it in self.function.parameters)
         return f"static {marks} {declared(self.function.result, self.name)}({places or 'void'})"
 
-    def declarations(self):
-        """The variables, those of a type together."""
-        found = defaultdict(list)
-        for value in self.variables:
-            found[self.types[value]].append(self.variable(value))
-        for name, kind in self.copies_of.items():
-            found[kind].append(name)
+    def declared_in(self, lines):
+        """The lines with the declarations of all variables, each where it is set first or at the start of a block."""
+        scopes, starts = Scopes(lines), defaultdict(list)
+        kinds = {self.variable(it): self.types[it] for it in self.variables} | self.copies_of
+        out = list(lines)
+        for name, kind in kinds.items():
+            at, is_set = scopes.declaration(name)
+            if is_set:
+                out[at] = declared(kind, lines[at])
+            else:
+                starts[at].append((name, kind))
+        behind = [[*self.declarations(starts[at], len(scopes.blocks[at]) if at >= 0 else -1)] for at in range(-1, len(lines))]
+        return [*behind[0], *self.declared_rooms(), *(it for one, more in zip(out, behind[1:]) for it in (one, *more))]
+
+    @staticmethod
+    def declarations(variables, depth):
+        """The declarations of variables that aren't set, those of a type together."""
         by_type = defaultdict(list)
-        for kind, names in found.items():
-            by_type[c_type(kind)] += names
+        for name, kind in variables:
+            by_type[c_type(kind)].append(name)
         for kind, names in by_type.items():
             star = "*" if kind.endswith("*") else ""
-            line = f"{STEP}{kind.rstrip('*').rstrip()} "
-            for at, name in enumerate(names):
-                word = f"{star}{name}{';' if at + 1 == len(names) else ', '}"
-                if len(line) + len(word) > WIDTH:
-                    yield line.rstrip()
-                    line = STEP * 2
-                line += word
-            yield line
+            line = f"{kind.rstrip('*').rstrip()} {', '.join(star + it for it in names)};"
+            yield from textwrap.wrap(line, WIDTH - len(STEP) * (depth + 2), subsequent_indent=STEP)
+
+    def declared_rooms(self):
         for name, words in self.rooms.items():
             if words:
-                yield f"{STEP}uint64_t {name}_room[{words}];"
-            yield f"{STEP}char *{name} = (char *){f'{name}_room' if words else 'no_bytes'};"
+                yield f"uint64_t {name}_room[{words}];"
+            yield f"char *{name} = (char *){f'{name}_room' if words else 'no_bytes'};"
 
-    def indented(self, lines):
+    @staticmethod
+    def indented(lines):
         depth = 1
         for line in lines:
-            if line[0] == "@":
-                if line[1:] in self.used_labels:
-                    yield f"{STEP * (depth - 1)}{self.labels[line[1:]]}:;"
-                continue
             depth -= line[0] == "}"
-            yield STEP * (depth - (line.startswith("case ") or line == "default:")) + line
+            yield STEP * (depth - (line.startswith(("case ", "default:")) or line.endswith(":;"))) + line
             depth += line[-1] == "{"
 
     def text(self):
         lines, _ = self.tree(self.graph.order[0], None, (None, None))
         lines = lines[:-1] if lines[-1] == "return;" else lines
+        lines = [f"{self.labels[it[1:]]}:;" if it[0] == "@" else it for it in lines if it[0] != "@" or it[1:] in self.used_labels]
         body = "\n".join(lines)
         unused = [self.variable(it) for _, it in self.function.parameters if not re.search(rf"\b{self.variable(it)}\b", body)]
-        whole = [*self.printer.origins.about(self.function.name), f"{self.head()} {{", *self.declarations()]
-        return "\n".join([*whole, *(f"{STEP}(void){it};" for it in unused), *self.indented(lines), "}"])
+        lines = [*(f"(void){it};" for it in unused), *self.declared_in(lines)]
+        return "\n".join([*self.printer.origins.about(self.function.name), f"{self.head()} {{", *self.indented(lines), "}"])
 
 
 def struct_in_c(kind, bodies):

@@ -175,8 +175,9 @@ static inline void store_bytes(char *at, uint64_t x, size_t count) {
 // Bits.
 
 #if HAS_ADDITIONS
-static inline uint64_t low_zeros(uint64_t x) {
-    return x != 0 ? (uint64_t)__builtin_ctzll(x) : 64;
+// The number has a bit that is 1.
+static inline uint64_t place_of_lowest_1(uint64_t x) {
+    return (uint64_t)__builtin_ctzll(x);
 }
 
 static inline uint64_t high_zeros(uint64_t x) {
@@ -193,7 +194,7 @@ static inline uint64_t ones_in(uint64_t x) {
     return ((x + (x >> 4)) & 0x0F0F0F0F0F0F0F0Fu) * 0x0101010101010101u >> 56;
 }
 
-static inline uint64_t low_zeros(uint64_t x) {
+static inline uint64_t place_of_lowest_1(uint64_t x) {
     return ones_in(~x & (x - 1));
 }
 
@@ -582,21 +583,19 @@ static ALWAYS_INLINE uint32_t do_intmap_set_load_factor(char *handle, uint64_t t
 // The node at a place of a chain.
 // intmap_table::linked::chain::seek, in crates/intmap_table/src/linked/chain.rt
 static ALWAYS_INLINE uint64_t chain_seek(char *pool, uint64_t from, uint64_t place) {
-    char *nodes, *node;
-    uint64_t at, r2_013, r10, r12;
     if (place == 0) {
         return from;
     }
-    nodes = load_address(pool + POOL_NODES);
-    at = from;
-    r2_013 = 0;
+    char *nodes = load_address(pool + POOL_NODES);
+    uint64_t at = from;
+    uint64_t r2_013 = 0;
     for (;;) {
-        node = nodes + (at * NODE_SIZE);
+        char *node = nodes + (at * NODE_SIZE);
         if (load8(node + NODE_HAS_PAIR) != 1) {
             abort();
         }
-        r10 = (((uint64_t)load16(node + NODE_HIGH)) << 32) | ((uint64_t)load32(node + NODE_LOW));
-        r12 = r2_013 + 1;
+        uint64_t r10 = (((uint64_t)load16(node + NODE_HIGH)) << 32) | ((uint64_t)load32(node + NODE_LOW));
+        uint64_t r12 = r2_013 + 1;
         if (r12 == place) {
             return r10;
         }
@@ -608,25 +607,24 @@ static ALWAYS_INLINE uint64_t chain_seek(char *pool, uint64_t from, uint64_t pla
 // The same as `get`, but each comparison of a stored key with the sought one is counted in `steps`.
 // intmap::map::IntMap::get_counted, in crates/intmap/src/map/get.rt
 static ALWAYS_INLINE struct byte_address intmap_get_counted(char *map, uint64_t key) {
-    char *slot, *r11, *nodes, *node, *node_2;
-    uint64_t r10, nodes_len, at, r2_0, at_2, r10_2;
-    slot = load_address(map + INT_MAP_SLOTS) + ((load64(map + INT_MAP_MASK) & (key * MULTIPLIER)) * SLOT_SIZE);
+    char *r11;
+    char *slot = load_address(map + INT_MAP_SLOTS) + ((load64(map + INT_MAP_MASK) & (key * MULTIPLIER)) * SLOT_SIZE);
     if (load8(slot + SLOT_HAS_PAIR) != 1) {
         return made_byte_address(0, NULL);
     }
-    r10 = (((uint64_t)load16(slot + SLOT_HIGH)) << 32) | ((uint64_t)load32(slot + SLOT_LOW));
+    uint64_t r10 = (((uint64_t)load16(slot + SLOT_HIGH)) << 32) | ((uint64_t)load32(slot + SLOT_LOW));
     if (load64(slot + SLOT_KEY) == key) {
         r11 = slot;
     } else {
-        nodes_len = load64(map + INT_MAP_NODES_LEN);
+        uint64_t nodes_len = load64(map + INT_MAP_NODES_LEN);
         if (nodes_len <= r10) {
             return made_byte_address(0, NULL);
         }
-        nodes = load_address(map + INT_MAP_NODES);
-        at = r10;
-        r2_0 = 0;
+        char *nodes = load_address(map + INT_MAP_NODES);
+        uint64_t at = r10;
+        uint64_t r2_0 = 0;
         for (;;) {
-            node = nodes + (at * NODE_SIZE);
+            char *node = nodes + (at * NODE_SIZE);
             if (load8(node + NODE_HAS_PAIR) != 1) {
                 return made_byte_address(0, NULL);
             }
@@ -635,15 +633,15 @@ static ALWAYS_INLINE struct byte_address intmap_get_counted(char *map, uint64_t 
                     r11 = slot;
                     break;
                 }
-                at_2 = chain_seek(map + INT_MAP_NODES, r10, r2_0);
-                node_2 = load_address(map + INT_MAP_NODES) + (at_2 * NODE_SIZE);
+                uint64_t at_2 = chain_seek(map + INT_MAP_NODES, r10, r2_0);
+                char *node_2 = load_address(map + INT_MAP_NODES) + (at_2 * NODE_SIZE);
                 if (load8(node_2 + NODE_HAS_PAIR) != 1) {
                     abort();
                 }
                 r11 = node_2;
                 break;
             }
-            r10_2 = (((uint64_t)load16(node + NODE_HIGH)) << 32) | ((uint64_t)load32(node + NODE_LOW));
+            uint64_t r10_2 = (((uint64_t)load16(node + NODE_HIGH)) << 32) | ((uint64_t)load32(node + NODE_LOW));
             if (nodes_len <= r10_2) {
                 return made_byte_address(0, NULL);
             }
@@ -657,23 +655,19 @@ static ALWAYS_INLINE struct byte_address intmap_get_counted(char *map, uint64_t 
 // Removes the first pair of a slot that holds others, which move up by one place.
 // intmap_table::linked::row::take_first_of_several, in crates/intmap_table/src/linked/row.rt
 static ALIGNED NOINLINE struct word_word row_take_first_of_several(char *slot, char *pool) {
-    uint64_t at, free, key, value, key_2, value_2;
-    char *node;
-    uint16_t high;
-    uint32_t low;
     if (load8(slot + SLOT_HAS_PAIR) != 1) {
         abort();
     }
-    at = (((uint64_t)load16(slot + SLOT_HIGH)) << 32) | ((uint64_t)load32(slot + SLOT_LOW));
-    node = load_address(pool + POOL_NODES) + (at * NODE_SIZE);
+    uint64_t at = (((uint64_t)load16(slot + SLOT_HIGH)) << 32) | ((uint64_t)load32(slot + SLOT_LOW));
+    char *node = load_address(pool + POOL_NODES) + (at * NODE_SIZE);
     if (load8(node + NODE_HAS_PAIR) != 1) {
         abort();
     }
-    high = load16(node + NODE_HIGH);
-    low = load32(node + NODE_LOW);
-    free = load64(pool + POOL_FREE);
-    key = load64(node + NODE_KEY);
-    value = load64(node + NODE_VALUE);
+    uint16_t high = load16(node + NODE_HIGH);
+    uint32_t low = load32(node + NODE_LOW);
+    uint64_t free = load64(pool + POOL_FREE);
+    uint64_t key = load64(node + NODE_KEY);
+    uint64_t value = load64(node + NODE_VALUE);
     store16(node + NODE_HAS_PAIR, 0);
     store16(node + NODE_HIGH, (uint16_t)(free >> 32));
     store32(node + NODE_LOW, (uint32_t)free);
@@ -685,8 +679,8 @@ static ALIGNED NOINLINE struct word_word row_take_first_of_several(char *slot, c
     }
     store16(slot + SLOT_HIGH, high);
     store32(slot + SLOT_LOW, low);
-    key_2 = load64(slot + SLOT_KEY);
-    value_2 = load64(slot + SLOT_VALUE);
+    uint64_t key_2 = load64(slot + SLOT_KEY);
+    uint64_t value_2 = load64(slot + SLOT_VALUE);
     store64(slot + SLOT_KEY, key);
     store64(slot + SLOT_VALUE, value);
     return made_word_word(key_2, value_2);
@@ -695,14 +689,12 @@ static ALIGNED NOINLINE struct word_word row_take_first_of_several(char *slot, c
 // Puts a pair into the place of another of those that a link leads through, and returns that one.
 // intmap_table::linked::chain::swap_behind, in crates/intmap_table/src/linked/chain.rt
 static ALWAYS_INLINE uint64_t chain_swap_behind(uint64_t link, char *pool, uint64_t place, uint64_t a3, uint64_t a4) {
-    uint64_t at, value;
-    char *node;
-    at = chain_seek(pool, link, place);
-    node = load_address(pool + POOL_NODES) + (at * NODE_SIZE);
+    uint64_t at = chain_seek(pool, link, place);
+    char *node = load_address(pool + POOL_NODES) + (at * NODE_SIZE);
     if (load8(node + NODE_HAS_PAIR) != 1) {
         abort();
     }
-    value = load64(node + NODE_VALUE);
+    uint64_t value = load64(node + NODE_VALUE);
     store64(node + NODE_KEY, a3);
     store64(node + NODE_VALUE, a4);
     return value;
@@ -711,13 +703,8 @@ static ALWAYS_INLINE uint64_t chain_swap_behind(uint64_t link, char *pool, uint6
 // The same keys in the same slots, with clones of their values.
 // intmap_table::table::slots::Slots::clone, in crates/intmap_table/src/table/slots/clone.rt
 static ALWAYS_INLINE void slots_clone(char *result, char *map) {
-    uint64_t slots_len, words_len, r7_pre_phi33, r19_2, r0_05, r18, r30, nodes_len, spare, r10, slots_len_2, index,
-        r111, value, key, r0, r10_2, at, r10_3, key_2, value_2, next_index, mask;
-    bool r12, r12_2;
-    char *r19, *words, *r9_45_0_ph34, *r8, *r26, *r31, *r8_2, *slots, *slot, *node, *r22;
-    struct word_word block, block_2, block_3;
-    uint16_t high, high_2, r48, r48_2;
-    uint32_t low, r48_3;
+    char *r19, *r9_45_0_ph34, *r26, *r31;
+    uint64_t r7_pre_phi33;
     char *dangling = (char *)no_bytes;
     uint64_t r14_room[3];
     char *r14 = (char *)r14_room;
@@ -726,11 +713,11 @@ static ALWAYS_INLINE void slots_clone(char *result, char *map) {
     uint64_t nodes_at_room[5];
     char *nodes_at = (char *)nodes_at_room;
     memset(nodes_at, 0, POOL_SIZE);
-    slots_len = load64(map + INT_MAP_SLOTS_LEN);
-    r12 = slots_len == 0;
+    uint64_t slots_len = load64(map + INT_MAP_SLOTS_LEN);
+    bool r12 = slots_len == 0;
     if (!r12) {
         if (slots_len < TOO_MANY(24)) {
-            block = rattle_alloc(slots_len * 24, 8);
+            struct word_word block = rattle_alloc(slots_len * 24, 8);
             if ((block.first & 1) != 0) {
                 r19 = (char *)(uintptr_t)block.second;
                 goto arm_1;
@@ -742,25 +729,25 @@ static ALWAYS_INLINE void slots_clone(char *result, char *map) {
     }
     r19 = dangling;
 arm_1:;
-    words = load_address(map + INT_MAP_WORDS);
-    words_len = load64(map + INT_MAP_WORDS_LEN);
-    r12_2 = words_len == 0;
+    char *words = load_address(map + INT_MAP_WORDS);
+    uint64_t words_len = load64(map + INT_MAP_WORDS_LEN);
+    bool r12_2 = words_len == 0;
     if (!r12_2) {
         if (words_len < TOO_MANY(8)) {
-            r19_2 = words_len << 3;
-            block_2 = rattle_alloc(r19_2, 8);
+            uint64_t r19_2 = words_len << 3;
+            struct word_word block_2 = rattle_alloc(r19_2, 8);
             if ((block_2.first & 1) != 0) {
-                r8 = (char *)(uintptr_t)block_2.second;
+                char *r8 = (char *)(uintptr_t)block_2.second;
                 if ((block_2.second - ((uint64_t)(uintptr_t)words)) >= r19_2) {
                     r9_45_0_ph34 = r8;
                     r7_pre_phi33 = r19_2;
                     goto apart_2;
                 }
-                r0_05 = 0;
+                uint64_t r0_05 = 0;
                 for (;;) {
-                    r18 = r0_05 << 3;
+                    uint64_t r18 = r0_05 << 3;
                     store64(r8 + r18, load64(words + r18));
-                    r30 = r0_05 + 1;
+                    uint64_t r30 = r0_05 + 1;
                     if (r30 == words_len) {
                         r26 = r8;
                         goto arm_5;
@@ -782,14 +769,14 @@ apart_2:;
     memmove(r9_45_0_ph34, words, r7_pre_phi33);
     r26 = r9_45_0_ph34;
 arm_5:;
-    nodes_len = load64(map + INT_MAP_NODES_LEN);
-    spare = load64(map + INT_MAP_SPARE);
-    r10 = nodes_len - spare;
+    uint64_t nodes_len = load64(map + INT_MAP_NODES_LEN);
+    uint64_t spare = load64(map + INT_MAP_SPARE);
+    uint64_t r10 = nodes_len - spare;
     if (nodes_len != spare) {
         if (r10 < TOO_MANY(24)) {
-            block_3 = rattle_alloc(r10 * 24, 8);
+            struct word_word block_3 = rattle_alloc(r10 * 24, 8);
             if ((block_3.first & 1) != 0) {
-                r8_2 = (char *)(uintptr_t)block_3.second;
+                char *r8_2 = (char *)(uintptr_t)block_3.second;
                 if (r10 <= NODE_LIMIT) {
                     r31 = r8_2;
                     goto arm_8;
@@ -816,35 +803,39 @@ arm_8:;
     store64(nodes_at + POOL_NODES_ROOM, r10);
     store64(nodes_at + POOL_FREE, NOWHERE);
     store64(nodes_at + POOL_SPARE, 0);
-    slots = load_address(map + INT_MAP_SLOTS);
-    slots_len_2 = load64(map + INT_MAP_SLOTS_LEN);
+    char *slots = load_address(map + INT_MAP_SLOTS);
+    uint64_t slots_len_2 = load64(map + INT_MAP_SLOTS_LEN);
     if (slots_len_2 != 0) {
-        index = 0;
+        uint64_t index = 0;
         for (;;) {
-            r111 = index * SLOT_SIZE;
-            slot = slots + r111;
+            uint64_t key_2, value_2;
+            uint16_t r48, r48_2;
+            uint32_t r48_3;
+            uint64_t r111 = index * SLOT_SIZE;
+            char *slot = slots + r111;
             if (load8(slot + SLOT_HAS_PAIR) == 1) {
-                high = load16(slot + SLOT_HIGH);
-                low = load32(slot + SLOT_LOW);
-                value = load64(slot + SLOT_VALUE);
-                key = load64(slot + SLOT_KEY);
+                uint64_t r0;
+                uint16_t high = load16(slot + SLOT_HIGH);
+                uint32_t low = load32(slot + SLOT_LOW);
+                uint64_t value = load64(slot + SLOT_VALUE);
+                uint64_t key = load64(slot + SLOT_KEY);
                 if (high == NOWHERE_HIGH) {
                     r0 = NOWHERE;
                 } else {
-                    r10_2 = load64(nodes_at + POOL_NODES_LEN) - load64(nodes_at + POOL_SPARE);
-                    at = (((uint64_t)high) << 32) | ((uint64_t)low);
+                    uint64_t r10_2 = load64(nodes_at + POOL_NODES_LEN) - load64(nodes_at + POOL_SPARE);
+                    uint64_t at = (((uint64_t)high) << 32) | ((uint64_t)low);
                     for (;;) {
                         if (load64(map + INT_MAP_NODES_LEN) <= at) {
                             r0 = r10_2;
                             break;
                         }
-                        node = load_address(map + INT_MAP_NODES) + (at * NODE_SIZE);
+                        char *node = load_address(map + INT_MAP_NODES) + (at * NODE_SIZE);
                         if (load8(node + NODE_HAS_PAIR) != 1) {
                             r0 = r10_2;
                             break;
                         }
-                        high_2 = load16(node + NODE_HIGH);
-                        r10_3 = (((uint64_t)high_2) << 32) | ((uint64_t)load32(node + NODE_LOW));
+                        uint16_t high_2 = load16(node + NODE_HIGH);
+                        uint64_t r10_3 = (((uint64_t)high_2) << 32) | ((uint64_t)load32(node + NODE_LOW));
                         pool_append(r14, nodes_at, (high_2 == NOWHERE_HIGH) ? NOWHERE : ((load64(nodes_at + POOL_NODES_LEN) + 1) - load64(nodes_at + POOL_SPARE)), load64(node + NODE_KEY), load64(node + NODE_VALUE));
                         if (load8(r14) != 0) {
                             memset(r0_27, 0, 40);
@@ -877,20 +868,20 @@ arm_8:;
                 r48_2 = 0;
                 r48_3 = 0;
             }
-            r22 = r19 + r111;
+            char *r22 = r19 + r111;
             store16(r22, r48);
             store16(r22 + 2, r48_2);
             store32(r22 + 4, r48_3);
             store64(r22 + 8, key_2);
             store64(r22 + 16, value_2);
-            next_index = index + 1;
+            uint64_t next_index = index + 1;
             if (next_index == slots_len_2) {
                 break;
             }
             index = next_index;
         }
     }
-    mask = load64(map + INT_MAP_MASK);
+    uint64_t mask = load64(map + INT_MAP_MASK);
     store8(result + MADE_SLOTS_HAS_FAILED, 0);
     store64(result + MADE_SLOTS_MASK, mask);
     store_address(result + MADE_SLOTS_WORDS, r26);
@@ -905,12 +896,10 @@ arm_8:;
 // Puts a pair with a link into a new node behind the others, if none is free, and returns which.
 // intmap_table::linked::pool::Pool::append, in crates/intmap_table/src/linked/pool.rt
 static ALWAYS_INLINE void pool_append(char *result, char *nodes_at, uint64_t link, uint64_t a3, uint64_t a4) {
-    uint64_t nodes_len, nodes_len_2;
-    bool r24;
-    char *r22;
-    nodes_len = load64(nodes_at + POOL_NODES_LEN);
+    uint64_t nodes_len_2;
+    uint64_t nodes_len = load64(nodes_at + POOL_NODES_LEN);
     if (load64(nodes_at + POOL_NODES_ROOM) == nodes_len) {
-        r24 = vec_grow_amortized(nodes_at);
+        bool r24 = vec_grow_amortized(nodes_at);
         if ((nodes_len != NODE_LIMIT) & r24) {
             nodes_len_2 = load64(nodes_at + POOL_NODES_LEN);
             goto after_1;
@@ -926,7 +915,7 @@ static ALWAYS_INLINE void pool_append(char *result, char *nodes_at, uint64_t lin
     store64(result + 16, a4);
     return;
 after_1:;
-    r22 = load_address(nodes_at + POOL_NODES) + (nodes_len_2 * 24);
+    char *r22 = load_address(nodes_at + POOL_NODES) + (nodes_len_2 * 24);
     store16(r22, 1);
     store16(r22 + 2, (uint16_t)(link >> 32));
     store32(r22 + 4, (uint32_t)link);
@@ -940,28 +929,27 @@ after_1:;
 
 // std_alloc::vec::Vec::grow_amortized, in Rattle's library std_alloc
 static COLD bool vec_grow_amortized(char *nodes_at) {
-    uint64_t nodes_len, nodes_room, x0, a2_a1, x1, common_ret_op;
-    struct word_word block, r0, block_2;
-    nodes_len = load64(nodes_at + POOL_NODES_LEN);
+    struct word_word r0;
+    uint64_t nodes_len = load64(nodes_at + POOL_NODES_LEN);
     if (nodes_len == UINT64_MAX) {
         return false;
     }
-    nodes_room = load64(nodes_at + POOL_NODES_ROOM);
-    x0 = greater(nodes_len, 3);
-    a2_a1 = x0 + 1;
-    x1 = greater(a2_a1, nodes_room << 1);
-    common_ret_op = (nodes_room < UINT64_C(4611686018427387904)) ? x1 : a2_a1;
+    uint64_t nodes_room = load64(nodes_at + POOL_NODES_ROOM);
+    uint64_t x0 = greater(nodes_len, 3);
+    uint64_t a2_a1 = x0 + 1;
+    uint64_t x1 = greater(a2_a1, nodes_room << 1);
+    uint64_t common_ret_op = (nodes_room < UINT64_C(4611686018427387904)) ? x1 : a2_a1;
     if (common_ret_op >= TOO_MANY(24)) {
         return false;
     }
     if (nodes_room == 0) {
-        block = rattle_alloc(x1 * 24, 8);
+        struct word_word block = rattle_alloc(x1 * 24, 8);
         if ((block.first & 1) == 0) {
             return false;
         }
         r0 = block;
     } else {
-        block_2 = rattle_realloc(load_address(nodes_at + POOL_NODES), nodes_len * 24, common_ret_op * 24, 8);
+        struct word_word block_2 = rattle_realloc(load_address(nodes_at + POOL_NODES), nodes_len * 24, common_ret_op * 24, 8);
         if ((block_2.first & 1) == 0) {
             return false;
         }
@@ -975,30 +963,26 @@ static COLD bool vec_grow_amortized(char *nodes_at) {
 // Puts a new map into the handle and returns `OK`.
 // intmap_c::make::keep, in crates/intmap_c/src/make.rt
 static ALIGNED uint32_t make_keep(char *handle, char *made) {
-    char *mask, *words, *slots, *nodes, *map, *map_2, *words_2, *slots_2, *nodes_2;
-    uint64_t words_len, words_room, slots_len, slots_room, nodes_len, nodes_room, map_address, slots_room_2,
-        nodes_room_2, words_room_2;
-    struct word_word block;
     uint64_t r2_room[2];
     char *r2 = (char *)r2_room;
     uint64_t r2_2_room[3];
     char *r2_2 = (char *)r2_2_room;
-    mask = load_address(made + MADE_INT_MAP_MASK);
-    words = load_address(made + MADE_INT_MAP_WORDS);
-    words_len = load64(made + MADE_INT_MAP_WORDS_LEN);
-    words_room = load64(made + MADE_INT_MAP_WORDS_ROOM);
-    slots = load_address(made + MADE_INT_MAP_SLOTS);
-    slots_len = load64(made + MADE_INT_MAP_SLOTS_LEN);
-    slots_room = load64(made + MADE_INT_MAP_SLOTS_ROOM);
-    nodes = load_address(made + MADE_INT_MAP_NODES);
-    nodes_len = load64(made + MADE_INT_MAP_NODES_LEN);
-    nodes_room = load64(made + MADE_INT_MAP_NODES_ROOM);
+    char *mask = load_address(made + MADE_INT_MAP_MASK);
+    char *words = load_address(made + MADE_INT_MAP_WORDS);
+    uint64_t words_len = load64(made + MADE_INT_MAP_WORDS_LEN);
+    uint64_t words_room = load64(made + MADE_INT_MAP_WORDS_ROOM);
+    char *slots = load_address(made + MADE_INT_MAP_SLOTS);
+    uint64_t slots_len = load64(made + MADE_INT_MAP_SLOTS_LEN);
+    uint64_t slots_room = load64(made + MADE_INT_MAP_SLOTS_ROOM);
+    char *nodes = load_address(made + MADE_INT_MAP_NODES);
+    uint64_t nodes_len = load64(made + MADE_INT_MAP_NODES_LEN);
+    uint64_t nodes_room = load64(made + MADE_INT_MAP_NODES_ROOM);
     if (load8(made + MADE_INT_MAP_HAS_FAILED) != 0) {
         return (load8(made + MADE_INT_MAP_CAUSE) == 0) ? NO_MEMORY : TOO_LARGE;
     }
     memcpy(r2, made + MADE_INT_MAP_FREE, 16);
     memcpy(r2_2, made + MADE_INT_MAP_LEN, 24);
-    block = rattle_alloc(INT_MAP_SIZE, 8);
+    struct word_word block = rattle_alloc(INT_MAP_SIZE, 8);
     if ((block.first & 1) == 0) {
         if (words_room != 0) {
             rattle_dealloc(words);
@@ -1012,7 +996,7 @@ static ALIGNED uint32_t make_keep(char *handle, char *made) {
         rattle_dealloc(nodes);
         return NO_MEMORY;
     }
-    map = (char *)(uintptr_t)block.second;
+    char *map = (char *)(uintptr_t)block.second;
     store_address(map + INT_MAP_MASK, mask);
     store_address(map + INT_MAP_WORDS, words);
     store64(map + INT_MAP_WORDS_LEN, words_len);
@@ -1025,18 +1009,18 @@ static ALIGNED uint32_t make_keep(char *handle, char *made) {
     store64(map + INT_MAP_NODES_ROOM, nodes_room);
     memcpy(map + INT_MAP_FREE, r2, 16);
     memcpy(map + INT_MAP_LEN, r2_2, 24);
-    map_address = load64(handle);
+    uint64_t map_address = load64(handle);
     store64(handle, block.second);
     if (map_address == 0) {
         return 0;
     }
-    map_2 = (char *)(uintptr_t)map_address;
-    words_2 = load_address(map_2 + INT_MAP_WORDS);
-    slots_2 = load_address(map_2 + INT_MAP_SLOTS);
-    slots_room_2 = load64(map_2 + INT_MAP_SLOTS_ROOM);
-    nodes_2 = load_address(map_2 + INT_MAP_NODES);
-    nodes_room_2 = load64(map_2 + INT_MAP_NODES_ROOM);
-    words_room_2 = load64(map_2 + INT_MAP_WORDS_ROOM);
+    char *map_2 = (char *)(uintptr_t)map_address;
+    char *words_2 = load_address(map_2 + INT_MAP_WORDS);
+    char *slots_2 = load_address(map_2 + INT_MAP_SLOTS);
+    uint64_t slots_room_2 = load64(map_2 + INT_MAP_SLOTS_ROOM);
+    char *nodes_2 = load_address(map_2 + INT_MAP_NODES);
+    uint64_t nodes_room_2 = load64(map_2 + INT_MAP_NODES_ROOM);
+    uint64_t words_room_2 = load64(map_2 + INT_MAP_WORDS_ROOM);
     rattle_dealloc(map_2);
     if (words_room_2 != 0) {
         rattle_dealloc(words_2);
@@ -1054,9 +1038,8 @@ static ALIGNED uint32_t make_keep(char *handle, char *made) {
 // An empty map of `slots` slots.
 // intmap::map::IntMap::with_slots, in crates/intmap/src/map/build.rt
 static ALIGNED void intmap_with_slots(char *result, uint64_t slots) {
-    uint64_t r15, r4_0, r19, r4_0_2, r19_2, r3, r4_2, r4_4, r4_5, slots_2, r4_7, r4_8, r4_9;
-    char *r15_2, *r12_452_0_ph207, *r8, *r8_2, *r4_3, *r4_6, *dangling_2;
-    struct word_word block, block_2;
+    uint64_t r15, r4_0, r4_2, r4_4, r4_5, slots_2, r4_7, r4_8, r4_9;
+    char *r15_2, *r12_452_0_ph207, *r4_3, *r4_6, *dangling_2;
     uint8_t r3_2;
     u128 r17;
     char *dangling = (char *)no_bytes;
@@ -1069,6 +1052,7 @@ static ALIGNED void intmap_with_slots(char *result, uint64_t slots) {
         r12_452_0_ph207 = dangling;
         r4_0 = 0;
     } else {
+        uint64_t r3;
         if (slots >= TOO_MANY(24)) {
             r3_2 = 1;
             r4_2 = 0;
@@ -1083,8 +1067,8 @@ static ALIGNED void intmap_with_slots(char *result, uint64_t slots) {
             r4_9 = 0;
             goto join_4;
         }
-        r19 = slots * 24;
-        block = rattle_alloc(r19, 8);
+        uint64_t r19 = slots * 24;
+        struct word_word block = rattle_alloc(r19, 8);
         if ((block.first & 1) == 0) {
             r3_2 = 1;
             r4_2 = 0;
@@ -1099,10 +1083,10 @@ static ALIGNED void intmap_with_slots(char *result, uint64_t slots) {
             r4_9 = 0;
             goto join_4;
         }
-        r8 = (char *)(uintptr_t)block.second;
-        r4_0_2 = (slots + 63) >> 6;
-        r19_2 = r4_0_2 << 3;
-        block_2 = rattle_alloc(r19_2, 8);
+        char *r8 = (char *)(uintptr_t)block.second;
+        uint64_t r4_0_2 = (slots + 63) >> 6;
+        uint64_t r19_2 = r4_0_2 << 3;
+        struct word_word block_2 = rattle_alloc(r19_2, 8);
         if ((block_2.first & 1) == 0) {
             rattle_dealloc(r8);
             r3_2 = 1;
@@ -1118,7 +1102,7 @@ static ALIGNED void intmap_with_slots(char *result, uint64_t slots) {
             r4_9 = 0;
             goto join_4;
         }
-        r8_2 = (char *)(uintptr_t)block_2.second;
+        char *r8_2 = (char *)(uintptr_t)block_2.second;
         if (r4_0_2 == 1) {
             r3 = 0;
         } else {
@@ -1166,27 +1150,26 @@ join_4:;
 // `capacity` slots without a pair, and room for `room` pairs that share a slot with another.
 // intmap_table::table::slots::Slots::new, in crates/intmap_table/src/table/slots.rt
 static ALIGNED void slots_new(char *result, uint64_t capacity, uint64_t room) {
-    bool r12;
-    uint64_t r4_0, r15_2, r4_0_2, r19, r3;
-    char *r12_452_0_ph207, *r15, *r8, *r8_2, *r18, *r8_3;
-    struct word_word block, block_2, block_3;
+    uint64_t r4_0, r15_2;
+    char *r12_452_0_ph207, *r15, *r18;
     char *dangling = (char *)no_bytes;
-    r12 = capacity == 0;
+    bool r12 = capacity == 0;
     if (!r12) {
         if (capacity < TOO_MANY(24)) {
-            block = rattle_alloc(capacity * 24, 8);
+            struct word_word block = rattle_alloc(capacity * 24, 8);
             if ((block.first & 1) != 0) {
-                r8 = (char *)(uintptr_t)block.second;
-                r4_0_2 = (capacity + 63) >> 6;
-                r19 = r4_0_2 << 3;
-                block_2 = rattle_alloc(r19, 8);
+                uint64_t r3;
+                char *r8 = (char *)(uintptr_t)block.second;
+                uint64_t r4_0_2 = (capacity + 63) >> 6;
+                uint64_t r19 = r4_0_2 << 3;
+                struct word_word block_2 = rattle_alloc(r19, 8);
                 if ((block_2.first & 1) == 0) {
                     rattle_dealloc(r8);
                     store8(result + MADE_SLOTS_HAS_FAILED, 1);
                     memset(result + MADE_SLOTS_MASK, 0, SLOTS_SIZE);
                     return;
                 }
-                r8_2 = (char *)(uintptr_t)block_2.second;
+                char *r8_2 = (char *)(uintptr_t)block_2.second;
                 if (r4_0_2 == 1) {
                     r3 = 0;
                 } else {
@@ -1212,9 +1195,9 @@ static ALIGNED void slots_new(char *result, uint64_t capacity, uint64_t room) {
 arm_5:;
     if (room != 0) {
         if (room < TOO_MANY(24)) {
-            block_3 = rattle_alloc(room * 24, 8);
+            struct word_word block_3 = rattle_alloc(room * 24, 8);
             if ((block_3.first & 1) != 0) {
-                r8_3 = (char *)(uintptr_t)block_3.second;
+                char *r8_3 = (char *)(uintptr_t)block_3.second;
                 if (room <= NODE_LIMIT) {
                     r18 = r8_3;
                     goto arm_8;
@@ -1253,29 +1236,27 @@ arm_8:;
 // Makes a new map, for which there may be no memory.
 // intmap_c::handle::make_first, in crates/intmap_c/src/handle.rt
 static ALIGNED NOINLINE struct byte_address handle_make_first(void) {
-    struct word_word block, block_2, block_3;
-    char *r8, *r8_2, *x0;
     char *dangling = (char *)no_bytes;
-    block = rattle_alloc(96, 8);
+    struct word_word block = rattle_alloc(96, 8);
     if ((block.first & 1) == 0) {
         return made_byte_address(0, NULL);
     }
-    r8 = (char *)(uintptr_t)block.second;
-    block_2 = rattle_alloc(8, 8);
+    char *r8 = (char *)(uintptr_t)block.second;
+    struct word_word block_2 = rattle_alloc(8, 8);
     if ((block_2.first & 1) == 0) {
         rattle_dealloc(r8);
         return made_byte_address(0, NULL);
     }
-    r8_2 = (char *)(uintptr_t)block_2.second;
+    char *r8_2 = (char *)(uintptr_t)block_2.second;
     store64(r8_2, 0);
     memset(r8, 0, 96);
-    block_3 = rattle_alloc(120, 8);
+    struct word_word block_3 = rattle_alloc(120, 8);
     if ((block_3.first & 1) == 0) {
         rattle_dealloc(r8_2);
         rattle_dealloc(r8);
         return made_byte_address(0, NULL);
     }
-    x0 = (char *)(uintptr_t)block_3.second;
+    char *x0 = (char *)(uintptr_t)block_3.second;
     store_address(x0, (char *)(uintptr_t)3);
     store_address(x0 + 8, r8_2);
     store64(x0 + 16, 1);
@@ -1295,27 +1276,22 @@ static ALIGNED NOINLINE struct byte_address handle_make_first(void) {
 // Adds the pair of an absent key, if the new length exceeds the load factor, and returns where it is.
 // intmap::map::IntMap::add_growing, in crates/intmap/src/map/insert.rt
 static ALIGNED NOINLINE void intmap_add_growing(char *result, char *map, uint64_t len, uint64_t slot, uint64_t key, uint64_t value) {
-    uint64_t slots_len, r0, r3_09, r31, r8_0, r2, index, nodes_len, r10_2, at, x2, r6, words_len, bits, r1, r1_2,
-        r1_3, r26, bits_2, r1_4, r1_5, r49, r64, at_2, at_3, r10_3, slots_room, nodes_room, words_room, r10_4,
-        nodes_len_2, at_4, r2_016, r10_5, r11_2, r3_0, r12, r12_2, r17_4, r17_2;
-    u128 r10, r13, r187, r15, r18, r17;
-    char *slot_2, *node, *slot_3, *words, *r11, *slots, *nodes, *slot_4, *node_2, *words_2, *slots_2, *nodes_2,
-        *slot_5, *nodes_3, *node_3;
-    uint8_t has_pair, r17_3;
-    uint16_t high, high_2;
+    u128 r15;
+    uint64_t r0, x2, r12, r12_2, r17_2, r17_4;
+    uint8_t r17_3;
     uint64_t mask_at_room[12];
     char *mask_at = (char *)mask_at_room;
     uint64_t has_failed_at_room[13];
     char *has_failed_at = (char *)has_failed_at_room;
-    slots_len = load64(map + INT_MAP_SLOTS_LEN);
-    r10 = u128_mul(u128_of(len), u128_of(1000u));
-    r13 = u128_add(u128_of(load64(map + INT_MAP_FACTOR)), u128_of(1u));
-    r187 = u128_mul(r13, u128_of(slots_len));
+    uint64_t slots_len = load64(map + INT_MAP_SLOTS_LEN);
+    u128 r10 = u128_mul(u128_of(len), u128_of(1000u));
+    u128 r13 = u128_add(u128_of(load64(map + INT_MAP_FACTOR)), u128_of(1u));
+    u128 r187 = u128_mul(r13, u128_of(slots_len));
     if (u128_above(r187, r10)) {
         r15 = r187;
         r0 = slots_len;
     } else {
-        r3_09 = slots_len;
+        uint64_t r3_09 = slots_len;
         for (;;) {
             if (r3_09 == GREATEST_CAPACITY) {
                 store64(result, 1);
@@ -1325,8 +1301,8 @@ static ALIGNED NOINLINE void intmap_add_growing(char *result, char *map, uint64_
                 store64(result + 24, 0);
                 return;
             }
-            r31 = r3_09 << 1;
-            r18 = u128_mul(r13, u128_of(r31));
+            uint64_t r31 = r3_09 << 1;
+            u128 r18 = u128_mul(r13, u128_of(r31));
             if (u128_above(r18, r10)) {
                 r15 = r18;
                 r0 = r31;
@@ -1335,23 +1311,23 @@ static ALIGNED NOINLINE void intmap_add_growing(char *result, char *map, uint64_
             r3_09 = r31;
         }
     }
-    r17 = u128_less_one(r15);
-    r8_0 = u128_above(r17, u128_two(999, UINT64_MAX)) ? UINT64_MAX : u128_low(u128_div(r17, u128_of(1000u)));
-    r2 = r0 - 1;
-    index = r2 & (key * MULTIPLIER);
+    u128 r17 = u128_less_one(r15);
+    uint64_t r8_0 = u128_above(r17, u128_two(999, UINT64_MAX)) ? UINT64_MAX : u128_low(u128_div(r17, u128_of(1000u)));
+    uint64_t r2 = r0 - 1;
+    uint64_t index = r2 & (key * MULTIPLIER);
     memset(has_failed_at, 0, MADE_SLOTS_SIZE);
-    nodes_len = load64(map + INT_MAP_NODES_LEN);
-    r10_2 = nodes_len - load64(map + INT_MAP_SPARE);
-    slot_2 = load_address(map + INT_MAP_SLOTS) + (slot * SLOT_SIZE);
+    uint64_t nodes_len = load64(map + INT_MAP_NODES_LEN);
+    uint64_t r10_2 = nodes_len - load64(map + INT_MAP_SPARE);
+    char *slot_2 = load_address(map + INT_MAP_SLOTS) + (slot * SLOT_SIZE);
     if (load8(slot_2 + SLOT_HAS_PAIR) == 1) {
         if (((load64(slot_2 + SLOT_KEY) * MULTIPLIER) & r2) != index) {
-            at = (((uint64_t)load16(slot_2 + SLOT_HIGH)) << 32) | ((uint64_t)load32(slot_2 + SLOT_LOW));
+            uint64_t at = (((uint64_t)load16(slot_2 + SLOT_HIGH)) << 32) | ((uint64_t)load32(slot_2 + SLOT_LOW));
             for (;;) {
                 if (nodes_len <= at) {
                     x2 = r10_2;
                     goto after_Slots_needed;
                 }
-                node = load_address(map + INT_MAP_NODES) + (at * NODE_SIZE);
+                char *node = load_address(map + INT_MAP_NODES) + (at * NODE_SIZE);
                 if (load8(node + NODE_HAS_PAIR) != 1) {
                     x2 = r10_2;
                     goto after_Slots_needed;
@@ -1369,11 +1345,12 @@ static ALIGNED NOINLINE void intmap_add_growing(char *result, char *map, uint64_
 after_Slots_needed:;
     slots_new(has_failed_at, r0, x2);
     if (load8(has_failed_at + MADE_SLOTS_HAS_FAILED) == 0) {
+        uint64_t r3_0;
         memcpy(mask_at, has_failed_at + MADE_SLOTS_MASK, SLOTS_SIZE);
         slots_move_all(map, mask_at);
-        r6 = index * SLOT_SIZE;
-        slot_3 = load_address(mask_at + SLOTS_SLOTS) + r6;
-        has_pair = load8(slot_3 + SLOT_HAS_PAIR);
+        uint64_t r6 = index * SLOT_SIZE;
+        char *slot_3 = load_address(mask_at + SLOTS_SLOTS) + r6;
+        uint8_t has_pair = load8(slot_3 + SLOT_HAS_PAIR);
         if (has_pair == 1) {
             row_put_behind_first(slot_3, mask_at + SLOTS_NODES, key, value);
         } else {
@@ -1386,29 +1363,31 @@ after_Slots_needed:;
                 abort();
             }
         }
-        words = load_address(mask_at + SLOTS_WORDS);
-        r11 = words + ((index >> 3) & UINT64_C(0x1FFFFFFFFFFFFFF8));
+        char *words = load_address(mask_at + SLOTS_WORDS);
+        char *r11 = words + ((index >> 3) & UINT64_C(0x1FFFFFFFFFFFFFF8));
         store64(r11, load64(r11) | ((uint64_t)1 << (index & 63)));
         if (load64(mask_at + SLOTS_NODES_LEN) != load64(mask_at + SLOTS_SPARE)) {
-            words_len = load64(mask_at + SLOTS_WORDS_LEN);
+            uint64_t bits;
+            uint64_t words_len = load64(mask_at + SLOTS_WORDS_LEN);
             if (words_len == 0) {
                 bits = 0;
             } else {
                 bits = load64(words);
             }
-            slots = load_address(mask_at + SLOTS_SLOTS);
-            nodes = load_address(mask_at + SLOTS_NODES);
-            r1 = 0;
-            r1_2 = bits;
+            char *slots = load_address(mask_at + SLOTS_SLOTS);
+            char *nodes = load_address(mask_at + SLOTS_NODES);
+            uint64_t r1 = 0;
+            uint64_t r1_2 = bits;
             for (;;) {
+                uint64_t r1_4, r1_5;
                 if (r1_2 == 0) {
-                    r1_3 = r1;
+                    uint64_t r1_3 = r1;
                     for (;;) {
-                        r26 = r1_3 + 1;
+                        uint64_t r26 = r1_3 + 1;
                         if (words_len <= r26) {
                             goto after_Slots_turn_each;
                         }
-                        bits_2 = load64(words + (r26 << 3));
+                        uint64_t bits_2 = load64(words + (r26 << 3));
                         if (bits_2 != 0) {
                             r1_4 = r26;
                             r1_5 = bits_2;
@@ -1420,21 +1399,21 @@ after_Slots_needed:;
                     r1_4 = r1;
                     r1_5 = r1_2;
                 }
-                r49 = low_zeros(r1_5);
-                r64 = (r1_5 - 1) & r1_5;
-                slot_4 = slots + ((r49 | (r1_4 << 6)) * SLOT_SIZE);
+                uint64_t r49 = place_of_lowest_1(r1_5);
+                uint64_t r64 = (r1_5 - 1) & r1_5;
+                char *slot_4 = slots + ((r49 | (r1_4 << 6)) * SLOT_SIZE);
                 if (load8(slot_4 + SLOT_HAS_PAIR) == 1) {
-                    high = load16(slot_4 + SLOT_HIGH);
+                    uint16_t high = load16(slot_4 + SLOT_HIGH);
                     if (high != NOWHERE_HIGH) {
-                        at_2 = NOWHERE;
-                        at_3 = (((uint64_t)high) << 32) | ((uint64_t)load32(slot_4 + SLOT_LOW));
+                        uint64_t at_2 = NOWHERE;
+                        uint64_t at_3 = (((uint64_t)high) << 32) | ((uint64_t)load32(slot_4 + SLOT_LOW));
                         for (;;) {
-                            node_2 = nodes + (at_3 * NODE_SIZE);
+                            char *node_2 = nodes + (at_3 * NODE_SIZE);
                             if (load8(node_2 + NODE_HAS_PAIR) != 1) {
                                 abort();
                             }
-                            high_2 = load16(node_2 + NODE_HIGH);
-                            r10_3 = (((uint64_t)high_2) << 32) | ((uint64_t)load32(node_2 + NODE_LOW));
+                            uint16_t high_2 = load16(node_2 + NODE_HIGH);
+                            uint64_t r10_3 = (((uint64_t)high_2) << 32) | ((uint64_t)load32(node_2 + NODE_LOW));
                             store16(node_2 + NODE_HIGH, (uint16_t)(at_2 >> 32));
                             store32(node_2 + NODE_LOW, (uint32_t)at_2);
                             if (high_2 == NOWHERE_HIGH) {
@@ -1455,12 +1434,12 @@ after_Slots_needed:;
             }
         }
     after_Slots_turn_each:;
-        words_2 = load_address(map + INT_MAP_WORDS);
-        slots_2 = load_address(map + INT_MAP_SLOTS);
-        slots_room = load64(map + INT_MAP_SLOTS_ROOM);
-        nodes_2 = load_address(map + INT_MAP_NODES);
-        nodes_room = load64(map + INT_MAP_NODES_ROOM);
-        words_room = load64(map + INT_MAP_WORDS_ROOM);
+        char *words_2 = load_address(map + INT_MAP_WORDS);
+        char *slots_2 = load_address(map + INT_MAP_SLOTS);
+        uint64_t slots_room = load64(map + INT_MAP_SLOTS_ROOM);
+        char *nodes_2 = load_address(map + INT_MAP_NODES);
+        uint64_t nodes_room = load64(map + INT_MAP_NODES_ROOM);
+        uint64_t words_room = load64(map + INT_MAP_WORDS_ROOM);
         memcpy(map, mask_at, TABLE_SIZE);
         if (words_room != 0) {
             rattle_dealloc(words_2);
@@ -1471,22 +1450,22 @@ after_Slots_needed:;
         if (nodes_room != 0) {
             rattle_dealloc(nodes_2);
         }
-        slot_5 = load_address(map + INT_MAP_SLOTS) + r6;
+        char *slot_5 = load_address(map + INT_MAP_SLOTS) + r6;
         if (load8(slot_5 + SLOT_HAS_PAIR) == 1) {
-            r10_4 = (((uint64_t)load16(slot_5 + SLOT_HIGH)) << 32) | ((uint64_t)load32(slot_5 + SLOT_LOW));
-            nodes_len_2 = load64(map + INT_MAP_NODES_LEN);
+            uint64_t r10_4 = (((uint64_t)load16(slot_5 + SLOT_HIGH)) << 32) | ((uint64_t)load32(slot_5 + SLOT_LOW));
+            uint64_t nodes_len_2 = load64(map + INT_MAP_NODES_LEN);
             if (nodes_len_2 > r10_4) {
-                nodes_3 = load_address(map + INT_MAP_NODES);
-                at_4 = r10_4;
-                r2_016 = 0;
+                char *nodes_3 = load_address(map + INT_MAP_NODES);
+                uint64_t at_4 = r10_4;
+                uint64_t r2_016 = 0;
                 for (;;) {
-                    node_3 = nodes_3 + (at_4 * NODE_SIZE);
+                    char *node_3 = nodes_3 + (at_4 * NODE_SIZE);
                     if (load8(node_3 + NODE_HAS_PAIR) != 1) {
                         r3_0 = r2_016;
                         break;
                     }
-                    r10_5 = (((uint64_t)load16(node_3 + NODE_HIGH)) << 32) | ((uint64_t)load32(node_3 + NODE_LOW));
-                    r11_2 = r2_016 + 1;
+                    uint64_t r10_5 = (((uint64_t)load16(node_3 + NODE_HIGH)) << 32) | ((uint64_t)load32(node_3 + NODE_LOW));
+                    uint64_t r11_2 = r2_016 + 1;
                     if (nodes_len_2 <= r10_5) {
                         r3_0 = r11_2;
                         break;
@@ -1524,38 +1503,36 @@ after_Slots_needed:;
 // Moves all pairs, slot after slot, to new slots.
 // intmap_table::table::slots::Slots::move_all, in crates/intmap_table/src/table/slots/grow.rt
 static ALIGNED void slots_move_all(char *map, char *new_) {
-    uint64_t bits, r1, r1_2, words_len, r1_3, r26, bits_2, r1_4, r1_5, r28, r49, r64, key, index, value, key_2,
-        index_2, value_2;
-    char *words, *slot, *slot_2, *r11, *slot_3, *r11_2;
-    struct word_word r18, r24, r18_2, r24_2;
-    uint8_t has_pair, has_pair_2;
+    uint64_t bits;
     if (load64(map + INT_MAP_WORDS_LEN) == 0) {
         bits = 0;
     } else {
         bits = load64(load_address(map + INT_MAP_WORDS));
     }
-    r1 = 0;
-    r1_2 = bits;
+    uint64_t r1 = 0;
+    uint64_t r1_2 = bits;
 loop_2:;
     for (;;) {
+        uint64_t r1_4, r1_5;
+        struct word_word r18;
         if (r1_2 == 0) {
-            words_len = load64(map + INT_MAP_WORDS_LEN);
-            words = load_address(map + INT_MAP_WORDS);
-            r1_3 = r1;
+            uint64_t words_len = load64(map + INT_MAP_WORDS_LEN);
+            char *words = load_address(map + INT_MAP_WORDS);
+            uint64_t r1_3 = r1;
             for (;;) {
-                r26 = r1_3 + 1;
+                uint64_t r26 = r1_3 + 1;
                 if (words_len <= r26) {
                     if (words_len == 0) {
                         return;
                     }
-                    r28 = words_len - 1;
+                    uint64_t r28 = words_len - 1;
                     if (r28 != 0) {
                         memset(words, 0, (words_len << 3) - 8);
                     }
                     store64(words + (r28 << 3), 0);
                     return;
                 }
-                bits_2 = load64(words + (r26 << 3));
+                uint64_t bits_2 = load64(words + (r26 << 3));
                 if (bits_2 != 0) {
                     r1_4 = r26;
                     r1_5 = bits_2;
@@ -1567,24 +1544,24 @@ loop_2:;
             r1_4 = r1;
             r1_5 = r1_2;
         }
-        r49 = low_zeros(r1_5);
-        r64 = (r1_5 - 1) & r1_5;
-        slot = load_address(map + INT_MAP_SLOTS) + ((r49 | (r1_4 << 6)) * SLOT_SIZE);
+        uint64_t r49 = place_of_lowest_1(r1_5);
+        uint64_t r64 = (r1_5 - 1) & r1_5;
+        char *slot = load_address(map + INT_MAP_SLOTS) + ((r49 | (r1_4 << 6)) * SLOT_SIZE);
         if (load8(slot + SLOT_HAS_PAIR) != 1) {
             abort();
         }
-        key = load_key(slot + SLOT_KEY);
-        index = (key * MULTIPLIER) & load64(new_ + SLOTS_MASK);
+        uint64_t key = load_key(slot + SLOT_KEY);
+        uint64_t index = (key * MULTIPLIER) & load64(new_ + SLOTS_MASK);
         if (load16(slot + SLOT_HIGH) == NOWHERE_HIGH) {
-            value = load64(slot + SLOT_VALUE);
+            uint64_t value = load64(slot + SLOT_VALUE);
             memset(slot, 0, SLOT_SIZE);
             r18 = made_word_word(key, value);
         } else {
-            r24 = row_take_first_of_several_2(slot, map + INT_MAP_NODES);
+            struct word_word r24 = row_take_first_of_several_2(slot, map + INT_MAP_NODES);
             r18 = r24;
         }
-        slot_2 = load_address(new_ + SLOTS_SLOTS) + (index * SLOT_SIZE);
-        has_pair = load8(slot_2 + SLOT_HAS_PAIR);
+        char *slot_2 = load_address(new_ + SLOTS_SLOTS) + (index * SLOT_SIZE);
+        uint8_t has_pair = load8(slot_2 + SLOT_HAS_PAIR);
         if (has_pair == 1) {
             row_put_behind_first(slot_2, new_ + SLOTS_NODES, r18.first, r18.second);
         } else {
@@ -1597,9 +1574,13 @@ loop_2:;
                 abort();
             }
         }
-        r11 = load_address(new_ + SLOTS_WORDS) + ((index >> 3) & UINT64_C(0x1FFFFFFFFFFFFFF8));
+        char *r11 = load_address(new_ + SLOTS_WORDS) + ((index >> 3) & UINT64_C(0x1FFFFFFFFFFFFFF8));
         store64(r11, load64(r11) | ((uint64_t)1 << (index & 63)));
         for (;;) {
+            uint64_t key_2, index_2;
+            struct word_word r18_2;
+            char *slot_3, *r11_2;
+            uint8_t has_pair_2;
             switch (load8(slot + SLOT_HAS_PAIR)) {
             case 0:
                 r1 = r1_4;
@@ -1609,11 +1590,11 @@ loop_2:;
                 key_2 = load_key(slot + SLOT_KEY);
                 index_2 = (key_2 * MULTIPLIER) & load64(new_ + SLOTS_MASK);
                 if (load16(slot + SLOT_HIGH) == NOWHERE_HIGH) {
-                    value_2 = load64(slot + SLOT_VALUE);
+                    uint64_t value_2 = load64(slot + SLOT_VALUE);
                     memset(slot, 0, SLOT_SIZE);
                     r18_2 = made_word_word(key_2, value_2);
                 } else {
-                    r24_2 = row_take_first_of_several_2(slot, map + INT_MAP_NODES);
+                    struct word_word r24_2 = row_take_first_of_several_2(slot, map + INT_MAP_NODES);
                     r18_2 = r24_2;
                 }
                 slot_3 = load_address(new_ + SLOTS_SLOTS) + (index_2 * SLOT_SIZE);
@@ -1643,23 +1624,19 @@ loop_2:;
 // Removes the first pair of a slot that holds others, which move up by one place.
 // intmap_table::linked::row::take_first_of_several, in crates/intmap_table/src/linked/row.rt
 static ALIGNED NOINLINE struct word_word row_take_first_of_several_2(char *slot, char *pool) {
-    uint64_t at, free, key, value, key_2, value_2;
-    char *node;
-    uint16_t high;
-    uint32_t low;
     if (load8(slot + SLOT_HAS_PAIR) != 1) {
         abort();
     }
-    at = (((uint64_t)load16(slot + SLOT_HIGH)) << 32) | ((uint64_t)load32(slot + SLOT_LOW));
-    node = load_address(pool + POOL_NODES) + (at * NODE_SIZE);
+    uint64_t at = (((uint64_t)load16(slot + SLOT_HIGH)) << 32) | ((uint64_t)load32(slot + SLOT_LOW));
+    char *node = load_address(pool + POOL_NODES) + (at * NODE_SIZE);
     if (load8(node + NODE_HAS_PAIR) != 1) {
         abort();
     }
-    high = load16(node + NODE_HIGH);
-    low = load32(node + NODE_LOW);
-    free = load64(pool + POOL_FREE);
-    key = load64(node + NODE_KEY);
-    value = load64(node + NODE_VALUE);
+    uint16_t high = load16(node + NODE_HIGH);
+    uint32_t low = load32(node + NODE_LOW);
+    uint64_t free = load64(pool + POOL_FREE);
+    uint64_t key = load64(node + NODE_KEY);
+    uint64_t value = load64(node + NODE_VALUE);
     store16(node + NODE_HAS_PAIR, 0);
     store16(node + NODE_HIGH, (uint16_t)(free >> 32));
     store32(node + NODE_LOW, (uint32_t)free);
@@ -1671,8 +1648,8 @@ static ALIGNED NOINLINE struct word_word row_take_first_of_several_2(char *slot,
     }
     store16(slot + SLOT_HIGH, high);
     store32(slot + SLOT_LOW, low);
-    key_2 = load64(slot + SLOT_KEY);
-    value_2 = load64(slot + SLOT_VALUE);
+    uint64_t key_2 = load64(slot + SLOT_KEY);
+    uint64_t value_2 = load64(slot + SLOT_VALUE);
     store64(slot + SLOT_KEY, key);
     store64(slot + SLOT_VALUE, value);
     return made_word_word(key_2, value_2);
@@ -1681,19 +1658,15 @@ static ALIGNED NOINLINE struct word_word row_take_first_of_several_2(char *slot,
 // Puts a pair behind the first one of a slot that holds some.
 // intmap_table::linked::row::put_behind_first, in crates/intmap_table/src/linked/row.rt
 static ALIGNED NOINLINE void row_put_behind_first(char *slot, char *pool, uint64_t a2, uint64_t a3) {
-    uint16_t high;
-    uint32_t low;
-    uint64_t spare, r6, free;
-    char *node;
-    uint8_t has_pair;
+    uint64_t r6;
     uint64_t r0_room[3];
     char *r0 = (char *)r0_room;
     if (load8(slot + SLOT_HAS_PAIR) != 1) {
         abort();
     }
-    high = load16(slot + SLOT_HIGH);
-    low = load32(slot + SLOT_LOW);
-    spare = load64(pool + POOL_SPARE);
+    uint16_t high = load16(slot + SLOT_HIGH);
+    uint32_t low = load32(slot + SLOT_LOW);
+    uint64_t spare = load64(pool + POOL_SPARE);
     if (spare == 0) {
         pool_append(r0, pool, (((uint64_t)high) << 32) | ((uint64_t)low), a2, a3);
         if (load8(r0) != 0) {
@@ -1701,14 +1674,14 @@ static ALIGNED NOINLINE void row_put_behind_first(char *slot, char *pool, uint64
         }
         r6 = load64(r0 + 8);
     } else {
-        free = load64(pool + POOL_FREE);
-        node = load_address(pool + POOL_NODES) + (free * NODE_SIZE);
+        uint64_t free = load64(pool + POOL_FREE);
+        char *node = load_address(pool + POOL_NODES) + (free * NODE_SIZE);
         if (load8(node + NODE_HAS_PAIR) != 0) {
             abort();
         }
         store64(pool + POOL_FREE, (((uint64_t)load16(node + NODE_HIGH)) << 32) | ((uint64_t)load32(node + NODE_LOW)));
         store64(pool + POOL_SPARE, spare - 1);
-        has_pair = load8(node + NODE_HAS_PAIR);
+        uint8_t has_pair = load8(node + NODE_HAS_PAIR);
         store16(node + NODE_HAS_PAIR, 1);
         store16(node + NODE_HIGH, high);
         store32(node + NODE_LOW, low);
@@ -1729,25 +1702,22 @@ static ALIGNED NOINLINE void row_put_behind_first(char *slot, char *pool, uint64
 // The last node of a chain, and its place there.
 // intmap_table::linked::chain::last_in, in crates/intmap_table/src/linked/chain.rt
 static ALWAYS_INLINE uint64_t chain_last_in(char *pool, uint64_t from) {
-    char *nodes, *node, *node_2;
-    uint16_t high, high_2;
-    uint64_t at;
-    nodes = load_address(pool + POOL_NODES);
-    node = nodes + (from * NODE_SIZE);
+    char *nodes = load_address(pool + POOL_NODES);
+    char *node = nodes + (from * NODE_SIZE);
     if (load8(node + NODE_HAS_PAIR) != 1) {
         abort();
     }
-    high = load16(node + NODE_HIGH);
+    uint16_t high = load16(node + NODE_HIGH);
     if (high == NOWHERE_HIGH) {
         return from;
     }
-    at = (((uint64_t)high) << 32) | ((uint64_t)load32(node + NODE_LOW));
+    uint64_t at = (((uint64_t)high) << 32) | ((uint64_t)load32(node + NODE_LOW));
     for (;;) {
-        node_2 = nodes + (at * NODE_SIZE);
+        char *node_2 = nodes + (at * NODE_SIZE);
         if (load8(node_2 + NODE_HAS_PAIR) != 1) {
             abort();
         }
-        high_2 = load16(node_2 + NODE_HIGH);
+        uint16_t high_2 = load16(node_2 + NODE_HIGH);
         if (high_2 == NOWHERE_HIGH) {
             return at;
         }
@@ -1758,27 +1728,24 @@ static ALWAYS_INLINE uint64_t chain_last_in(char *pool, uint64_t from) {
 // The last node of a chain, and its place there.
 // intmap_table::linked::chain::last_in, in crates/intmap_table/src/linked/chain.rt
 static ALWAYS_INLINE struct word_word chain_last_in_2(char *pool, uint64_t from) {
-    char *nodes, *node, *node_2;
-    uint16_t high, high_2;
-    uint64_t at, r2_048, r14;
-    nodes = load_address(pool + POOL_NODES);
-    node = nodes + (from * NODE_SIZE);
+    char *nodes = load_address(pool + POOL_NODES);
+    char *node = nodes + (from * NODE_SIZE);
     if (load8(node + NODE_HAS_PAIR) != 1) {
         abort();
     }
-    high = load16(node + NODE_HIGH);
+    uint16_t high = load16(node + NODE_HIGH);
     if (high == NOWHERE_HIGH) {
         return made_word_word(from, 0);
     }
-    at = (((uint64_t)high) << 32) | ((uint64_t)load32(node + NODE_LOW));
-    r2_048 = 0;
+    uint64_t at = (((uint64_t)high) << 32) | ((uint64_t)load32(node + NODE_LOW));
+    uint64_t r2_048 = 0;
     for (;;) {
-        node_2 = nodes + (at * NODE_SIZE);
+        char *node_2 = nodes + (at * NODE_SIZE);
         if (load8(node_2 + NODE_HAS_PAIR) != 1) {
             abort();
         }
-        r14 = r2_048 + 1;
-        high_2 = load16(node_2 + NODE_HIGH);
+        uint64_t r14 = r2_048 + 1;
+        uint16_t high_2 = load16(node_2 + NODE_HIGH);
         if (high_2 == NOWHERE_HIGH) {
             return made_word_word(at, r14);
         }
@@ -1790,11 +1757,6 @@ static ALWAYS_INLINE struct word_word chain_last_in_2(char *pool, uint64_t from)
 // Moves all pairs, in the order of the walk, to their slots among `capacity` slots.
 // intmap_table::table::Table::grow_to, in crates/intmap_table/src/table/grow.rt
 static ALIGNED uint8_t table_grow_to(char *map, uint64_t capacity) {
-    uint8_t has_failed;
-    uint64_t words_len, bits, r1, r1_2, r1_3, r26, bits_2, r1_4, r1_5, r49, r64, at, at_2, r10, slots_room,
-        nodes_room, words_room;
-    char *words, *slots, *nodes, *slot, *node, *words_2, *slots_2, *nodes_2;
-    uint16_t high, high_2;
     uint64_t mask_at_room[12];
     char *mask_at = (char *)mask_at_room;
     uint64_t has_failed_at_room[13];
@@ -1804,31 +1766,33 @@ static ALIGNED uint8_t table_grow_to(char *map, uint64_t capacity) {
     }
     memset(has_failed_at, 0, MADE_SLOTS_SIZE);
     slots_new(has_failed_at, capacity, load64(map + INT_MAP_NODES_LEN) - load64(map + INT_MAP_SPARE));
-    has_failed = load8(has_failed_at + MADE_SLOTS_HAS_FAILED);
+    uint8_t has_failed = load8(has_failed_at + MADE_SLOTS_HAS_FAILED);
     if (has_failed == 0) {
         memcpy(mask_at, has_failed_at + MADE_SLOTS_MASK, SLOTS_SIZE);
         slots_move_all(map, mask_at);
         if (load64(mask_at + SLOTS_NODES_LEN) != load64(mask_at + SLOTS_SPARE)) {
-            words_len = load64(mask_at + SLOTS_WORDS_LEN);
-            words = load_address(mask_at + SLOTS_WORDS);
+            uint64_t bits;
+            uint64_t words_len = load64(mask_at + SLOTS_WORDS_LEN);
+            char *words = load_address(mask_at + SLOTS_WORDS);
             if (words_len == 0) {
                 bits = 0;
             } else {
                 bits = load64(words);
             }
-            slots = load_address(mask_at + SLOTS_SLOTS);
-            nodes = load_address(mask_at + SLOTS_NODES);
-            r1 = 0;
-            r1_2 = bits;
+            char *slots = load_address(mask_at + SLOTS_SLOTS);
+            char *nodes = load_address(mask_at + SLOTS_NODES);
+            uint64_t r1 = 0;
+            uint64_t r1_2 = bits;
             for (;;) {
+                uint64_t r1_4, r1_5;
                 if (r1_2 == 0) {
-                    r1_3 = r1;
+                    uint64_t r1_3 = r1;
                     for (;;) {
-                        r26 = r1_3 + 1;
+                        uint64_t r26 = r1_3 + 1;
                         if (words_len <= r26) {
                             goto after_Slots_turn_each;
                         }
-                        bits_2 = load64(words + (r26 << 3));
+                        uint64_t bits_2 = load64(words + (r26 << 3));
                         if (bits_2 != 0) {
                             r1_4 = r26;
                             r1_5 = bits_2;
@@ -1840,21 +1804,21 @@ static ALIGNED uint8_t table_grow_to(char *map, uint64_t capacity) {
                     r1_4 = r1;
                     r1_5 = r1_2;
                 }
-                r49 = low_zeros(r1_5);
-                r64 = (r1_5 - 1) & r1_5;
-                slot = slots + ((r49 | (r1_4 << 6)) * SLOT_SIZE);
+                uint64_t r49 = place_of_lowest_1(r1_5);
+                uint64_t r64 = (r1_5 - 1) & r1_5;
+                char *slot = slots + ((r49 | (r1_4 << 6)) * SLOT_SIZE);
                 if (load8(slot + SLOT_HAS_PAIR) == 1) {
-                    high = load16(slot + SLOT_HIGH);
+                    uint16_t high = load16(slot + SLOT_HIGH);
                     if (high != NOWHERE_HIGH) {
-                        at = NOWHERE;
-                        at_2 = (((uint64_t)high) << 32) | ((uint64_t)load32(slot + SLOT_LOW));
+                        uint64_t at = NOWHERE;
+                        uint64_t at_2 = (((uint64_t)high) << 32) | ((uint64_t)load32(slot + SLOT_LOW));
                         for (;;) {
-                            node = nodes + (at_2 * NODE_SIZE);
+                            char *node = nodes + (at_2 * NODE_SIZE);
                             if (load8(node + NODE_HAS_PAIR) != 1) {
                                 abort();
                             }
-                            high_2 = load16(node + NODE_HIGH);
-                            r10 = (((uint64_t)high_2) << 32) | ((uint64_t)load32(node + NODE_LOW));
+                            uint16_t high_2 = load16(node + NODE_HIGH);
+                            uint64_t r10 = (((uint64_t)high_2) << 32) | ((uint64_t)load32(node + NODE_LOW));
                             store16(node + NODE_HIGH, (uint16_t)(at >> 32));
                             store32(node + NODE_LOW, (uint32_t)at);
                             if (high_2 == NOWHERE_HIGH) {
@@ -1875,12 +1839,12 @@ static ALIGNED uint8_t table_grow_to(char *map, uint64_t capacity) {
             }
         }
     after_Slots_turn_each:;
-        words_2 = load_address(map + INT_MAP_WORDS);
-        slots_2 = load_address(map + INT_MAP_SLOTS);
-        slots_room = load64(map + INT_MAP_SLOTS_ROOM);
-        nodes_2 = load_address(map + INT_MAP_NODES);
-        nodes_room = load64(map + INT_MAP_NODES_ROOM);
-        words_room = load64(map + INT_MAP_WORDS_ROOM);
+        char *words_2 = load_address(map + INT_MAP_WORDS);
+        char *slots_2 = load_address(map + INT_MAP_SLOTS);
+        uint64_t slots_room = load64(map + INT_MAP_SLOTS_ROOM);
+        char *nodes_2 = load_address(map + INT_MAP_NODES);
+        uint64_t nodes_room = load64(map + INT_MAP_NODES_ROOM);
+        uint64_t words_room = load64(map + INT_MAP_WORDS_ROOM);
         memcpy(map, mask_at, TABLE_SIZE);
         if (words_room != 0) {
             rattle_dealloc(words_2);
@@ -1898,30 +1862,29 @@ static ALIGNED uint8_t table_grow_to(char *map, uint64_t capacity) {
 // Writes the address of the value of the key, or null if the key is absent.
 // intmap_place, in crates/intmap_c/src/place.rt
 static ALWAYS_INLINE void do_intmap_place(char *word, uint64_t key, char *at) {
-    char *map, *slot, *r9, *nodes, *node, *node_2;
-    uint64_t r10, nodes_len, at_2, r2_0, at_3, r10_2;
+    char *r9;
     store_address(at, NULL);
-    map = load_address(word);
+    char *map = load_address(word);
     if (map == NULL) {
         return;
     }
-    slot = load_address(map + INT_MAP_SLOTS) + ((load64(map + INT_MAP_MASK) & (key * MULTIPLIER)) * SLOT_SIZE);
+    char *slot = load_address(map + INT_MAP_SLOTS) + ((load64(map + INT_MAP_MASK) & (key * MULTIPLIER)) * SLOT_SIZE);
     if (load8(slot + SLOT_HAS_PAIR) != 1) {
         return;
     }
-    r10 = (((uint64_t)load16(slot + SLOT_HIGH)) << 32) | ((uint64_t)load32(slot + SLOT_LOW));
+    uint64_t r10 = (((uint64_t)load16(slot + SLOT_HIGH)) << 32) | ((uint64_t)load32(slot + SLOT_LOW));
     if (load64(slot + SLOT_KEY) == key) {
         r9 = slot;
     } else {
-        nodes_len = load64(map + INT_MAP_NODES_LEN);
+        uint64_t nodes_len = load64(map + INT_MAP_NODES_LEN);
         if (nodes_len <= r10) {
             return;
         }
-        nodes = load_address(map + INT_MAP_NODES);
-        at_2 = r10;
-        r2_0 = 0;
+        char *nodes = load_address(map + INT_MAP_NODES);
+        uint64_t at_2 = r10;
+        uint64_t r2_0 = 0;
         for (;;) {
-            node = nodes + (at_2 * NODE_SIZE);
+            char *node = nodes + (at_2 * NODE_SIZE);
             if (load8(node + NODE_HAS_PAIR) != 1) {
                 return;
             }
@@ -1930,15 +1893,15 @@ static ALWAYS_INLINE void do_intmap_place(char *word, uint64_t key, char *at) {
                     r9 = slot;
                     break;
                 }
-                at_3 = chain_seek(map + INT_MAP_NODES, r10, r2_0);
-                node_2 = nodes + (at_3 * NODE_SIZE);
+                uint64_t at_3 = chain_seek(map + INT_MAP_NODES, r10, r2_0);
+                char *node_2 = nodes + (at_3 * NODE_SIZE);
                 if (load8(node_2 + NODE_HAS_PAIR) != 1) {
                     abort();
                 }
                 r9 = node_2;
                 break;
             }
-            r10_2 = (((uint64_t)load16(node + NODE_HIGH)) << 32) | ((uint64_t)load32(node + NODE_LOW));
+            uint64_t r10_2 = (((uint64_t)load16(node + NODE_HIGH)) << 32) | ((uint64_t)load32(node + NODE_LOW));
             if (nodes_len <= r10_2) {
                 return;
             }
@@ -1958,8 +1921,7 @@ static ALWAYS_INLINE uint32_t do_intmap_version(void) {
 // The number of slots, which is 4 if there is no map yet.
 // intmap_capacity, in crates/intmap_c/src/read.rt
 static ALWAYS_INLINE uint64_t do_intmap_capacity(char *word) {
-    char *map;
-    map = load_address(word);
+    char *map = load_address(word);
     if (map == NULL) {
         return 4;
     }
@@ -1969,61 +1931,58 @@ static ALWAYS_INLINE uint64_t do_intmap_capacity(char *word) {
 // Whether the key is present.
 // intmap_contains_key, in crates/intmap_c/src/read.rt
 static ALWAYS_INLINE bool do_intmap_contains_key(char *word, uint64_t key) {
-    char *map;
-    struct byte_address r8;
-    map = load_address(word);
+    char *map = load_address(word);
     if (map == NULL) {
         return false;
     }
-    r8 = intmap_get_counted(map, key);
+    struct byte_address r8 = intmap_get_counted(map, key);
     return (r8.first & 1) != 0;
 }
 
 // Whether the same keys have the same values in both maps.
 // intmap_equal, in crates/intmap_c/src/read.rt
 static ALWAYS_INLINE bool do_intmap_equal(char *word, char *other) {
-    char *map, *map_2, *r6, *words, *slots, *r1_3, *node, *r1_7, *r11, *r1_10, *r1_13, *slot;
-    bool r12;
-    uint64_t len, words_len, bits, r6_2, nodes_len, at, r1, r1_2, r1_4, r1_5, r1_6, r1_8, storemerge, r1_9, r1_11,
-        r33, bits_2, r60, r1_12, r1_14, r17, r27;
-    struct byte_address r5;
-    map = load_address(word);
-    map_2 = load_address(other);
-    r12 = map_2 == NULL;
+    uint64_t bits, r6_2;
+    char *r6;
+    char *map = load_address(word);
+    char *map_2 = load_address(other);
+    bool r12 = map_2 == NULL;
     if (map == NULL) {
         if (r12) {
             return true;
         }
         return load64(map_2 + INT_MAP_LEN) == 0;
     }
-    len = load64(map + INT_MAP_LEN);
+    uint64_t len = load64(map + INT_MAP_LEN);
     if (r12) {
         return len == 0;
     }
     if (len != load64(map_2 + INT_MAP_LEN)) {
         return false;
     }
-    words_len = load64(map + INT_MAP_WORDS_LEN);
+    uint64_t words_len = load64(map + INT_MAP_WORDS_LEN);
     if (words_len == 0) {
         bits = 0;
         r6 = (char *)no_bytes;
         r6_2 = 0;
     } else {
-        words = load_address(map + INT_MAP_WORDS);
+        char *words = load_address(map + INT_MAP_WORDS);
         bits = load64(words);
         r6 = words + 8;
         r6_2 = words_len - 1;
     }
-    slots = load_address(map + INT_MAP_SLOTS);
-    nodes_len = load64(map + INT_MAP_NODES_LEN);
-    at = NOWHERE;
-    r1 = bits;
-    r1_2 = 0;
-    r1_3 = r6;
-    r1_4 = r6_2;
+    char *slots = load_address(map + INT_MAP_SLOTS);
+    uint64_t nodes_len = load64(map + INT_MAP_NODES_LEN);
+    uint64_t at = NOWHERE;
+    uint64_t r1 = bits;
+    uint64_t r1_2 = 0;
+    char *r1_3 = r6;
+    uint64_t r1_4 = r6_2;
     for (;;) {
+        uint64_t r1_5, r1_6, r1_8, storemerge, r1_12, r1_14, r17, r27;
+        char *r1_7, *r11, *r1_13, *slot;
         if (nodes_len > at) {
-            node = load_address(map + INT_MAP_NODES) + (at * NODE_SIZE);
+            char *node = load_address(map + INT_MAP_NODES) + (at * NODE_SIZE);
             if (load8(node + NODE_HAS_PAIR) == 1) {
                 r1_5 = r1;
                 r1_6 = r1_2;
@@ -2035,16 +1994,16 @@ static ALWAYS_INLINE bool do_intmap_equal(char *word, char *other) {
             }
         }
         if (r1 == 0) {
-            r1_9 = r1_2;
-            r1_10 = r1_3;
-            r1_11 = r1_4;
+            uint64_t r1_9 = r1_2;
+            char *r1_10 = r1_3;
+            uint64_t r1_11 = r1_4;
             for (;;) {
                 if (r1_11 == 0) {
                     return true;
                 }
-                r33 = r1_11 - 1;
-                bits_2 = load64(r1_10);
-                r60 = r1_9 + 64;
+                uint64_t r33 = r1_11 - 1;
+                uint64_t bits_2 = load64(r1_10);
+                uint64_t r60 = r1_9 + 64;
                 if (bits_2 != 0) {
                     r1_12 = r60;
                     r1_13 = r1_10 + 8;
@@ -2062,7 +2021,7 @@ static ALWAYS_INLINE bool do_intmap_equal(char *word, char *other) {
             r1_14 = r1_4;
             r17 = r1;
         }
-        r27 = low_zeros(r17);
+        r27 = place_of_lowest_1(r17);
         slot = slots + ((r27 + r1_12) * SLOT_SIZE);
         if (load8(slot + SLOT_HAS_PAIR) != 1) {
             abort();
@@ -2074,7 +2033,7 @@ static ALWAYS_INLINE bool do_intmap_equal(char *word, char *other) {
         storemerge = (((uint64_t)load16(slot + SLOT_HIGH)) << 32) | ((uint64_t)load32(slot + SLOT_LOW));
         r11 = slot;
     arm_6_2:;
-        r5 = intmap_get_counted(map_2, load64(r11 + 8));
+        struct byte_address r5 = intmap_get_counted(map_2, load64(r11 + 8));
         if (r5.first != 1) {
             return false;
         }
@@ -2092,23 +2051,21 @@ static ALWAYS_INLINE bool do_intmap_equal(char *word, char *other) {
 // The number of slots that hold a pair.
 // intmap_filled_slots, in crates/intmap_c/src/read.rt
 static ALWAYS_INLINE uint64_t do_intmap_filled_slots(char *word) {
-    char *map, *words;
-    uint64_t words_len, r1_06, r3_05, r38, r44, r46;
-    map = load_address(word);
+    char *map = load_address(word);
     if (map == NULL) {
         return 0;
     }
-    words = load_address(map + INT_MAP_WORDS);
-    words_len = load64(map + INT_MAP_WORDS_LEN);
+    char *words = load_address(map + INT_MAP_WORDS);
+    uint64_t words_len = load64(map + INT_MAP_WORDS_LEN);
     if (words_len == 0) {
         return 0;
     }
-    r1_06 = 0;
-    r3_05 = 0;
+    uint64_t r1_06 = 0;
+    uint64_t r3_05 = 0;
     for (;;) {
-        r38 = ones_in(load64(words + (r3_05 << 3)));
-        r44 = r38 + r1_06;
-        r46 = r3_05 + 1;
+        uint64_t r38 = ones_in(load64(words + (r3_05 << 3)));
+        uint64_t r44 = r38 + r1_06;
+        uint64_t r46 = r3_05 + 1;
         if (r46 == words_len) {
             return r44;
         }
@@ -2120,8 +2077,7 @@ static ALWAYS_INLINE uint64_t do_intmap_filled_slots(char *word) {
 // The number of pairs.
 // intmap_len, in crates/intmap_c/src/read.rt
 static ALWAYS_INLINE uint64_t do_intmap_len(char *word) {
-    char *map;
-    map = load_address(word);
+    char *map = load_address(word);
     if (map == NULL) {
         return 0;
     }
@@ -2131,8 +2087,7 @@ static ALWAYS_INLINE uint64_t do_intmap_len(char *word) {
 // The load factor in thousandths, which is 909 if there is no map yet.
 // intmap_load_factor, in crates/intmap_c/src/read.rt
 static ALWAYS_INLINE uint64_t do_intmap_load_factor(char *word) {
-    char *map;
-    map = load_address(word);
+    char *map = load_address(word);
     if (map == NULL) {
         return 909;
     }
@@ -2142,61 +2097,60 @@ static ALWAYS_INLINE uint64_t do_intmap_load_factor(char *word) {
 // The value of the key.
 // intmap_get, in crates/intmap_c/src/read.rt
 static ALWAYS_INLINE struct word_word do_intmap_get(char *word, uint64_t key) {
-    char *map;
     struct word_half r18;
-    struct byte_address r5;
-    uint64_t spec_select, r0_2_8_ext;
-    uint32_t spec_select1;
-    map = load_address(word);
+    char *map = load_address(word);
     if (map == NULL) {
         r18 = empty_word_half();
     } else {
-        r5 = intmap_get_counted(map, key);
+        uint64_t spec_select;
+        struct byte_address r5 = intmap_get_counted(map, key);
         if ((r5.first & 1) != 0) {
             spec_select = load64(r5.second);
         } else {
             spec_select = 0;
         }
-        spec_select1 = (uint32_t)r5.first;
+        uint32_t spec_select1 = (uint32_t)r5.first;
         r18 = made_word_half(spec_select, spec_select1);
     }
-    r0_2_8_ext = (uint64_t)r18.second;
+    uint64_t r0_2_8_ext = (uint64_t)r18.second;
     return made_word_word(r18.first, r0_2_8_ext);
 }
 
 // The first pair of the walk from the cursor on, behind which the cursor moves.
 // intmap_step, in crates/intmap_c/src/read.rt
 static ALWAYS_INLINE char *do_intmap_step(char *result, char *word, char *at) {
-    char *map, *slot_2, *nodes, *node, *slot_3, *r11_2, *r11_pn137, *nodes_2, *node_2, *node_3, *slot_4;
-    uint64_t r6, r6_2, slot, place, r8, r10, nodes_len, at_2, r2_020, r10_2, r11, r2_0, r3_0, r10_3, r19, at_3, at_4,
-        r3_0_2, r115, words_len, r33, r1, r1_2, r1_3, r26, bits, r49, index;
+    uint64_t r6, r6_2;
     uint32_t r6_3;
-    map = load_address(word);
+    char *map = load_address(word);
     if (map == NULL) {
         r6 = 0;
         r6_2 = 0;
         r6_3 = 0;
     } else {
-        slot = load64(at + CURSOR_SLOT);
-        place = load64(at + CURSOR_PLACE);
+        char *r11_2, *r11_pn137, *slot_4;
+        uint64_t r3_0_2, r115, words_len, r1, r1_2, r1_3, r49, index;
+        uint64_t slot = load64(at + CURSOR_SLOT);
+        uint64_t place = load64(at + CURSOR_PLACE);
         if (slot <= load64(map + INT_MAP_MASK)) {
-            r8 = slot * SLOT_SIZE;
-            slot_2 = load_address(map + INT_MAP_SLOTS) + r8;
+            uint64_t r8 = slot * SLOT_SIZE;
+            char *slot_2 = load_address(map + INT_MAP_SLOTS) + r8;
             if (load8(slot_2 + SLOT_HAS_PAIR) == 1) {
-                r10 = (((uint64_t)load16(slot_2 + SLOT_HIGH)) << 32) | ((uint64_t)load32(slot_2 + SLOT_LOW));
-                nodes_len = load64(map + INT_MAP_NODES_LEN);
+                uint64_t r3_0;
+                uint64_t r10 = (((uint64_t)load16(slot_2 + SLOT_HIGH)) << 32) | ((uint64_t)load32(slot_2 + SLOT_LOW));
+                uint64_t nodes_len = load64(map + INT_MAP_NODES_LEN);
                 if (nodes_len > r10) {
-                    nodes = load_address(map + INT_MAP_NODES);
-                    at_2 = r10;
-                    r2_020 = 0;
+                    uint64_t r2_0;
+                    char *nodes = load_address(map + INT_MAP_NODES);
+                    uint64_t at_2 = r10;
+                    uint64_t r2_020 = 0;
                     for (;;) {
-                        node = nodes + (at_2 * NODE_SIZE);
+                        char *node = nodes + (at_2 * NODE_SIZE);
                         if (load8(node + NODE_HAS_PAIR) != 1) {
                             r2_0 = r2_020;
                             break;
                         }
-                        r10_2 = (((uint64_t)load16(node + NODE_HIGH)) << 32) | ((uint64_t)load32(node + NODE_LOW));
-                        r11 = r2_020 + 1;
+                        uint64_t r10_2 = (((uint64_t)load16(node + NODE_HIGH)) << 32) | ((uint64_t)load32(node + NODE_LOW));
+                        uint64_t r11 = r2_020 + 1;
                         if (nodes_len <= r10_2) {
                             r2_0 = r11;
                             break;
@@ -2210,7 +2164,7 @@ static ALWAYS_INLINE char *do_intmap_step(char *result, char *word, char *at) {
                 }
                 if (place < r3_0) {
                     store64(at + CURSOR_PLACE, place + 1);
-                    slot_3 = load_address(map + INT_MAP_SLOTS) + r8;
+                    char *slot_3 = load_address(map + INT_MAP_SLOTS) + r8;
                     if (load8(slot_3 + SLOT_HAS_PAIR) != 1) {
                         goto arm_2_4;
                     }
@@ -2219,16 +2173,16 @@ static ALWAYS_INLINE char *do_intmap_step(char *result, char *word, char *at) {
                         r11_pn137 = slot_3;
                         goto arm_5;
                     }
-                    r10_3 = (((uint64_t)load16(slot_3 + SLOT_HIGH)) << 32) | ((uint64_t)load32(slot_3 + SLOT_LOW));
-                    r19 = place - 1;
-                    at_3 = chain_seek(map + INT_MAP_NODES, r10_3, r19);
-                    nodes_2 = load_address(map + INT_MAP_NODES);
-                    node_2 = nodes_2 + (at_3 * NODE_SIZE);
+                    uint64_t r10_3 = (((uint64_t)load16(slot_3 + SLOT_HIGH)) << 32) | ((uint64_t)load32(slot_3 + SLOT_LOW));
+                    uint64_t r19 = place - 1;
+                    uint64_t at_3 = chain_seek(map + INT_MAP_NODES, r10_3, r19);
+                    char *nodes_2 = load_address(map + INT_MAP_NODES);
+                    char *node_2 = nodes_2 + (at_3 * NODE_SIZE);
                     if (load8(node_2 + NODE_HAS_PAIR) != 1) {
                         abort();
                     }
-                    at_4 = chain_seek(map + INT_MAP_NODES, r10_3, r19);
-                    node_3 = nodes_2 + (at_4 * NODE_SIZE);
+                    uint64_t at_4 = chain_seek(map + INT_MAP_NODES, r10_3, r19);
+                    char *node_3 = nodes_2 + (at_4 * NODE_SIZE);
                     if (load8(node_3 + NODE_HAS_PAIR) != 1) {
                         abort();
                     }
@@ -2242,7 +2196,7 @@ static ALWAYS_INLINE char *do_intmap_step(char *result, char *word, char *at) {
         r115 = r3_0_2 >> 6;
         words_len = load64(map + INT_MAP_WORDS_LEN);
         if (words_len > r115) {
-            r33 = load64(load_address(map + INT_MAP_WORDS) + (r115 << 3)) & (UINT64_MAX << (r3_0_2 & 63));
+            uint64_t r33 = load64(load_address(map + INT_MAP_WORDS) + (r115 << 3)) & (UINT64_MAX << (r3_0_2 & 63));
             if (r33 != 0) {
                 r1 = r115;
                 r1_2 = r33;
@@ -2251,14 +2205,14 @@ static ALWAYS_INLINE char *do_intmap_step(char *result, char *word, char *at) {
         }
         r1_3 = r115;
         for (;;) {
-            r26 = r1_3 + 1;
+            uint64_t r26 = r1_3 + 1;
             if (words_len <= r26) {
                 r6 = 0;
                 r6_2 = 0;
                 r6_3 = 0;
                 goto after_read_intmap_step;
             }
-            bits = load64(load_address(map + INT_MAP_WORDS) + (r26 << 3));
+            uint64_t bits = load64(load_address(map + INT_MAP_WORDS) + (r26 << 3));
             if (bits != 0) {
                 r1 = r26;
                 r1_2 = bits;
@@ -2267,7 +2221,7 @@ static ALWAYS_INLINE char *do_intmap_step(char *result, char *word, char *at) {
             r1_3 = r26;
         }
     join_3_thread:;
-        r49 = low_zeros(r1_2);
+        r49 = place_of_lowest_1(r1_2);
         index = r49 | (r1 << 6);
         store64(at + CURSOR_SLOT, index);
         store64(at + CURSOR_PLACE, 1);
@@ -2295,31 +2249,31 @@ after_read_intmap_step:;
 // Adds to the value of a present key, modulo 2^64, and returns the value before.
 // intmap_add_present, in crates/intmap_c/src/pairs.rt
 static ALWAYS_INLINE struct word_word do_intmap_add_present(char *handle, uint64_t key, uint64_t more) {
-    uint64_t map_address, r10, nodes_len, at, r2_0, at_2, r10_2, r19, r0_2_8_ext;
-    char *map, *slot, *r9, *nodes, *node, *node_2;
-    struct word_half r23, r29;
-    map_address = load64(handle);
+    struct word_half r23;
+    uint64_t map_address = load64(handle);
     store64(handle, 0);
-    map = (char *)(uintptr_t)map_address;
+    char *map = (char *)(uintptr_t)map_address;
     if (map_address == 0) {
         r23 = empty_word_half();
     } else {
-        slot = load_address(map + INT_MAP_SLOTS) + ((load64(map + INT_MAP_MASK) & (key * MULTIPLIER)) * SLOT_SIZE);
+        struct word_half r29;
+        char *slot = load_address(map + INT_MAP_SLOTS) + ((load64(map + INT_MAP_MASK) & (key * MULTIPLIER)) * SLOT_SIZE);
         if (load8(slot + SLOT_HAS_PAIR) == 1) {
-            r10 = (((uint64_t)load16(slot + SLOT_HIGH)) << 32) | ((uint64_t)load32(slot + SLOT_LOW));
+            char *r9;
+            uint64_t r10 = (((uint64_t)load16(slot + SLOT_HIGH)) << 32) | ((uint64_t)load32(slot + SLOT_LOW));
             if (load64(slot + SLOT_KEY) == key) {
                 r9 = slot;
             } else {
-                nodes_len = load64(map + INT_MAP_NODES_LEN);
+                uint64_t nodes_len = load64(map + INT_MAP_NODES_LEN);
                 if (nodes_len <= r10) {
                     r29 = empty_word_half();
                     goto after_pairs_add_present;
                 }
-                nodes = load_address(map + INT_MAP_NODES);
-                at = r10;
-                r2_0 = 0;
+                char *nodes = load_address(map + INT_MAP_NODES);
+                uint64_t at = r10;
+                uint64_t r2_0 = 0;
                 for (;;) {
-                    node = nodes + (at * NODE_SIZE);
+                    char *node = nodes + (at * NODE_SIZE);
                     if (load8(node + NODE_HAS_PAIR) != 1) {
                         r29 = empty_word_half();
                         goto after_pairs_add_present;
@@ -2329,15 +2283,15 @@ static ALWAYS_INLINE struct word_word do_intmap_add_present(char *handle, uint64
                             r9 = slot;
                             break;
                         }
-                        at_2 = chain_seek(map + INT_MAP_NODES, r10, r2_0);
-                        node_2 = nodes + (at_2 * NODE_SIZE);
+                        uint64_t at_2 = chain_seek(map + INT_MAP_NODES, r10, r2_0);
+                        char *node_2 = nodes + (at_2 * NODE_SIZE);
                         if (load8(node_2 + NODE_HAS_PAIR) != 1) {
                             abort();
                         }
                         r9 = node_2;
                         break;
                     }
-                    r10_2 = (((uint64_t)load16(node + NODE_HIGH)) << 32) | ((uint64_t)load32(node + NODE_LOW));
+                    uint64_t r10_2 = (((uint64_t)load16(node + NODE_HIGH)) << 32) | ((uint64_t)load32(node + NODE_LOW));
                     if (nodes_len <= r10_2) {
                         r29 = empty_word_half();
                         goto after_pairs_add_present;
@@ -2346,7 +2300,7 @@ static ALWAYS_INLINE struct word_word do_intmap_add_present(char *handle, uint64
                     r2_0 = r2_0 + 1;
                 }
             }
-            r19 = load64(r9 + 16);
+            uint64_t r19 = load64(r9 + 16);
             store64(r9 + 16, r19 + more);
             r29 = made_word_half(r19, 1);
         } else {
@@ -2356,49 +2310,50 @@ static ALWAYS_INLINE struct word_word do_intmap_add_present(char *handle, uint64
         store64(handle, map_address);
         r23 = r29;
     }
-    r0_2_8_ext = (uint64_t)r23.second;
+    uint64_t r0_2_8_ext = (uint64_t)r23.second;
     return made_word_word(r23.first, r0_2_8_ext);
 }
 
 // Removes all pairs.
 // intmap_clear, in crates/intmap_c/src/walk.rt
 static ALWAYS_INLINE void do_intmap_clear(char *handle) {
-    uint64_t map_address, words_len, bits, r1_2, r1_3, r1_4, r1_6, r1_7, r1_9, words_len_2, r28, r33, bits_2, r60,
-        r1_10, r1_11, r1_13, r27, r40;
-    char *map, *r1, *words, *r1_5, *r1_8, *words_2, *r1_12, *slot;
-    map_address = load64(handle);
+    uint64_t bits, r1_2;
+    char *r1;
+    uint64_t map_address = load64(handle);
     store64(handle, 0);
-    map = (char *)(uintptr_t)map_address;
+    char *map = (char *)(uintptr_t)map_address;
     if (map_address == 0) {
         return;
     }
-    words_len = load64(map + INT_MAP_WORDS_LEN);
+    uint64_t words_len = load64(map + INT_MAP_WORDS_LEN);
     if (words_len == 0) {
         bits = 0;
         r1 = (char *)no_bytes;
         r1_2 = 0;
     } else {
-        words = load_address(map + INT_MAP_WORDS);
+        char *words = load_address(map + INT_MAP_WORDS);
         bits = load64(words);
         r1 = words + 8;
         r1_2 = words_len - 1;
     }
-    r1_3 = bits;
-    r1_4 = 0;
-    r1_5 = r1;
-    r1_6 = r1_2;
+    uint64_t r1_3 = bits;
+    uint64_t r1_4 = 0;
+    char *r1_5 = r1;
+    uint64_t r1_6 = r1_2;
 loop_2_2:;
     for (;;) {
+        uint64_t r1_10, r1_11, r1_13;
+        char *r1_12;
         if (r1_3 == 0) {
-            r1_7 = r1_6;
-            r1_8 = r1_5;
-            r1_9 = r1_4;
+            uint64_t r1_7 = r1_6;
+            char *r1_8 = r1_5;
+            uint64_t r1_9 = r1_4;
             for (;;) {
                 if (r1_7 == 0) {
-                    words_2 = load_address(map + INT_MAP_WORDS);
-                    words_len_2 = load64(map + INT_MAP_WORDS_LEN);
+                    char *words_2 = load_address(map + INT_MAP_WORDS);
+                    uint64_t words_len_2 = load64(map + INT_MAP_WORDS_LEN);
                     if (words_len_2 != 0) {
-                        r28 = words_len_2 - 1;
+                        uint64_t r28 = words_len_2 - 1;
                         if (r28 != 0) {
                             memset(words_2, 0, (words_len_2 << 3) - 8);
                         }
@@ -2408,9 +2363,9 @@ loop_2_2:;
                     store64(handle, map_address);
                     return;
                 }
-                r33 = r1_7 - 1;
-                bits_2 = load64(r1_8);
-                r60 = r1_9 + 64;
+                uint64_t r33 = r1_7 - 1;
+                uint64_t bits_2 = load64(r1_8);
+                uint64_t r60 = r1_9 + 64;
                 if (bits_2 != 0) {
                     r1_10 = bits_2;
                     r1_11 = r60;
@@ -2428,9 +2383,9 @@ loop_2_2:;
             r1_12 = r1_5;
             r1_13 = r1_6;
         }
-        r27 = low_zeros(r1_10);
-        r40 = (r1_10 - 1) & r1_10;
-        slot = load_address(map + INT_MAP_SLOTS) + ((r1_11 + r27) * SLOT_SIZE);
+        uint64_t r27 = place_of_lowest_1(r1_10);
+        uint64_t r40 = (r1_10 - 1) & r1_10;
+        char *slot = load_address(map + INT_MAP_SLOTS) + ((r1_11 + r27) * SLOT_SIZE);
         for (;;) {
             switch (load8(slot + SLOT_HAS_PAIR)) {
             case 0:
@@ -2456,42 +2411,43 @@ loop_2_2:;
 // Removes the first pair of the walk from the cursor on and returns it.
 // intmap_cut, in crates/intmap_c/src/walk.rt
 static ALWAYS_INLINE char *do_intmap_cut(char *result, char *handle, char *at) {
-    uint64_t map_address, r6, r6_2, slot, place, at_2, nodes_len, at_3, r2_020, r10, r11, r2_0, r3_0, r305863, free,
-        r10_2, key, value, r2_0_2, key_2, value_2, at_4, r8, at_5, free_2, key_3, value_3, r3_0_2, r115, words_len,
-        r33, r1, r1_2, r1_3, r26, bits, x13, x14, r49, index, key_4, value_4;
-    char *map, *slot_2, *nodes, *node, *slot_3, *nodes_at, *node_2, *nodes_2, *node_3, *node_4, *node_5, *slot_4,
-        *r11_2;
-    uint32_t r6_3, low, r8_2;
-    uint16_t high, high_2, high_3;
-    struct word_word r19, r19_2, r24;
-    map_address = load64(handle);
+    uint64_t r6, r6_2;
+    uint32_t r6_3;
+    uint64_t map_address = load64(handle);
     store64(handle, 0);
-    map = (char *)(uintptr_t)map_address;
+    char *map = (char *)(uintptr_t)map_address;
     if (map_address == 0) {
         r6 = 0;
         r6_2 = 0;
         r6_3 = 0;
     } else {
-        slot = load64(at + CURSOR_SLOT);
-        place = load64(at + CURSOR_PLACE);
+        uint16_t high_2;
+        uint64_t r305863, r3_0_2, r115, words_len, r1, r1_2, r1_3, x13, x14, r49, index;
+        char *slot_3, *nodes_at, *slot_4, *r11_2;
+        struct word_word r19, r19_2;
+        uint32_t r8_2;
+        uint64_t slot = load64(at + CURSOR_SLOT);
+        uint64_t place = load64(at + CURSOR_PLACE);
         if (slot <= load64(map + INT_MAP_MASK)) {
-            slot_2 = load_address(map + INT_MAP_SLOTS) + (slot * SLOT_SIZE);
+            char *slot_2 = load_address(map + INT_MAP_SLOTS) + (slot * SLOT_SIZE);
             if (load8(slot_2 + SLOT_HAS_PAIR) == 1) {
-                high = load16(slot_2 + SLOT_HIGH);
-                at_2 = (((uint64_t)high) << 32) | ((uint64_t)load32(slot_2 + SLOT_LOW));
-                nodes_len = load64(map + INT_MAP_NODES_LEN);
+                uint64_t r3_0;
+                uint16_t high = load16(slot_2 + SLOT_HIGH);
+                uint64_t at_2 = (((uint64_t)high) << 32) | ((uint64_t)load32(slot_2 + SLOT_LOW));
+                uint64_t nodes_len = load64(map + INT_MAP_NODES_LEN);
                 if (nodes_len > at_2) {
-                    nodes = load_address(map + INT_MAP_NODES);
-                    at_3 = at_2;
-                    r2_020 = 0;
+                    uint64_t r2_0;
+                    char *nodes = load_address(map + INT_MAP_NODES);
+                    uint64_t at_3 = at_2;
+                    uint64_t r2_020 = 0;
                     for (;;) {
-                        node = nodes + (at_3 * NODE_SIZE);
+                        char *node = nodes + (at_3 * NODE_SIZE);
                         if (load8(node + NODE_HAS_PAIR) != 1) {
                             r2_0 = r2_020;
                             break;
                         }
-                        r10 = (((uint64_t)load16(node + NODE_HIGH)) << 32) | ((uint64_t)load32(node + NODE_LOW));
-                        r11 = r2_020 + 1;
+                        uint64_t r10 = (((uint64_t)load16(node + NODE_HIGH)) << 32) | ((uint64_t)load32(node + NODE_LOW));
+                        uint64_t r11 = r2_020 + 1;
                         if (nodes_len <= r10) {
                             r2_0 = r11;
                             break;
@@ -2504,6 +2460,10 @@ static ALWAYS_INLINE char *do_intmap_cut(char *result, char *handle, char *at) {
                     r3_0 = 1;
                 }
                 if (place < r3_0) {
+                    char *node_2, *nodes_2, *node_3, *node_4, *node_5;
+                    uint64_t free, r10_2, key, value, r2_0_2, key_2, value_2, at_4, r8, at_5, free_2, key_3, value_3;
+                    uint16_t high_3;
+                    uint32_t low;
                     switch (place) {
                     case 0:
                         high_2 = high;
@@ -2579,7 +2539,7 @@ static ALWAYS_INLINE char *do_intmap_cut(char *result, char *handle, char *at) {
         r115 = r3_0_2 >> 6;
         words_len = load64(map + INT_MAP_WORDS_LEN);
         if (words_len > r115) {
-            r33 = load64(load_address(map + INT_MAP_WORDS) + (r115 << 3)) & (UINT64_MAX << (r3_0_2 & 63));
+            uint64_t r33 = load64(load_address(map + INT_MAP_WORDS) + (r115 << 3)) & (UINT64_MAX << (r3_0_2 & 63));
             if (r33 != 0) {
                 r1 = r115;
                 r1_2 = r33;
@@ -2588,14 +2548,14 @@ static ALWAYS_INLINE char *do_intmap_cut(char *result, char *handle, char *at) {
         }
         r1_3 = r115;
         for (;;) {
-            r26 = r1_3 + 1;
+            uint64_t r26 = r1_3 + 1;
             if (words_len <= r26) {
                 x13 = 0;
                 r8_2 = 0;
                 x14 = 0;
                 goto after_walk_cut;
             }
-            bits = load64(load_address(map + INT_MAP_WORDS) + (r26 << 3));
+            uint64_t bits = load64(load_address(map + INT_MAP_WORDS) + (r26 << 3));
             if (bits != 0) {
                 r1 = r26;
                 r1_2 = bits;
@@ -2604,7 +2564,7 @@ static ALWAYS_INLINE char *do_intmap_cut(char *result, char *handle, char *at) {
             r1_3 = r26;
         }
     join_3_thread:;
-        r49 = low_zeros(r1_2);
+        r49 = place_of_lowest_1(r1_2);
         index = r49 | (r1 << 6);
         store64(at + CURSOR_SLOT, index);
         store64(at + CURSOR_PLACE, 0);
@@ -2618,12 +2578,12 @@ static ALWAYS_INLINE char *do_intmap_cut(char *result, char *handle, char *at) {
         nodes_at = map + INT_MAP_NODES;
     arm_1_2:;
         if (high_2 == NOWHERE_HIGH) {
-            key_4 = load64(slot_3 + SLOT_KEY);
-            value_4 = load64(slot_3 + SLOT_VALUE);
+            uint64_t key_4 = load64(slot_3 + SLOT_KEY);
+            uint64_t value_4 = load64(slot_3 + SLOT_VALUE);
             memset(slot_3, 0, SLOT_SIZE);
             r19_2 = made_word_word(key_4, value_4);
         } else {
-            r24 = row_take_first_of_several(slot_3, nodes_at);
+            struct word_word r24 = row_take_first_of_several(slot_3, nodes_at);
             if (load8(slot_3 + SLOT_HAS_PAIR) != 0) {
                 r19 = r24;
                 goto x12;
@@ -2654,20 +2614,18 @@ static ALWAYS_INLINE char *do_intmap_cut(char *result, char *handle, char *at) {
 // Frees the map of the handle, which then has none.
 // intmap_free, in crates/intmap_c/src/make.rt
 static ALWAYS_INLINE void do_intmap_free(char *handle) {
-    uint64_t map_address, slots_room, nodes_room, words_room;
-    char *map, *words, *slots, *nodes;
-    map_address = load64(handle);
+    uint64_t map_address = load64(handle);
     store64(handle, 0);
     if (map_address == 0) {
         return;
     }
-    map = (char *)(uintptr_t)map_address;
-    words = load_address(map + INT_MAP_WORDS);
-    slots = load_address(map + INT_MAP_SLOTS);
-    slots_room = load64(map + INT_MAP_SLOTS_ROOM);
-    nodes = load_address(map + INT_MAP_NODES);
-    nodes_room = load64(map + INT_MAP_NODES_ROOM);
-    words_room = load64(map + INT_MAP_WORDS_ROOM);
+    char *map = (char *)(uintptr_t)map_address;
+    char *words = load_address(map + INT_MAP_WORDS);
+    char *slots = load_address(map + INT_MAP_SLOTS);
+    uint64_t slots_room = load64(map + INT_MAP_SLOTS_ROOM);
+    char *nodes = load_address(map + INT_MAP_NODES);
+    uint64_t nodes_room = load64(map + INT_MAP_NODES_ROOM);
+    uint64_t words_room = load64(map + INT_MAP_WORDS_ROOM);
     rattle_dealloc(map);
     if (words_room != 0) {
         rattle_dealloc(words);
@@ -2684,38 +2642,36 @@ static ALWAYS_INLINE void do_intmap_free(char *handle) {
 // Removes the pair of the key, and returns its value.
 // intmap_remove, in crates/intmap_c/src/pairs.rt
 static ALWAYS_INLINE struct word_word do_intmap_remove(char *handle, uint64_t key) {
-    uint64_t map_address, index, at, r0, nodes_len, at_2, r2_0, r10, x10, value, r72_1_merged, r8, free, key_2,
-        value_2, at_3, r9, key_3, value_3, at_4, r8_2, r6, r6_2, at_5, r3_0, at_6, r3_0_2, at_7, r8_3, r18, free_2,
-        key_4, value_4, value_5, r72_1_merged_2, r53, r68, r0_2_8_ext;
-    char *map, *slot, *nodes, *node, *nodes_2, *node_2, *node_3, *node_4, *node_5, *node_6, *r11;
     struct word_half r23;
-    uint16_t high, high_2, high_3, high_4;
-    uint32_t spec_select1;
-    map_address = load64(handle);
+    uint64_t map_address = load64(handle);
     store64(handle, 0);
-    map = (char *)(uintptr_t)map_address;
+    char *map = (char *)(uintptr_t)map_address;
     if (map_address == 0) {
         r23 = empty_word_half();
     } else {
-        index = load64(map + INT_MAP_MASK) & (key * MULTIPLIER);
-        slot = load_address(map + INT_MAP_SLOTS) + (index * SLOT_SIZE);
+        uint32_t spec_select1;
+        uint64_t x10;
+        uint64_t index = load64(map + INT_MAP_MASK) & (key * MULTIPLIER);
+        char *slot = load_address(map + INT_MAP_SLOTS) + (index * SLOT_SIZE);
         if (load8(slot + SLOT_HAS_PAIR) == 1) {
-            high = load16(slot + SLOT_HIGH);
-            at = (((uint64_t)high) << 32) | ((uint64_t)load32(slot + SLOT_LOW));
+            uint64_t r0, r72_1_merged, r72_1_merged_2;
+            char *r11;
+            uint16_t high = load16(slot + SLOT_HIGH);
+            uint64_t at = (((uint64_t)high) << 32) | ((uint64_t)load32(slot + SLOT_LOW));
             if (load64(slot + SLOT_KEY) == key) {
                 r0 = 0;
             } else {
-                nodes_len = load64(map + INT_MAP_NODES_LEN);
+                uint64_t nodes_len = load64(map + INT_MAP_NODES_LEN);
                 if (nodes_len <= at) {
                     spec_select1 = 0;
                     x10 = 0;
                     goto after_pairs_remove;
                 }
-                nodes = load_address(map + INT_MAP_NODES);
-                at_2 = at;
-                r2_0 = 0;
+                char *nodes = load_address(map + INT_MAP_NODES);
+                uint64_t at_2 = at;
+                uint64_t r2_0 = 0;
                 for (;;) {
-                    node = nodes + (at_2 * NODE_SIZE);
+                    char *node = nodes + (at_2 * NODE_SIZE);
                     if (load8(node + NODE_HAS_PAIR) != 1) {
                         spec_select1 = 0;
                         x10 = 0;
@@ -2725,7 +2681,7 @@ static ALWAYS_INLINE struct word_word do_intmap_remove(char *handle, uint64_t ke
                         r0 = r2_0 + 1;
                         break;
                     }
-                    r10 = (((uint64_t)load16(node + NODE_HIGH)) << 32) | ((uint64_t)load32(node + NODE_LOW));
+                    uint64_t r10 = (((uint64_t)load16(node + NODE_HIGH)) << 32) | ((uint64_t)load32(node + NODE_LOW));
                     if (nodes_len <= r10) {
                         spec_select1 = 0;
                         x10 = 0;
@@ -2736,21 +2692,22 @@ static ALWAYS_INLINE struct word_word do_intmap_remove(char *handle, uint64_t ke
                 }
             }
             if (high == NOWHERE_HIGH) {
-                value = load64(slot + SLOT_VALUE);
+                uint64_t value = load64(slot + SLOT_VALUE);
                 memset(slot, 0, SLOT_SIZE);
                 r72_1_merged = value;
             } else {
-                nodes_2 = load_address(map + INT_MAP_NODES);
-                r8 = at * NODE_SIZE;
-                node_2 = nodes_2 + r8;
+                uint64_t at_3, r9, key_3, value_3;
+                char *nodes_2 = load_address(map + INT_MAP_NODES);
+                uint64_t r8 = at * NODE_SIZE;
+                char *node_2 = nodes_2 + r8;
                 if (load8(node_2 + NODE_HAS_PAIR) != 1) {
                     abort();
                 }
-                high_2 = load16(node_2 + NODE_HIGH);
+                uint16_t high_2 = load16(node_2 + NODE_HIGH);
                 if (high_2 == NOWHERE_HIGH) {
-                    free = load64(map + INT_MAP_FREE);
-                    key_2 = load64(node_2 + NODE_KEY);
-                    value_2 = load64(node_2 + NODE_VALUE);
+                    uint64_t free = load64(map + INT_MAP_FREE);
+                    uint64_t key_2 = load64(node_2 + NODE_KEY);
+                    uint64_t value_2 = load64(node_2 + NODE_VALUE);
                     store16(node_2 + NODE_HAS_PAIR, 0);
                     store16(node_2 + NODE_HIGH, (uint16_t)(free >> 32));
                     store32(node_2 + NODE_LOW, (uint32_t)free);
@@ -2762,30 +2719,31 @@ static ALWAYS_INLINE struct word_word do_intmap_remove(char *handle, uint64_t ke
                     key_3 = key_2;
                     value_3 = value_2;
                 } else {
-                    at_4 = (((uint64_t)high_2) << 32) | ((uint64_t)load32(node_2 + NODE_LOW));
-                    r8_2 = at_4 * NODE_SIZE;
-                    node_3 = nodes_2 + r8_2;
+                    uint64_t r6, r6_2, at_5, r3_0;
+                    uint64_t at_4 = (((uint64_t)high_2) << 32) | ((uint64_t)load32(node_2 + NODE_LOW));
+                    uint64_t r8_2 = at_4 * NODE_SIZE;
+                    char *node_3 = nodes_2 + r8_2;
                     if (load8(node_3 + NODE_HAS_PAIR) != 1) {
                         abort();
                     }
-                    high_3 = load16(node_3 + NODE_HIGH);
+                    uint16_t high_3 = load16(node_3 + NODE_HIGH);
                     if (high_3 == NOWHERE_HIGH) {
                         r6 = r8;
                         r6_2 = r8_2;
                         at_5 = at_4;
                         r3_0 = 1;
                     } else {
-                        at_6 = (((uint64_t)high_3) << 32) | ((uint64_t)load32(node_3 + NODE_LOW));
-                        r3_0_2 = 1;
-                        at_7 = at_4;
+                        uint64_t at_6 = (((uint64_t)high_3) << 32) | ((uint64_t)load32(node_3 + NODE_LOW));
+                        uint64_t r3_0_2 = 1;
+                        uint64_t at_7 = at_4;
                         for (;;) {
-                            r8_3 = at_6 * NODE_SIZE;
-                            node_4 = nodes_2 + r8_3;
+                            uint64_t r8_3 = at_6 * NODE_SIZE;
+                            char *node_4 = nodes_2 + r8_3;
                             if (load8(node_4 + NODE_HAS_PAIR) != 1) {
                                 abort();
                             }
-                            r18 = r3_0_2 + 1;
-                            high_4 = load16(node_4 + NODE_HIGH);
+                            uint64_t r18 = r3_0_2 + 1;
+                            uint16_t high_4 = load16(node_4 + NODE_HIGH);
                             if (high_4 == NOWHERE_HIGH) {
                                 r6 = at_7 * 24;
                                 r6_2 = r8_3;
@@ -2798,17 +2756,17 @@ static ALWAYS_INLINE struct word_word do_intmap_remove(char *handle, uint64_t ke
                             at_6 = (((uint64_t)high_4) << 32) | ((uint64_t)load32(node_4 + NODE_LOW));
                         }
                     }
-                    node_5 = nodes_2 + r6_2;
-                    free_2 = load64(map + INT_MAP_FREE);
-                    key_4 = load64(node_5 + NODE_KEY);
-                    value_4 = load64(node_5 + NODE_VALUE);
+                    char *node_5 = nodes_2 + r6_2;
+                    uint64_t free_2 = load64(map + INT_MAP_FREE);
+                    uint64_t key_4 = load64(node_5 + NODE_KEY);
+                    uint64_t value_4 = load64(node_5 + NODE_VALUE);
                     store16(node_5 + NODE_HAS_PAIR, 0);
                     store16(node_5 + NODE_HIGH, (uint16_t)(free_2 >> 32));
                     store32(node_5 + NODE_LOW, (uint32_t)free_2);
                     memset(node_5 + NODE_KEY, 0, PAIR_SIZE);
                     store64(map + INT_MAP_FREE, at_5);
                     store64(map + INT_MAP_SPARE, load64(map + INT_MAP_SPARE) + 1);
-                    node_6 = load_address(map + INT_MAP_NODES) + r6;
+                    char *node_6 = load_address(map + INT_MAP_NODES) + r6;
                     if (load8(node_6 + NODE_HAS_PAIR) != 1) {
                         abort();
                     }
@@ -2825,18 +2783,18 @@ static ALWAYS_INLINE struct word_word do_intmap_remove(char *handle, uint64_t ke
                 store16(slot + SLOT_HIGH, (uint16_t)(at_3 >> 32));
                 store32(slot + SLOT_LOW, (uint32_t)at_3);
                 if (r0 == 0) {
-                    value_5 = load64(slot + SLOT_VALUE);
+                    uint64_t value_5 = load64(slot + SLOT_VALUE);
                     store64(slot + SLOT_KEY, key_3);
                     store64(slot + SLOT_VALUE, value_3);
                     r72_1_merged_2 = value_5;
                     goto after_row_take_3;
                 }
-                r53 = r0 - 1;
+                uint64_t r53 = r0 - 1;
                 if (r53 == r9) {
                     r72_1_merged_2 = value_3;
                     goto after_row_take_3;
                 }
-                r68 = chain_swap_behind(at_3, map + INT_MAP_NODES, r53, key_3, value_3);
+                uint64_t r68 = chain_swap_behind(at_3, map + INT_MAP_NODES, r53, key_3, value_3);
                 if (load8(slot + SLOT_HAS_PAIR) != 0) {
                     r72_1_merged_2 = r68;
                     goto after_row_take_3;
@@ -2858,38 +2816,38 @@ static ALWAYS_INLINE struct word_word do_intmap_remove(char *handle, uint64_t ke
         store64(handle, map_address);
         r23 = made_word_half(x10, spec_select1);
     }
-    r0_2_8_ext = (uint64_t)r23.second;
+    uint64_t r0_2_8_ext = (uint64_t)r23.second;
     return made_word_word(r23.first, r0_2_8_ext);
 }
 
 // Replaces the value of a present key, whose pair keeps its place, and returns the value before.
 // intmap_replace, in crates/intmap_c/src/pairs.rt
 static ALWAYS_INLINE struct word_word do_intmap_replace(char *handle, uint64_t key, uint64_t value) {
-    uint64_t map_address, r10, nodes_len, at, r2_0, at_2, r10_2, r6, r0_2_8_ext;
-    char *map, *slot, *r9, *nodes, *node, *node_2;
-    struct word_half r23, r26;
-    map_address = load64(handle);
+    struct word_half r23;
+    uint64_t map_address = load64(handle);
     store64(handle, 0);
-    map = (char *)(uintptr_t)map_address;
+    char *map = (char *)(uintptr_t)map_address;
     if (map_address == 0) {
         r23 = empty_word_half();
     } else {
-        slot = load_address(map + INT_MAP_SLOTS) + ((load64(map + INT_MAP_MASK) & (key * MULTIPLIER)) * SLOT_SIZE);
+        struct word_half r26;
+        char *slot = load_address(map + INT_MAP_SLOTS) + ((load64(map + INT_MAP_MASK) & (key * MULTIPLIER)) * SLOT_SIZE);
         if (load8(slot + SLOT_HAS_PAIR) == 1) {
-            r10 = (((uint64_t)load16(slot + SLOT_HIGH)) << 32) | ((uint64_t)load32(slot + SLOT_LOW));
+            char *r9;
+            uint64_t r10 = (((uint64_t)load16(slot + SLOT_HIGH)) << 32) | ((uint64_t)load32(slot + SLOT_LOW));
             if (load64(slot + SLOT_KEY) == key) {
                 r9 = slot;
             } else {
-                nodes_len = load64(map + INT_MAP_NODES_LEN);
+                uint64_t nodes_len = load64(map + INT_MAP_NODES_LEN);
                 if (nodes_len <= r10) {
                     r26 = empty_word_half();
                     goto after_pairs_replace;
                 }
-                nodes = load_address(map + INT_MAP_NODES);
-                at = r10;
-                r2_0 = 0;
+                char *nodes = load_address(map + INT_MAP_NODES);
+                uint64_t at = r10;
+                uint64_t r2_0 = 0;
                 for (;;) {
-                    node = nodes + (at * NODE_SIZE);
+                    char *node = nodes + (at * NODE_SIZE);
                     if (load8(node + NODE_HAS_PAIR) != 1) {
                         r26 = empty_word_half();
                         goto after_pairs_replace;
@@ -2899,15 +2857,15 @@ static ALWAYS_INLINE struct word_word do_intmap_replace(char *handle, uint64_t k
                             r9 = slot;
                             break;
                         }
-                        at_2 = chain_seek(map + INT_MAP_NODES, r10, r2_0);
-                        node_2 = nodes + (at_2 * NODE_SIZE);
+                        uint64_t at_2 = chain_seek(map + INT_MAP_NODES, r10, r2_0);
+                        char *node_2 = nodes + (at_2 * NODE_SIZE);
                         if (load8(node_2 + NODE_HAS_PAIR) != 1) {
                             abort();
                         }
                         r9 = node_2;
                         break;
                     }
-                    r10_2 = (((uint64_t)load16(node + NODE_HIGH)) << 32) | ((uint64_t)load32(node + NODE_LOW));
+                    uint64_t r10_2 = (((uint64_t)load16(node + NODE_HIGH)) << 32) | ((uint64_t)load32(node + NODE_LOW));
                     if (nodes_len <= r10_2) {
                         r26 = empty_word_half();
                         goto after_pairs_replace;
@@ -2916,7 +2874,7 @@ static ALWAYS_INLINE struct word_word do_intmap_replace(char *handle, uint64_t k
                     r2_0 = r2_0 + 1;
                 }
             }
-            r6 = load64(r9 + 16);
+            uint64_t r6 = load64(r9 + 16);
             store64(r9 + 16, value);
             r26 = made_word_half(r6, 1);
         } else {
@@ -2926,7 +2884,7 @@ static ALWAYS_INLINE struct word_word do_intmap_replace(char *handle, uint64_t k
         store64(handle, map_address);
         r23 = r26;
     }
-    r0_2_8_ext = (uint64_t)r23.second;
+    uint64_t r0_2_8_ext = (uint64_t)r23.second;
     return made_word_word(r23.first, r0_2_8_ext);
 }
 
@@ -2934,31 +2892,28 @@ static ALWAYS_INLINE struct word_word do_intmap_replace(char *handle, uint64_t k
 // `OK`.
 // intmap_clone, in crates/intmap_c/src/read.rt
 static ALWAYS_INLINE uint32_t do_intmap_clone(char *word, char *to) {
-    char *map, *map_2, *words, *slots, *nodes;
-    uint64_t map_address, slots_room, nodes_room, words_room, len, threshold, factor, len_2, threshold_2, factor_2;
-    uint32_t r5_0, r30;
-    uint8_t sink15;
+    uint32_t r5_0;
     uint64_t has_failed_at_room[13];
     char *has_failed_at = (char *)has_failed_at_room;
     uint64_t r2_3_room[13];
     char *r2_3 = (char *)r2_3_room;
     uint64_t has_failed_at_2_room[16];
     char *has_failed_at_2 = (char *)has_failed_at_2_room;
-    map = load_address(word);
+    char *map = load_address(word);
     memset(has_failed_at_2, 0, 104);
     if (map == NULL) {
-        map_address = load64(to);
+        uint64_t map_address = load64(to);
         store64(to, 0);
         if (map_address == 0) {
             r5_0 = 0;
         } else {
-            map_2 = (char *)(uintptr_t)map_address;
-            words = load_address(map_2 + INT_MAP_WORDS);
-            slots = load_address(map_2 + INT_MAP_SLOTS);
-            slots_room = load64(map_2 + INT_MAP_SLOTS_ROOM);
-            nodes = load_address(map_2 + INT_MAP_NODES);
-            nodes_room = load64(map_2 + INT_MAP_NODES_ROOM);
-            words_room = load64(map_2 + INT_MAP_WORDS_ROOM);
+            char *map_2 = (char *)(uintptr_t)map_address;
+            char *words = load_address(map_2 + INT_MAP_WORDS);
+            char *slots = load_address(map_2 + INT_MAP_SLOTS);
+            uint64_t slots_room = load64(map_2 + INT_MAP_SLOTS_ROOM);
+            char *nodes = load_address(map_2 + INT_MAP_NODES);
+            uint64_t nodes_room = load64(map_2 + INT_MAP_NODES_ROOM);
+            uint64_t words_room = load64(map_2 + INT_MAP_WORDS_ROOM);
             rattle_dealloc(map_2);
             if (words_room != 0) {
                 rattle_dealloc(words);
@@ -2974,13 +2929,15 @@ static ALWAYS_INLINE uint32_t do_intmap_clone(char *word, char *to) {
             }
         }
     } else {
+        uint8_t sink15;
+        uint64_t len_2, threshold_2, factor_2;
         memset(has_failed_at, 0, MADE_SLOTS_SIZE);
         slots_clone(has_failed_at, map);
         if (load8(has_failed_at + MADE_SLOTS_HAS_FAILED) == 0) {
             memcpy(r2_3 + 7, has_failed_at + MADE_SLOTS_MASK, 96);
-            len = load64(map + INT_MAP_LEN);
-            threshold = load64(map + INT_MAP_THRESHOLD);
-            factor = load64(map + INT_MAP_FACTOR);
+            uint64_t len = load64(map + INT_MAP_LEN);
+            uint64_t threshold = load64(map + INT_MAP_THRESHOLD);
+            uint64_t factor = load64(map + INT_MAP_FACTOR);
             memcpy(has_failed_at_2 + MADE_INT_MAP_MASK, r2_3 + 7, TABLE_SIZE);
             sink15 = 0;
             len_2 = len;
@@ -2998,7 +2955,7 @@ static ALWAYS_INLINE uint32_t do_intmap_clone(char *word, char *to) {
         store64(has_failed_at_2 + MADE_INT_MAP_LEN, len_2);
         store64(has_failed_at_2 + MADE_INT_MAP_THRESHOLD, threshold_2);
         store64(has_failed_at_2 + MADE_INT_MAP_FACTOR, factor_2);
-        r30 = make_keep(to, has_failed_at_2);
+        uint32_t r30 = make_keep(to, has_failed_at_2);
         r5_0 = r30;
     }
     return r5_0;
@@ -3007,9 +2964,7 @@ static ALWAYS_INLINE uint32_t do_intmap_clone(char *word, char *to) {
 // Makes an empty map, with a load factor of 909 thousandths, and returns `OK`.
 // intmap_with_capacity, in crates/intmap_c/src/make.rt
 static ALWAYS_INLINE uint32_t do_intmap_with_capacity(char *handle, uint64_t capacity) {
-    uint8_t has_failed, cause, has_failed_2, cause_2;
-    uint64_t a0_a1, r13;
-    uint32_t r5;
+    uint8_t has_failed, cause;
     uint64_t has_failed_at_room[16];
     char *has_failed_at = (char *)has_failed_at_room;
     uint64_t has_failed_at_2_room[16];
@@ -3021,41 +2976,38 @@ static ALWAYS_INLINE uint32_t do_intmap_with_capacity(char *handle, uint64_t cap
         has_failed = 1;
         cause = 1;
     } else {
-        a0_a1 = greater(capacity, 2);
-        r13 = high_zeros(a0_a1 - 1);
+        uint64_t a0_a1 = greater(capacity, 2);
+        uint64_t r13 = high_zeros(a0_a1 - 1);
         intmap_with_slots(has_failed_at, (uint64_t)1 << ((uint64_t)64 - r13));
-        has_failed_2 = load8(has_failed_at + MADE_INT_MAP_HAS_FAILED);
-        cause_2 = load8(has_failed_at + MADE_INT_MAP_CAUSE);
+        uint8_t has_failed_2 = load8(has_failed_at + MADE_INT_MAP_HAS_FAILED);
+        uint8_t cause_2 = load8(has_failed_at + MADE_INT_MAP_CAUSE);
         memcpy(has_failed_at_2 + MADE_INT_MAP_MASK, has_failed_at + MADE_INT_MAP_MASK, INT_MAP_SIZE);
         has_failed = has_failed_2;
         cause = cause_2;
     }
     store8(has_failed_at_2 + MADE_INT_MAP_HAS_FAILED, has_failed);
     store8(has_failed_at_2 + MADE_INT_MAP_CAUSE, cause);
-    r5 = make_keep(handle, has_failed_at_2);
+    uint32_t r5 = make_keep(handle, has_failed_at_2);
     return r5;
 }
 
 // Adds to the value of a present key as `intmap_add_present` does, or inserts an absent key with `more`.
 // intmap_add_or_insert, in crates/intmap_c/src/pairs.rt
 static ALWAYS_INLINE struct word_word do_intmap_add_or_insert(char *handle, uint64_t key, uint64_t more) {
-    uint64_t map_address, value, r19, map_address_2, index, r10, nodes_len, at, r2_0, at_2, at_3, value_2, at_4,
-        at_5, value_3, r10_2, r40, value_4, len, x23, r44, r10_3, spare, r4_0, free, at_6, spare_2, r21, free_2;
-    struct byte_address r15;
-    char *map, *slot, *nodes, *node, *node_2, *node_3, *r9, *node_4, *node_5, *node_6, *r11;
-    uint8_t has_pair, has_pair_2, has_pair_3;
+    uint64_t value, r19, map_address_2, index, r40, value_4, len, x23;
+    char *map, *slot;
+    uint8_t has_pair;
     bool x4;
-    uint16_t high;
     uint64_t r0_room[3];
     char *r0 = (char *)r0_room;
     uint64_t r0_2_room[3];
     char *r0_2 = (char *)r0_2_room;
     uint64_t r12_room[4];
     char *r12 = (char *)r12_room;
-    map_address = load64(handle);
+    uint64_t map_address = load64(handle);
     store64(handle, 0);
     if (map_address == 0) {
-        r15 = handle_make_first();
+        struct byte_address r15 = handle_make_first();
         if (r15.first == 0) {
             value = 0;
             r19 = NO_MEMORY;
@@ -3071,17 +3023,19 @@ static ALWAYS_INLINE struct word_word do_intmap_add_or_insert(char *handle, uint
     has_pair = load8(slot + SLOT_HAS_PAIR);
     x4 = has_pair == 1;
     if (x4) {
-        r10 = (((uint64_t)load16(slot + SLOT_HIGH)) << 32) | ((uint64_t)load32(slot + SLOT_LOW));
+        uint64_t value_3;
+        char *r9;
+        uint64_t r10 = (((uint64_t)load16(slot + SLOT_HIGH)) << 32) | ((uint64_t)load32(slot + SLOT_LOW));
         if (load64(slot + SLOT_KEY) != key) {
-            nodes_len = load64(map + INT_MAP_NODES_LEN);
+            uint64_t nodes_len = load64(map + INT_MAP_NODES_LEN);
             if (nodes_len <= r10) {
                 goto arm_2_2;
             }
-            nodes = load_address(map + INT_MAP_NODES);
-            at = r10;
-            r2_0 = 0;
+            char *nodes = load_address(map + INT_MAP_NODES);
+            uint64_t at = r10;
+            uint64_t r2_0 = 0;
             for (;;) {
-                node = nodes + (at * NODE_SIZE);
+                char *node = nodes + (at * NODE_SIZE);
                 if (load8(node + NODE_HAS_PAIR) != 1) {
                     goto arm_2_2;
                 }
@@ -3089,22 +3043,22 @@ static ALWAYS_INLINE struct word_word do_intmap_add_or_insert(char *handle, uint
                     if (r2_0 == UINT64_MAX) {
                         break;
                     }
-                    at_2 = chain_seek(map + INT_MAP_NODES, r10, r2_0);
+                    uint64_t at_2 = chain_seek(map + INT_MAP_NODES, r10, r2_0);
                     if (load8((nodes + (at_2 * NODE_SIZE)) + NODE_HAS_PAIR) != 1) {
                         abort();
                     }
-                    at_3 = chain_seek(map + INT_MAP_NODES, r10, r2_0);
-                    node_2 = nodes + (at_3 * NODE_SIZE);
+                    uint64_t at_3 = chain_seek(map + INT_MAP_NODES, r10, r2_0);
+                    char *node_2 = nodes + (at_3 * NODE_SIZE);
                     if (load8(node_2 + NODE_HAS_PAIR) != 1) {
                         abort();
                     }
-                    value_2 = load64(node_2 + NODE_VALUE);
-                    at_4 = chain_seek(map + INT_MAP_NODES, r10, r2_0);
+                    uint64_t value_2 = load64(node_2 + NODE_VALUE);
+                    uint64_t at_4 = chain_seek(map + INT_MAP_NODES, r10, r2_0);
                     if (load8((nodes + (at_4 * NODE_SIZE)) + NODE_HAS_PAIR) != 1) {
                         abort();
                     }
-                    at_5 = chain_seek(map + INT_MAP_NODES, r10, r2_0);
-                    node_3 = nodes + (at_5 * NODE_SIZE);
+                    uint64_t at_5 = chain_seek(map + INT_MAP_NODES, r10, r2_0);
+                    char *node_3 = nodes + (at_5 * NODE_SIZE);
                     if (load8(node_3 + NODE_HAS_PAIR) != 1) {
                         abort();
                     }
@@ -3112,7 +3066,7 @@ static ALWAYS_INLINE struct word_word do_intmap_add_or_insert(char *handle, uint
                     r9 = node_3;
                     goto after_OccupiedEntry_insert;
                 }
-                r10_2 = (((uint64_t)load16(node + NODE_HIGH)) << 32) | ((uint64_t)load32(node + NODE_LOW));
+                uint64_t r10_2 = (((uint64_t)load16(node + NODE_HIGH)) << 32) | ((uint64_t)load32(node + NODE_LOW));
                 if (nodes_len <= r10_2) {
                     goto arm_2_2;
                 }
@@ -3134,14 +3088,16 @@ arm_2_2:;
     if (len == UINT64_MAX) {
         x23 = TOO_LARGE;
     } else {
-        r44 = len + 1;
+        uint64_t r44 = len + 1;
         if (!(((r44 & 4) != 0) & (load64(map + INT_MAP_THRESHOLD) <= len))) {
             if (x4) {
-                high = load16(slot + SLOT_HIGH);
-                r10_3 = (((uint64_t)high) << 32) | ((uint64_t)load32(slot + SLOT_LOW));
+                uint64_t spare, r4_0;
+                uint16_t high = load16(slot + SLOT_HIGH);
+                uint64_t r10_3 = (((uint64_t)high) << 32) | ((uint64_t)load32(slot + SLOT_LOW));
                 if (high != NOWHERE_HIGH) {
-                    at_6 = chain_last_in(map + INT_MAP_NODES, r10_3);
-                    spare_2 = load64(map + INT_MAP_SPARE);
+                    uint64_t r21;
+                    uint64_t at_6 = chain_last_in(map + INT_MAP_NODES, r10_3);
+                    uint64_t spare_2 = load64(map + INT_MAP_SPARE);
                     if (spare_2 == 0) {
                         pool_append(r0_2, map + INT_MAP_NODES, NOWHERE, key, more);
                         if (load8(r0_2) != 0) {
@@ -3149,14 +3105,14 @@ arm_2_2:;
                         }
                         r21 = load64(r0_2 + 8);
                     } else {
-                        free_2 = load64(map + INT_MAP_FREE);
-                        node_5 = load_address(map + INT_MAP_NODES) + (free_2 * NODE_SIZE);
+                        uint64_t free_2 = load64(map + INT_MAP_FREE);
+                        char *node_5 = load_address(map + INT_MAP_NODES) + (free_2 * NODE_SIZE);
                         if (load8(node_5 + NODE_HAS_PAIR) != 0) {
                             abort();
                         }
                         store64(map + INT_MAP_FREE, (((uint64_t)load16(node_5 + NODE_HIGH)) << 32) | ((uint64_t)load32(node_5 + NODE_LOW)));
                         store64(map + INT_MAP_SPARE, spare_2 - 1);
-                        has_pair_3 = load8(node_5 + NODE_HAS_PAIR);
+                        uint8_t has_pair_3 = load8(node_5 + NODE_HAS_PAIR);
                         store16(node_5 + NODE_HAS_PAIR, 1);
                         store16(node_5 + NODE_HIGH, NOWHERE_HIGH);
                         store32(node_5 + NODE_LOW, NOWHERE_LOW);
@@ -3167,7 +3123,7 @@ arm_2_2:;
                         }
                         r21 = free_2;
                     }
-                    node_6 = load_address(map + INT_MAP_NODES) + (at_6 * NODE_SIZE);
+                    char *node_6 = load_address(map + INT_MAP_NODES) + (at_6 * NODE_SIZE);
                     if (load8(node_6 + NODE_HAS_PAIR) != 1) {
                         abort();
                     }
@@ -3178,14 +3134,14 @@ arm_2_2:;
                 }
                 spare = load64(map + INT_MAP_SPARE);
                 if (spare != 0) {
-                    free = load64(map + INT_MAP_FREE);
-                    node_4 = load_address(map + INT_MAP_NODES) + (free * NODE_SIZE);
+                    uint64_t free = load64(map + INT_MAP_FREE);
+                    char *node_4 = load_address(map + INT_MAP_NODES) + (free * NODE_SIZE);
                     if (load8(node_4 + NODE_HAS_PAIR) != 0) {
                         abort();
                     }
                     store64(map + INT_MAP_FREE, (((uint64_t)load16(node_4 + NODE_HIGH)) << 32) | ((uint64_t)load32(node_4 + NODE_LOW)));
                     store64(map + INT_MAP_SPARE, spare - 1);
-                    has_pair_2 = load8(node_4 + NODE_HAS_PAIR);
+                    uint8_t has_pair_2 = load8(node_4 + NODE_HAS_PAIR);
                     store16(node_4 + NODE_HAS_PAIR, 1);
                     store16(node_4 + NODE_HIGH, NOWHERE_HIGH);
                     store32(node_4 + NODE_LOW, NOWHERE_LOW);
@@ -3222,7 +3178,7 @@ arm_2_2:;
                     abort();
                 }
             }
-            r11 = load_address(map + INT_MAP_WORDS) + ((index >> 3) & UINT64_C(0x1FFFFFFFFFFFFFF8));
+            char *r11 = load_address(map + INT_MAP_WORDS) + ((index >> 3) & UINT64_C(0x1FFFFFFFFFFFFFF8));
             store64(r11, load64(r11) | ((uint64_t)1 << (index & 63)));
             store64(map + INT_MAP_LEN, r44);
             r40 = 0;
@@ -3250,24 +3206,19 @@ after_pairs_intmap_add_or_insert:;
 // Finds the key, or inserts the pair if the key is absent, and returns whether the key was present.
 // intmap_find_or_insert, in crates/intmap_c/src/pairs.rt
 static ALWAYS_INLINE uint32_t do_intmap_find_or_insert(char *handle, uint64_t key, uint64_t value) {
-    uint64_t map_address, map_address_2, index, r10, nodes_len, at, r10_2, len, r44, r10_3, spare, r4_0_2, free,
-        at_2, spare_2, r21, free_2;
-    struct byte_address r15;
-    char *map, *slot, *nodes, *node, *node_2, *node_3, *node_4, *r11;
-    uint8_t has_pair, has_pair_2, has_pair_3;
-    bool x4;
+    char *map;
     uint32_t r4_0;
-    uint16_t high;
+    uint64_t len;
     uint64_t r0_room[3];
     char *r0 = (char *)r0_room;
     uint64_t r0_2_room[3];
     char *r0_2 = (char *)r0_2_room;
     uint64_t r12_room[4];
     char *r12 = (char *)r12_room;
-    map_address = load64(handle);
+    uint64_t map_address = load64(handle);
     store64(handle, 0);
     if (map_address == 0) {
-        r15 = handle_make_first();
+        struct byte_address r15 = handle_make_first();
         if (r15.first == 0) {
             return NO_MEMORY;
         }
@@ -3275,23 +3226,23 @@ static ALWAYS_INLINE uint32_t do_intmap_find_or_insert(char *handle, uint64_t ke
     } else {
         map = (char *)(uintptr_t)map_address;
     }
-    map_address_2 = (uint64_t)(uintptr_t)map;
-    index = load64(map + INT_MAP_MASK) & (key * MULTIPLIER);
-    slot = load_address(map + INT_MAP_SLOTS) + (index * SLOT_SIZE);
-    has_pair = load8(slot + SLOT_HAS_PAIR);
-    x4 = has_pair == 1;
+    uint64_t map_address_2 = (uint64_t)(uintptr_t)map;
+    uint64_t index = load64(map + INT_MAP_MASK) & (key * MULTIPLIER);
+    char *slot = load_address(map + INT_MAP_SLOTS) + (index * SLOT_SIZE);
+    uint8_t has_pair = load8(slot + SLOT_HAS_PAIR);
+    bool x4 = has_pair == 1;
     if (x4) {
-        r10 = (((uint64_t)load16(slot + SLOT_HIGH)) << 32) | ((uint64_t)load32(slot + SLOT_LOW));
+        uint64_t r10 = (((uint64_t)load16(slot + SLOT_HIGH)) << 32) | ((uint64_t)load32(slot + SLOT_LOW));
         if (load64(slot + SLOT_KEY) == key) {
             r4_0 = 1;
             goto after_pairs_find_or_insert;
         }
-        nodes_len = load64(map + INT_MAP_NODES_LEN);
+        uint64_t nodes_len = load64(map + INT_MAP_NODES_LEN);
         if (nodes_len > r10) {
-            nodes = load_address(map + INT_MAP_NODES);
-            at = r10;
+            char *nodes = load_address(map + INT_MAP_NODES);
+            uint64_t at = r10;
             for (;;) {
-                node = nodes + (at * NODE_SIZE);
+                char *node = nodes + (at * NODE_SIZE);
                 if (load8(node + NODE_HAS_PAIR) != 1) {
                     break;
                 }
@@ -3299,7 +3250,7 @@ static ALWAYS_INLINE uint32_t do_intmap_find_or_insert(char *handle, uint64_t ke
                     r4_0 = 1;
                     goto after_pairs_find_or_insert;
                 }
-                r10_2 = (((uint64_t)load16(node + NODE_HIGH)) << 32) | ((uint64_t)load32(node + NODE_LOW));
+                uint64_t r10_2 = (((uint64_t)load16(node + NODE_HIGH)) << 32) | ((uint64_t)load32(node + NODE_LOW));
                 if (nodes_len <= r10_2) {
                     break;
                 }
@@ -3312,14 +3263,16 @@ static ALWAYS_INLINE uint32_t do_intmap_find_or_insert(char *handle, uint64_t ke
     if (len == UINT64_MAX) {
         r4_0 = TOO_LARGE;
     } else {
-        r44 = len + 1;
+        uint64_t r44 = len + 1;
         if (!(((r44 & 4) != 0) & (load64(map + INT_MAP_THRESHOLD) <= len))) {
             if (x4) {
-                high = load16(slot + SLOT_HIGH);
-                r10_3 = (((uint64_t)high) << 32) | ((uint64_t)load32(slot + SLOT_LOW));
+                uint64_t spare, r4_0_2;
+                uint16_t high = load16(slot + SLOT_HIGH);
+                uint64_t r10_3 = (((uint64_t)high) << 32) | ((uint64_t)load32(slot + SLOT_LOW));
                 if (high != NOWHERE_HIGH) {
-                    at_2 = chain_last_in(map + INT_MAP_NODES, r10_3);
-                    spare_2 = load64(map + INT_MAP_SPARE);
+                    uint64_t r21;
+                    uint64_t at_2 = chain_last_in(map + INT_MAP_NODES, r10_3);
+                    uint64_t spare_2 = load64(map + INT_MAP_SPARE);
                     if (spare_2 == 0) {
                         pool_append(r0_2, map + INT_MAP_NODES, NOWHERE, key, value);
                         if (load8(r0_2) != 0) {
@@ -3327,14 +3280,14 @@ static ALWAYS_INLINE uint32_t do_intmap_find_or_insert(char *handle, uint64_t ke
                         }
                         r21 = load64(r0_2 + 8);
                     } else {
-                        free_2 = load64(map + INT_MAP_FREE);
-                        node_3 = load_address(map + INT_MAP_NODES) + (free_2 * NODE_SIZE);
+                        uint64_t free_2 = load64(map + INT_MAP_FREE);
+                        char *node_3 = load_address(map + INT_MAP_NODES) + (free_2 * NODE_SIZE);
                         if (load8(node_3 + NODE_HAS_PAIR) != 0) {
                             abort();
                         }
                         store64(map + INT_MAP_FREE, (((uint64_t)load16(node_3 + NODE_HIGH)) << 32) | ((uint64_t)load32(node_3 + NODE_LOW)));
                         store64(map + INT_MAP_SPARE, spare_2 - 1);
-                        has_pair_3 = load8(node_3 + NODE_HAS_PAIR);
+                        uint8_t has_pair_3 = load8(node_3 + NODE_HAS_PAIR);
                         store16(node_3 + NODE_HAS_PAIR, 1);
                         store16(node_3 + NODE_HIGH, NOWHERE_HIGH);
                         store32(node_3 + NODE_LOW, NOWHERE_LOW);
@@ -3345,7 +3298,7 @@ static ALWAYS_INLINE uint32_t do_intmap_find_or_insert(char *handle, uint64_t ke
                         }
                         r21 = free_2;
                     }
-                    node_4 = load_address(map + INT_MAP_NODES) + (at_2 * NODE_SIZE);
+                    char *node_4 = load_address(map + INT_MAP_NODES) + (at_2 * NODE_SIZE);
                     if (load8(node_4 + NODE_HAS_PAIR) != 1) {
                         abort();
                     }
@@ -3356,14 +3309,14 @@ static ALWAYS_INLINE uint32_t do_intmap_find_or_insert(char *handle, uint64_t ke
                 }
                 spare = load64(map + INT_MAP_SPARE);
                 if (spare != 0) {
-                    free = load64(map + INT_MAP_FREE);
-                    node_2 = load_address(map + INT_MAP_NODES) + (free * NODE_SIZE);
+                    uint64_t free = load64(map + INT_MAP_FREE);
+                    char *node_2 = load_address(map + INT_MAP_NODES) + (free * NODE_SIZE);
                     if (load8(node_2 + NODE_HAS_PAIR) != 0) {
                         abort();
                     }
                     store64(map + INT_MAP_FREE, (((uint64_t)load16(node_2 + NODE_HIGH)) << 32) | ((uint64_t)load32(node_2 + NODE_LOW)));
                     store64(map + INT_MAP_SPARE, spare - 1);
-                    has_pair_2 = load8(node_2 + NODE_HAS_PAIR);
+                    uint8_t has_pair_2 = load8(node_2 + NODE_HAS_PAIR);
                     store16(node_2 + NODE_HAS_PAIR, 1);
                     store16(node_2 + NODE_HIGH, NOWHERE_HIGH);
                     store32(node_2 + NODE_LOW, NOWHERE_LOW);
@@ -3398,7 +3351,7 @@ static ALWAYS_INLINE uint32_t do_intmap_find_or_insert(char *handle, uint64_t ke
                     abort();
                 }
             }
-            r11 = load_address(map + INT_MAP_WORDS) + ((index >> 3) & UINT64_C(0x1FFFFFFFFFFFFFF8));
+            char *r11 = load_address(map + INT_MAP_WORDS) + ((index >> 3) & UINT64_C(0x1FFFFFFFFFFFFFF8));
             store64(r11, load64(r11) | ((uint64_t)1 << (index & 63)));
             store64(map + INT_MAP_LEN, r44);
             r4_0 = 0;
@@ -3424,25 +3377,20 @@ after_pairs_find_or_insert:;
 // Inserts the pair of the key and the value at the end of its slot, and returns the value before.
 // intmap_insert, in crates/intmap_c/src/pairs.rt
 static ALWAYS_INLINE struct word_word do_intmap_insert(char *handle, uint64_t key, uint64_t value) {
-    uint64_t map_address, r6, r19, map_address_2, index, r10, r0_3, nodes_len, at, r2_0, r10_2, value_2, r5,
-        spec_select1, key_2, value_3, value_4, r55, r69, len, x20, r44, r10_3, spare, r4_0, free, at_3, spare_2, r21,
-        free_2;
-    struct byte_address r15;
-    char *map, *slot, *nodes, *node, *node_2, *node_3, *node_4, *node_5, *r11;
-    uint8_t has_pair, has_pair_2, has_pair_3;
+    uint64_t r6, r19, map_address_2, index, r5, spec_select1, len, x20;
+    char *map, *slot;
+    uint8_t has_pair;
     bool x4;
-    uint16_t high, high_2;
-    struct word_word at_2;
     uint64_t r0_room[3];
     char *r0 = (char *)r0_room;
     uint64_t r0_2_room[3];
     char *r0_2 = (char *)r0_2_room;
     uint64_t r12_room[4];
     char *r12 = (char *)r12_room;
-    map_address = load64(handle);
+    uint64_t map_address = load64(handle);
     store64(handle, 0);
     if (map_address == 0) {
-        r15 = handle_make_first();
+        struct byte_address r15 = handle_make_first();
         if (r15.first == 0) {
             r6 = 0;
             r19 = NO_MEMORY;
@@ -3458,20 +3406,21 @@ static ALWAYS_INLINE struct word_word do_intmap_insert(char *handle, uint64_t ke
     has_pair = load8(slot + SLOT_HAS_PAIR);
     x4 = has_pair == 1;
     if (x4) {
-        high = load16(slot + SLOT_HIGH);
-        r10 = (((uint64_t)high) << 32) | ((uint64_t)load32(slot + SLOT_LOW));
+        uint64_t r0_3;
+        uint16_t high = load16(slot + SLOT_HIGH);
+        uint64_t r10 = (((uint64_t)high) << 32) | ((uint64_t)load32(slot + SLOT_LOW));
         if (load64(slot + SLOT_KEY) == key) {
             r0_3 = 0;
         } else {
-            nodes_len = load64(map + INT_MAP_NODES_LEN);
+            uint64_t nodes_len = load64(map + INT_MAP_NODES_LEN);
             if (nodes_len <= r10) {
                 goto arm_2_2;
             }
-            nodes = load_address(map + INT_MAP_NODES);
-            at = r10;
-            r2_0 = 0;
+            char *nodes = load_address(map + INT_MAP_NODES);
+            uint64_t at = r10;
+            uint64_t r2_0 = 0;
             for (;;) {
-                node = nodes + (at * NODE_SIZE);
+                char *node = nodes + (at * NODE_SIZE);
                 if (load8(node + NODE_HAS_PAIR) != 1) {
                     goto arm_2_2;
                 }
@@ -3479,7 +3428,7 @@ static ALWAYS_INLINE struct word_word do_intmap_insert(char *handle, uint64_t ke
                     r0_3 = r2_0 + 1;
                     break;
                 }
-                r10_2 = (((uint64_t)load16(node + NODE_HIGH)) << 32) | ((uint64_t)load32(node + NODE_LOW));
+                uint64_t r10_2 = (((uint64_t)load16(node + NODE_HIGH)) << 32) | ((uint64_t)load32(node + NODE_LOW));
                 if (nodes_len <= r10_2) {
                     goto arm_2_2;
                 }
@@ -3488,40 +3437,40 @@ static ALWAYS_INLINE struct word_word do_intmap_insert(char *handle, uint64_t ke
             }
         }
         if (high == NOWHERE_HIGH) {
-            value_2 = load64(slot + SLOT_VALUE);
+            uint64_t value_2 = load64(slot + SLOT_VALUE);
             store64(slot + SLOT_KEY, key);
             store64(slot + SLOT_VALUE, value);
             r5 = value_2;
             spec_select1 = 1;
             goto after_pairs_insert;
         }
-        at_2 = chain_last_in_2(map + INT_MAP_NODES, r10);
-        node_2 = load_address(map + INT_MAP_NODES) + (at_2.first * NODE_SIZE);
+        struct word_word at_2 = chain_last_in_2(map + INT_MAP_NODES, r10);
+        char *node_2 = load_address(map + INT_MAP_NODES) + (at_2.first * NODE_SIZE);
         if (load8(node_2 + NODE_HAS_PAIR) != 1) {
             abort();
         }
-        key_2 = load64(node_2 + NODE_KEY);
-        value_3 = load64(node_2 + NODE_VALUE);
+        uint64_t key_2 = load64(node_2 + NODE_KEY);
+        uint64_t value_3 = load64(node_2 + NODE_VALUE);
         store64(node_2 + NODE_KEY, key);
         store64(node_2 + NODE_VALUE, value);
         if (r0_3 == 0) {
             if (load8(slot + SLOT_HAS_PAIR) != 1) {
                 abort();
             }
-            value_4 = load64(slot + SLOT_VALUE);
+            uint64_t value_4 = load64(slot + SLOT_VALUE);
             store64(slot + SLOT_KEY, key_2);
             store64(slot + SLOT_VALUE, value_3);
             r5 = value_4;
             spec_select1 = 1;
             goto after_pairs_insert;
         }
-        r55 = r0_3 - 1;
+        uint64_t r55 = r0_3 - 1;
         if (r55 == at_2.second) {
             r5 = value_3;
             spec_select1 = 1;
             goto after_pairs_insert;
         }
-        r69 = chain_swap_behind(r10, map + INT_MAP_NODES, r55, key_2, value_3);
+        uint64_t r69 = chain_swap_behind(r10, map + INT_MAP_NODES, r55, key_2, value_3);
         r5 = r69;
         spec_select1 = 1;
         goto after_pairs_insert;
@@ -3532,14 +3481,16 @@ arm_2_2:;
     if (len == UINT64_MAX) {
         x20 = TOO_LARGE;
     } else {
-        r44 = len + 1;
+        uint64_t r44 = len + 1;
         if (!(((r44 & 4) != 0) & (load64(map + INT_MAP_THRESHOLD) <= len))) {
             if (x4) {
-                high_2 = load16(slot + SLOT_HIGH);
-                r10_3 = (((uint64_t)high_2) << 32) | ((uint64_t)load32(slot + SLOT_LOW));
+                uint64_t spare, r4_0;
+                uint16_t high_2 = load16(slot + SLOT_HIGH);
+                uint64_t r10_3 = (((uint64_t)high_2) << 32) | ((uint64_t)load32(slot + SLOT_LOW));
                 if (high_2 != NOWHERE_HIGH) {
-                    at_3 = chain_last_in(map + INT_MAP_NODES, r10_3);
-                    spare_2 = load64(map + INT_MAP_SPARE);
+                    uint64_t r21;
+                    uint64_t at_3 = chain_last_in(map + INT_MAP_NODES, r10_3);
+                    uint64_t spare_2 = load64(map + INT_MAP_SPARE);
                     if (spare_2 == 0) {
                         pool_append(r0_2, map + INT_MAP_NODES, NOWHERE, key, value);
                         if (load8(r0_2) != 0) {
@@ -3547,14 +3498,14 @@ arm_2_2:;
                         }
                         r21 = load64(r0_2 + 8);
                     } else {
-                        free_2 = load64(map + INT_MAP_FREE);
-                        node_4 = load_address(map + INT_MAP_NODES) + (free_2 * NODE_SIZE);
+                        uint64_t free_2 = load64(map + INT_MAP_FREE);
+                        char *node_4 = load_address(map + INT_MAP_NODES) + (free_2 * NODE_SIZE);
                         if (load8(node_4 + NODE_HAS_PAIR) != 0) {
                             abort();
                         }
                         store64(map + INT_MAP_FREE, (((uint64_t)load16(node_4 + NODE_HIGH)) << 32) | ((uint64_t)load32(node_4 + NODE_LOW)));
                         store64(map + INT_MAP_SPARE, spare_2 - 1);
-                        has_pair_3 = load8(node_4 + NODE_HAS_PAIR);
+                        uint8_t has_pair_3 = load8(node_4 + NODE_HAS_PAIR);
                         store16(node_4 + NODE_HAS_PAIR, 1);
                         store16(node_4 + NODE_HIGH, NOWHERE_HIGH);
                         store32(node_4 + NODE_LOW, NOWHERE_LOW);
@@ -3565,7 +3516,7 @@ arm_2_2:;
                         }
                         r21 = free_2;
                     }
-                    node_5 = load_address(map + INT_MAP_NODES) + (at_3 * NODE_SIZE);
+                    char *node_5 = load_address(map + INT_MAP_NODES) + (at_3 * NODE_SIZE);
                     if (load8(node_5 + NODE_HAS_PAIR) != 1) {
                         abort();
                     }
@@ -3576,14 +3527,14 @@ arm_2_2:;
                 }
                 spare = load64(map + INT_MAP_SPARE);
                 if (spare != 0) {
-                    free = load64(map + INT_MAP_FREE);
-                    node_3 = load_address(map + INT_MAP_NODES) + (free * NODE_SIZE);
+                    uint64_t free = load64(map + INT_MAP_FREE);
+                    char *node_3 = load_address(map + INT_MAP_NODES) + (free * NODE_SIZE);
                     if (load8(node_3 + NODE_HAS_PAIR) != 0) {
                         abort();
                     }
                     store64(map + INT_MAP_FREE, (((uint64_t)load16(node_3 + NODE_HIGH)) << 32) | ((uint64_t)load32(node_3 + NODE_LOW)));
                     store64(map + INT_MAP_SPARE, spare - 1);
-                    has_pair_2 = load8(node_3 + NODE_HAS_PAIR);
+                    uint8_t has_pair_2 = load8(node_3 + NODE_HAS_PAIR);
                     store16(node_3 + NODE_HAS_PAIR, 1);
                     store16(node_3 + NODE_HIGH, NOWHERE_HIGH);
                     store32(node_3 + NODE_LOW, NOWHERE_LOW);
@@ -3620,7 +3571,7 @@ arm_2_2:;
                     abort();
                 }
             }
-            r11 = load_address(map + INT_MAP_WORDS) + ((index >> 3) & UINT64_C(0x1FFFFFFFFFFFFFF8));
+            char *r11 = load_address(map + INT_MAP_WORDS) + ((index >> 3) & UINT64_C(0x1FFFFFFFFFFFFFF8));
             store64(r11, load64(r11) | ((uint64_t)1 << (index & 63)));
             store64(map + INT_MAP_LEN, r44);
             r5 = 0;
@@ -3648,16 +3599,12 @@ after_pairs_intmap_insert:;
 // Makes slots for the pairs and `additional` more, and returns `OK`.
 // intmap_reserve_slots, in crates/intmap_c/src/figures.rt
 static ALWAYS_INLINE uint32_t do_intmap_reserve_slots(char *handle, uint64_t additional) {
-    uint64_t map_address, map_address_2, len, r40, r2_0, r13, a0_a1;
-    struct byte_address r15;
     char *map;
     uint32_t r4_0;
-    uint8_t r50;
-    u128 r17;
-    map_address = load64(handle);
+    uint64_t map_address = load64(handle);
     store64(handle, 0);
     if (map_address == 0) {
-        r15 = handle_make_first();
+        struct byte_address r15 = handle_make_first();
         if (r15.first == 0) {
             return (additional > GREATEST_CAPACITY) ? TOO_LARGE : NO_MEMORY;
         }
@@ -3665,24 +3612,25 @@ static ALWAYS_INLINE uint32_t do_intmap_reserve_slots(char *handle, uint64_t add
     } else {
         map = (char *)(uintptr_t)map_address;
     }
-    map_address_2 = (uint64_t)(uintptr_t)map;
-    len = load64(map + INT_MAP_LEN);
+    uint64_t map_address_2 = (uint64_t)(uintptr_t)map;
+    uint64_t len = load64(map + INT_MAP_LEN);
     if ((len > GREATEST_CAPACITY) ? true : ((GREATEST_CAPACITY - len) < additional)) {
         r4_0 = TOO_LARGE;
     } else {
-        r40 = len + additional;
+        uint64_t r2_0;
+        uint64_t r40 = len + additional;
         if (r40 < 2) {
             r2_0 = 1;
         } else {
-            r13 = high_zeros(r40 - 1);
+            uint64_t r13 = high_zeros(r40 - 1);
             r2_0 = (uint64_t)1 << ((uint64_t)64 - r13);
         }
-        a0_a1 = greater(load64(map + INT_MAP_SLOTS_LEN), r2_0);
-        r50 = table_grow_to(map, a0_a1);
+        uint64_t a0_a1 = greater(load64(map + INT_MAP_SLOTS_LEN), r2_0);
+        uint8_t r50 = table_grow_to(map, a0_a1);
         if ((r50 & 1) != 0) {
             r4_0 = NO_MEMORY;
         } else {
-            r17 = u128_less_one(u128_mul(u128_add(u128_of(load64(map + INT_MAP_FACTOR)), u128_of(1u)), u128_of(a0_a1)));
+            u128 r17 = u128_less_one(u128_mul(u128_add(u128_of(load64(map + INT_MAP_FACTOR)), u128_of(1u)), u128_of(a0_a1)));
             store64(map + INT_MAP_THRESHOLD, u128_above(r17, u128_two(999, UINT64_MAX)) ? UINT64_MAX : u128_low(u128_div(r17, u128_of(1000u))));
             r4_0 = 0;
         }
@@ -3694,16 +3642,14 @@ static ALWAYS_INLINE uint32_t do_intmap_reserve_slots(char *handle, uint64_t add
 // Sets the load factor in thousandths, doubles the slots until their number meets it, and returns `OK`.
 // intmap_set_load_factor, in crates/intmap_c/src/figures.rt
 static ALWAYS_INLINE uint32_t do_intmap_set_load_factor(char *handle, uint64_t thousandths) {
-    uint64_t map_address, map_address_2, slots_len, r0, r3_09, r31;
-    struct byte_address r15;
     char *map;
-    u128 r10, r13, r17;
+    uint64_t r0;
     uint32_t r4_0;
     uint8_t r30;
-    map_address = load64(handle);
+    uint64_t map_address = load64(handle);
     store64(handle, 0);
     if (map_address == 0) {
-        r15 = handle_make_first();
+        struct byte_address r15 = handle_make_first();
         if (r15.first == 0) {
             return NO_MEMORY;
         }
@@ -3711,20 +3657,20 @@ static ALWAYS_INLINE uint32_t do_intmap_set_load_factor(char *handle, uint64_t t
     } else {
         map = (char *)(uintptr_t)map_address;
     }
-    map_address_2 = (uint64_t)(uintptr_t)map;
-    slots_len = load64(map + INT_MAP_SLOTS_LEN);
-    r10 = u128_mul(u128_of(load64(map + INT_MAP_LEN)), u128_of(1000u));
-    r13 = u128_add(u128_of(thousandths), u128_of(1u));
+    uint64_t map_address_2 = (uint64_t)(uintptr_t)map;
+    uint64_t slots_len = load64(map + INT_MAP_SLOTS_LEN);
+    u128 r10 = u128_mul(u128_of(load64(map + INT_MAP_LEN)), u128_of(1000u));
+    u128 r13 = u128_add(u128_of(thousandths), u128_of(1u));
     if (u128_above(u128_mul(r13, u128_of(slots_len)), r10)) {
         r0 = slots_len;
     } else {
-        r3_09 = slots_len;
+        uint64_t r3_09 = slots_len;
         for (;;) {
             if (r3_09 == GREATEST_CAPACITY) {
                 r4_0 = TOO_LARGE;
                 goto after_figures_set_load_factor;
             }
-            r31 = r3_09 << 1;
+            uint64_t r31 = r3_09 << 1;
             if (u128_above(u128_mul(r13, u128_of(r31)), r10)) {
                 r0 = r31;
                 break;
@@ -3737,7 +3683,7 @@ static ALWAYS_INLINE uint32_t do_intmap_set_load_factor(char *handle, uint64_t t
         r4_0 = NO_MEMORY;
     } else {
         store64(map + INT_MAP_FACTOR, thousandths);
-        r17 = u128_less_one(u128_mul(r13, u128_of(r0)));
+        u128 r17 = u128_less_one(u128_mul(r13, u128_of(r0)));
         store64(map + INT_MAP_THRESHOLD, u128_above(r17, u128_two(999, UINT64_MAX)) ? UINT64_MAX : u128_low(u128_div(r17, u128_of(1000u))));
         r4_0 = 0;
     }

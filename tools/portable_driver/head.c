@@ -135,8 +135,9 @@ static inline void store_bytes(char *at, uint64_t x, size_t count) {
 // Bits.
 
 #if HAS_ADDITIONS
-static inline uint64_t low_zeros(uint64_t x) {
-    return x != 0 ? (uint64_t)__builtin_ctzll(x) : 64;
+// The number has a bit that is 1.
+static inline uint64_t place_of_lowest_1(uint64_t x) {
+    return (uint64_t)__builtin_ctzll(x);
 }
 
 static inline uint64_t high_zeros(uint64_t x) {
@@ -153,7 +154,7 @@ static inline uint64_t ones_in(uint64_t x) {
     return ((x + (x >> 4)) & 0x0F0F0F0F0F0F0F0Fu) * 0x0101010101010101u >> 56;
 }
 
-static inline uint64_t low_zeros(uint64_t x) {
+static inline uint64_t place_of_lowest_1(uint64_t x) {
     return ones_in(~x & (x - 1));
 }
 
