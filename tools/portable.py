@@ -70,6 +70,8 @@ ENDS = re.compile(rf"(?:%{NAME} = (?:phi|insertvalue) |ret )")
 TAKEN = set("switch default case if else for do while return break continue goto new delete this".split())
 FIELD_TYPES = {"i64": "word", "i32": "half", "i8": "byte", "i1": "truth", "ptr": "address"}
 FIELDS = ("first", "second", "third", "fourth")
+# an arm that the sources call unreachable, which they prove
+NEVER = "abort(); // The proof excludes this."
 STEP = "    "
 # what the head may define for nobody, with the comment above it and the blank line below
 HELPER = re.compile(
@@ -447,7 +449,7 @@ class FunctionInC:
         if value:
             self.types[value] = kind
         if name == "llvm.trap":
-            return "abort();"
+            return NEVER
         moves = next((it for start, it in MOVES.items() if name.startswith(f"{start}.p0")), None)
         if moves:
             address = re.search(rf"({VALUE})$", parted(places)[0])[1]
@@ -633,7 +635,7 @@ class FunctionInC:
         if word == "ret":
             out.append(self.end(block, {}))
         elif word == "unreachable":
-            out += ["abort();"] if out[-1:] != ["abort();"] else []
+            out += [NEVER] if out[-1:] != [NEVER] else []
         elif word == "switch":
             lines, goes_on = self.switch(block, last, first)
             out += lines

@@ -592,7 +592,7 @@ static ALWAYS_INLINE uint64_t chain_seek(char *pool, uint64_t from, uint64_t pla
     for (;;) {
         char *node = nodes + (at * NODE_SIZE);
         if (load8(node + NODE_HAS_PAIR) != 1) {
-            abort();
+            abort(); // The proof excludes this.
         }
         uint64_t r10 = (((uint64_t)load16(node + NODE_HIGH)) << 32) | ((uint64_t)load32(node + NODE_LOW));
         uint64_t r12 = r2_013 + 1;
@@ -636,7 +636,7 @@ static ALWAYS_INLINE struct byte_address intmap_get_counted(char *map, uint64_t 
                 uint64_t at_2 = chain_seek(map + INT_MAP_NODES, r10, r2_0);
                 char *node_2 = load_address(map + INT_MAP_NODES) + (at_2 * NODE_SIZE);
                 if (load8(node_2 + NODE_HAS_PAIR) != 1) {
-                    abort();
+                    abort(); // The proof excludes this.
                 }
                 r11 = node_2;
                 break;
@@ -656,12 +656,12 @@ static ALWAYS_INLINE struct byte_address intmap_get_counted(char *map, uint64_t 
 // intmap_table::linked::row::take_first_of_several, in crates/intmap_table/src/linked/row.rt
 static ALIGNED NOINLINE struct word_word row_take_first_of_several(char *slot, char *pool) {
     if (load8(slot + SLOT_HAS_PAIR) != 1) {
-        abort();
+        abort(); // The proof excludes this.
     }
     uint64_t at = (((uint64_t)load16(slot + SLOT_HIGH)) << 32) | ((uint64_t)load32(slot + SLOT_LOW));
     char *node = load_address(pool + POOL_NODES) + (at * NODE_SIZE);
     if (load8(node + NODE_HAS_PAIR) != 1) {
-        abort();
+        abort(); // The proof excludes this.
     }
     uint16_t high = load16(node + NODE_HIGH);
     uint32_t low = load32(node + NODE_LOW);
@@ -675,7 +675,7 @@ static ALIGNED NOINLINE struct word_word row_take_first_of_several(char *slot, c
     store64(pool + POOL_FREE, at);
     store64(pool + POOL_SPARE, load64(pool + POOL_SPARE) + 1);
     if (load8(slot + SLOT_HAS_PAIR) != 1) {
-        abort();
+        abort(); // The proof excludes this.
     }
     store16(slot + SLOT_HIGH, high);
     store32(slot + SLOT_LOW, low);
@@ -692,7 +692,7 @@ static ALWAYS_INLINE uint64_t chain_swap_behind(uint64_t link, char *pool, uint6
     uint64_t at = chain_seek(pool, link, place);
     char *node = load_address(pool + POOL_NODES) + (at * NODE_SIZE);
     if (load8(node + NODE_HAS_PAIR) != 1) {
-        abort();
+        abort(); // The proof excludes this.
     }
     uint64_t value = load64(node + NODE_VALUE);
     store64(node + NODE_KEY, a3);
@@ -1360,7 +1360,7 @@ after_Slots_needed:;
             store64(slot_3 + SLOT_KEY, key);
             store64(slot_3 + SLOT_VALUE, value);
             if (has_pair != 0) {
-                abort();
+                abort(); // The proof excludes this.
             }
         }
         char *words = load_address(mask_at + SLOTS_WORDS);
@@ -1410,7 +1410,7 @@ after_Slots_needed:;
                         for (;;) {
                             char *node_2 = nodes + (at_3 * NODE_SIZE);
                             if (load8(node_2 + NODE_HAS_PAIR) != 1) {
-                                abort();
+                                abort(); // The proof excludes this.
                             }
                             uint16_t high_2 = load16(node_2 + NODE_HIGH);
                             uint64_t r10_3 = (((uint64_t)high_2) << 32) | ((uint64_t)load32(node_2 + NODE_LOW));
@@ -1418,7 +1418,7 @@ after_Slots_needed:;
                             store32(node_2 + NODE_LOW, (uint32_t)at_2);
                             if (high_2 == NOWHERE_HIGH) {
                                 if (load8(slot_4 + SLOT_HAS_PAIR) != 1) {
-                                    abort();
+                                    abort(); // The proof excludes this.
                                 }
                                 store16(slot_4 + SLOT_HIGH, (uint16_t)(at_3 >> 32));
                                 store32(slot_4 + SLOT_LOW, (uint32_t)at_3);
@@ -1548,7 +1548,7 @@ loop_2:;
         uint64_t r64 = (r1_5 - 1) & r1_5;
         char *slot = load_address(map + INT_MAP_SLOTS) + ((r49 | (r1_4 << 6)) * SLOT_SIZE);
         if (load8(slot + SLOT_HAS_PAIR) != 1) {
-            abort();
+            abort(); // The proof excludes this.
         }
         uint64_t key = load_key(slot + SLOT_KEY);
         uint64_t index = (key * MULTIPLIER) & load64(new_ + SLOTS_MASK);
@@ -1571,7 +1571,7 @@ loop_2:;
             store64(slot_2 + SLOT_KEY, r18.first);
             store64(slot_2 + SLOT_VALUE, r18.second);
             if (has_pair != 0) {
-                abort();
+                abort(); // The proof excludes this.
             }
         }
         char *r11 = load_address(new_ + SLOTS_WORDS) + ((index >> 3) & UINT64_C(0x1FFFFFFFFFFFFFF8));
@@ -1608,14 +1608,14 @@ loop_2:;
                     store64(slot_3 + SLOT_KEY, r18_2.first);
                     store64(slot_3 + SLOT_VALUE, r18_2.second);
                     if (has_pair_2 != 0) {
-                        abort();
+                        abort(); // The proof excludes this.
                     }
                 }
                 r11_2 = load_address(new_ + SLOTS_WORDS) + ((index_2 >> 3) & UINT64_C(0x1FFFFFFFFFFFFFF8));
                 store64(r11_2, load64(r11_2) | ((uint64_t)1 << (index_2 & 63)));
                 break;
             default:
-                abort();
+                abort(); // The proof excludes this.
             }
         }
     }
@@ -1625,12 +1625,12 @@ loop_2:;
 // intmap_table::linked::row::take_first_of_several, in crates/intmap_table/src/linked/row.rt
 static ALIGNED NOINLINE struct word_word row_take_first_of_several_2(char *slot, char *pool) {
     if (load8(slot + SLOT_HAS_PAIR) != 1) {
-        abort();
+        abort(); // The proof excludes this.
     }
     uint64_t at = (((uint64_t)load16(slot + SLOT_HIGH)) << 32) | ((uint64_t)load32(slot + SLOT_LOW));
     char *node = load_address(pool + POOL_NODES) + (at * NODE_SIZE);
     if (load8(node + NODE_HAS_PAIR) != 1) {
-        abort();
+        abort(); // The proof excludes this.
     }
     uint16_t high = load16(node + NODE_HIGH);
     uint32_t low = load32(node + NODE_LOW);
@@ -1644,7 +1644,7 @@ static ALIGNED NOINLINE struct word_word row_take_first_of_several_2(char *slot,
     store64(pool + POOL_FREE, at);
     store64(pool + POOL_SPARE, load64(pool + POOL_SPARE) + 1);
     if (load8(slot + SLOT_HAS_PAIR) != 1) {
-        abort();
+        abort(); // The proof excludes this.
     }
     store16(slot + SLOT_HIGH, high);
     store32(slot + SLOT_LOW, low);
@@ -1662,7 +1662,7 @@ static ALIGNED NOINLINE void row_put_behind_first(char *slot, char *pool, uint64
     uint64_t r0_room[3];
     char *r0 = (char *)r0_room;
     if (load8(slot + SLOT_HAS_PAIR) != 1) {
-        abort();
+        abort(); // The proof excludes this.
     }
     uint16_t high = load16(slot + SLOT_HIGH);
     uint32_t low = load32(slot + SLOT_LOW);
@@ -1670,14 +1670,14 @@ static ALIGNED NOINLINE void row_put_behind_first(char *slot, char *pool, uint64
     if (spare == 0) {
         pool_append(r0, pool, (((uint64_t)high) << 32) | ((uint64_t)low), a2, a3);
         if (load8(r0) != 0) {
-            abort();
+            abort(); // The proof excludes this.
         }
         r6 = load64(r0 + 8);
     } else {
         uint64_t free = load64(pool + POOL_FREE);
         char *node = load_address(pool + POOL_NODES) + (free * NODE_SIZE);
         if (load8(node + NODE_HAS_PAIR) != 0) {
-            abort();
+            abort(); // The proof excludes this.
         }
         store64(pool + POOL_FREE, (((uint64_t)load16(node + NODE_HIGH)) << 32) | ((uint64_t)load32(node + NODE_LOW)));
         store64(pool + POOL_SPARE, spare - 1);
@@ -1688,12 +1688,12 @@ static ALIGNED NOINLINE void row_put_behind_first(char *slot, char *pool, uint64
         store64(node + NODE_KEY, a2);
         store64(node + NODE_VALUE, a3);
         if (has_pair != 0) {
-            abort();
+            abort(); // The proof excludes this.
         }
         r6 = free;
     }
     if (load8(slot + SLOT_HAS_PAIR) != 1) {
-        abort();
+        abort(); // The proof excludes this.
     }
     store16(slot + SLOT_HIGH, (uint16_t)(r6 >> 32));
     store32(slot + SLOT_LOW, (uint32_t)r6);
@@ -1705,7 +1705,7 @@ static ALWAYS_INLINE uint64_t chain_last_in(char *pool, uint64_t from) {
     char *nodes = load_address(pool + POOL_NODES);
     char *node = nodes + (from * NODE_SIZE);
     if (load8(node + NODE_HAS_PAIR) != 1) {
-        abort();
+        abort(); // The proof excludes this.
     }
     uint16_t high = load16(node + NODE_HIGH);
     if (high == NOWHERE_HIGH) {
@@ -1715,7 +1715,7 @@ static ALWAYS_INLINE uint64_t chain_last_in(char *pool, uint64_t from) {
     for (;;) {
         char *node_2 = nodes + (at * NODE_SIZE);
         if (load8(node_2 + NODE_HAS_PAIR) != 1) {
-            abort();
+            abort(); // The proof excludes this.
         }
         uint16_t high_2 = load16(node_2 + NODE_HIGH);
         if (high_2 == NOWHERE_HIGH) {
@@ -1731,7 +1731,7 @@ static ALWAYS_INLINE struct word_word chain_last_in_2(char *pool, uint64_t from)
     char *nodes = load_address(pool + POOL_NODES);
     char *node = nodes + (from * NODE_SIZE);
     if (load8(node + NODE_HAS_PAIR) != 1) {
-        abort();
+        abort(); // The proof excludes this.
     }
     uint16_t high = load16(node + NODE_HIGH);
     if (high == NOWHERE_HIGH) {
@@ -1742,7 +1742,7 @@ static ALWAYS_INLINE struct word_word chain_last_in_2(char *pool, uint64_t from)
     for (;;) {
         char *node_2 = nodes + (at * NODE_SIZE);
         if (load8(node_2 + NODE_HAS_PAIR) != 1) {
-            abort();
+            abort(); // The proof excludes this.
         }
         uint64_t r14 = r2_048 + 1;
         uint16_t high_2 = load16(node_2 + NODE_HIGH);
@@ -1815,7 +1815,7 @@ static ALIGNED uint8_t table_grow_to(char *map, uint64_t capacity) {
                         for (;;) {
                             char *node = nodes + (at_2 * NODE_SIZE);
                             if (load8(node + NODE_HAS_PAIR) != 1) {
-                                abort();
+                                abort(); // The proof excludes this.
                             }
                             uint16_t high_2 = load16(node + NODE_HIGH);
                             uint64_t r10 = (((uint64_t)high_2) << 32) | ((uint64_t)load32(node + NODE_LOW));
@@ -1823,7 +1823,7 @@ static ALIGNED uint8_t table_grow_to(char *map, uint64_t capacity) {
                             store32(node + NODE_LOW, (uint32_t)at);
                             if (high_2 == NOWHERE_HIGH) {
                                 if (load8(slot + SLOT_HAS_PAIR) != 1) {
-                                    abort();
+                                    abort(); // The proof excludes this.
                                 }
                                 store16(slot + SLOT_HIGH, (uint16_t)(at_2 >> 32));
                                 store32(slot + SLOT_LOW, (uint32_t)at_2);
@@ -1896,7 +1896,7 @@ static ALWAYS_INLINE void do_intmap_place(char *word, uint64_t key, char *at) {
                 uint64_t at_3 = chain_seek(map + INT_MAP_NODES, r10, r2_0);
                 char *node_2 = nodes + (at_3 * NODE_SIZE);
                 if (load8(node_2 + NODE_HAS_PAIR) != 1) {
-                    abort();
+                    abort(); // The proof excludes this.
                 }
                 r9 = node_2;
                 break;
@@ -2024,7 +2024,7 @@ static ALWAYS_INLINE bool do_intmap_equal(char *word, char *other) {
         r27 = place_of_lowest_1(r17);
         slot = slots + ((r27 + r1_12) * SLOT_SIZE);
         if (load8(slot + SLOT_HAS_PAIR) != 1) {
-            abort();
+            abort(); // The proof excludes this.
         }
         r1_5 = (r17 - 1) & r17;
         r1_6 = r1_12;
@@ -2179,12 +2179,12 @@ static ALWAYS_INLINE char *do_intmap_step(char *result, char *word, char *at) {
                     char *nodes_2 = load_address(map + INT_MAP_NODES);
                     char *node_2 = nodes_2 + (at_3 * NODE_SIZE);
                     if (load8(node_2 + NODE_HAS_PAIR) != 1) {
-                        abort();
+                        abort(); // The proof excludes this.
                     }
                     uint64_t at_4 = chain_seek(map + INT_MAP_NODES, r10_3, r19);
                     char *node_3 = nodes_2 + (at_4 * NODE_SIZE);
                     if (load8(node_3 + NODE_HAS_PAIR) != 1) {
-                        abort();
+                        abort(); // The proof excludes this.
                     }
                     r11_2 = node_2;
                     r11_pn137 = node_3;
@@ -2232,7 +2232,7 @@ static ALWAYS_INLINE char *do_intmap_step(char *result, char *word, char *at) {
             goto arm_5;
         }
     arm_2_4:;
-        abort();
+        abort(); // The proof excludes this.
     arm_5:;
         r6 = load64(r11_2 + 8);
         r6_2 = load64(r11_pn137 + 16);
@@ -2286,7 +2286,7 @@ static ALWAYS_INLINE struct word_word do_intmap_add_present(char *handle, uint64
                         uint64_t at_2 = chain_seek(map + INT_MAP_NODES, r10, r2_0);
                         char *node_2 = nodes + (at_2 * NODE_SIZE);
                         if (load8(node_2 + NODE_HAS_PAIR) != 1) {
-                            abort();
+                            abort(); // The proof excludes this.
                         }
                         r9 = node_2;
                         break;
@@ -2402,7 +2402,7 @@ loop_2_2:;
                 }
                 break;
             default:
-                abort();
+                abort(); // The proof excludes this.
             }
         }
     }
@@ -2474,7 +2474,7 @@ static ALWAYS_INLINE char *do_intmap_cut(char *result, char *handle, char *at) {
                     case 1:
                         node_2 = load_address(map + INT_MAP_NODES) + (at_2 * NODE_SIZE);
                         if (load8(node_2 + NODE_HAS_PAIR) != 1) {
-                            abort();
+                            abort(); // The proof excludes this.
                         }
                         free = load64(map + INT_MAP_FREE);
                         r10_2 = (((uint64_t)load16(node_2 + NODE_HIGH)) << 32) | ((uint64_t)load32(node_2 + NODE_LOW));
@@ -2496,12 +2496,12 @@ static ALWAYS_INLINE char *do_intmap_cut(char *result, char *handle, char *at) {
                         r8 = at_4 * NODE_SIZE;
                         node_3 = nodes_2 + r8;
                         if (load8(node_3 + NODE_HAS_PAIR) != 1) {
-                            abort();
+                            abort(); // The proof excludes this.
                         }
                         at_5 = (((uint64_t)load16(node_3 + NODE_HIGH)) << 32) | ((uint64_t)load32(node_3 + NODE_LOW));
                         node_4 = nodes_2 + (at_5 * NODE_SIZE);
                         if (load8(node_4 + NODE_HAS_PAIR) != 1) {
-                            abort();
+                            abort(); // The proof excludes this.
                         }
                         high_3 = load16(node_4 + NODE_HIGH);
                         low = load32(node_4 + NODE_LOW);
@@ -2516,7 +2516,7 @@ static ALWAYS_INLINE char *do_intmap_cut(char *result, char *handle, char *at) {
                         store64(map + INT_MAP_SPARE, load64(map + INT_MAP_SPARE) + 1);
                         node_5 = load_address(map + INT_MAP_NODES) + r8;
                         if (load8(node_5 + NODE_HAS_PAIR) != 1) {
-                            abort();
+                            abort(); // The proof excludes this.
                         }
                         store16(node_5 + NODE_HIGH, high_3);
                         store32(node_5 + NODE_LOW, low);
@@ -2526,7 +2526,7 @@ static ALWAYS_INLINE char *do_intmap_cut(char *result, char *handle, char *at) {
                         break;
                     }
                     if (load8(slot_2 + SLOT_HAS_PAIR) != 1) {
-                        abort();
+                        abort(); // The proof excludes this.
                     }
                     store16(slot_2 + SLOT_HIGH, (uint16_t)(r2_0_2 >> 32));
                     store32(slot_2 + SLOT_LOW, (uint32_t)r2_0_2);
@@ -2570,7 +2570,7 @@ static ALWAYS_INLINE char *do_intmap_cut(char *result, char *handle, char *at) {
         store64(at + CURSOR_PLACE, 0);
         slot_4 = load_address(map + INT_MAP_SLOTS) + (index * SLOT_SIZE);
         if (load8(slot_4 + SLOT_HAS_PAIR) != 1) {
-            abort();
+            abort(); // The proof excludes this.
         }
         high_2 = load16(slot_4 + SLOT_HIGH);
         r305863 = index;
@@ -2701,7 +2701,7 @@ static ALWAYS_INLINE struct word_word do_intmap_remove(char *handle, uint64_t ke
                 uint64_t r8 = at * NODE_SIZE;
                 char *node_2 = nodes_2 + r8;
                 if (load8(node_2 + NODE_HAS_PAIR) != 1) {
-                    abort();
+                    abort(); // The proof excludes this.
                 }
                 uint16_t high_2 = load16(node_2 + NODE_HIGH);
                 if (high_2 == NOWHERE_HIGH) {
@@ -2724,7 +2724,7 @@ static ALWAYS_INLINE struct word_word do_intmap_remove(char *handle, uint64_t ke
                     uint64_t r8_2 = at_4 * NODE_SIZE;
                     char *node_3 = nodes_2 + r8_2;
                     if (load8(node_3 + NODE_HAS_PAIR) != 1) {
-                        abort();
+                        abort(); // The proof excludes this.
                     }
                     uint16_t high_3 = load16(node_3 + NODE_HIGH);
                     if (high_3 == NOWHERE_HIGH) {
@@ -2740,7 +2740,7 @@ static ALWAYS_INLINE struct word_word do_intmap_remove(char *handle, uint64_t ke
                             uint64_t r8_3 = at_6 * NODE_SIZE;
                             char *node_4 = nodes_2 + r8_3;
                             if (load8(node_4 + NODE_HAS_PAIR) != 1) {
-                                abort();
+                                abort(); // The proof excludes this.
                             }
                             uint64_t r18 = r3_0_2 + 1;
                             uint16_t high_4 = load16(node_4 + NODE_HIGH);
@@ -2768,7 +2768,7 @@ static ALWAYS_INLINE struct word_word do_intmap_remove(char *handle, uint64_t ke
                     store64(map + INT_MAP_SPARE, load64(map + INT_MAP_SPARE) + 1);
                     char *node_6 = load_address(map + INT_MAP_NODES) + r6;
                     if (load8(node_6 + NODE_HAS_PAIR) != 1) {
-                        abort();
+                        abort(); // The proof excludes this.
                     }
                     store16(node_6 + NODE_HIGH, NOWHERE_HIGH);
                     store32(node_6 + NODE_LOW, NOWHERE_LOW);
@@ -2778,7 +2778,7 @@ static ALWAYS_INLINE struct word_word do_intmap_remove(char *handle, uint64_t ke
                     value_3 = value_4;
                 }
                 if (load8(slot + SLOT_HAS_PAIR) != 1) {
-                    abort();
+                    abort(); // The proof excludes this.
                 }
                 store16(slot + SLOT_HIGH, (uint16_t)(at_3 >> 32));
                 store32(slot + SLOT_LOW, (uint32_t)at_3);
@@ -2860,7 +2860,7 @@ static ALWAYS_INLINE struct word_word do_intmap_replace(char *handle, uint64_t k
                         uint64_t at_2 = chain_seek(map + INT_MAP_NODES, r10, r2_0);
                         char *node_2 = nodes + (at_2 * NODE_SIZE);
                         if (load8(node_2 + NODE_HAS_PAIR) != 1) {
-                            abort();
+                            abort(); // The proof excludes this.
                         }
                         r9 = node_2;
                         break;
@@ -3045,22 +3045,22 @@ static ALWAYS_INLINE struct word_word do_intmap_add_or_insert(char *handle, uint
                     }
                     uint64_t at_2 = chain_seek(map + INT_MAP_NODES, r10, r2_0);
                     if (load8((nodes + (at_2 * NODE_SIZE)) + NODE_HAS_PAIR) != 1) {
-                        abort();
+                        abort(); // The proof excludes this.
                     }
                     uint64_t at_3 = chain_seek(map + INT_MAP_NODES, r10, r2_0);
                     char *node_2 = nodes + (at_3 * NODE_SIZE);
                     if (load8(node_2 + NODE_HAS_PAIR) != 1) {
-                        abort();
+                        abort(); // The proof excludes this.
                     }
                     uint64_t value_2 = load64(node_2 + NODE_VALUE);
                     uint64_t at_4 = chain_seek(map + INT_MAP_NODES, r10, r2_0);
                     if (load8((nodes + (at_4 * NODE_SIZE)) + NODE_HAS_PAIR) != 1) {
-                        abort();
+                        abort(); // The proof excludes this.
                     }
                     uint64_t at_5 = chain_seek(map + INT_MAP_NODES, r10, r2_0);
                     char *node_3 = nodes + (at_5 * NODE_SIZE);
                     if (load8(node_3 + NODE_HAS_PAIR) != 1) {
-                        abort();
+                        abort(); // The proof excludes this.
                     }
                     value_3 = value_2;
                     r9 = node_3;
@@ -3108,7 +3108,7 @@ arm_2_2:;
                         uint64_t free_2 = load64(map + INT_MAP_FREE);
                         char *node_5 = load_address(map + INT_MAP_NODES) + (free_2 * NODE_SIZE);
                         if (load8(node_5 + NODE_HAS_PAIR) != 0) {
-                            abort();
+                            abort(); // The proof excludes this.
                         }
                         store64(map + INT_MAP_FREE, (((uint64_t)load16(node_5 + NODE_HIGH)) << 32) | ((uint64_t)load32(node_5 + NODE_LOW)));
                         store64(map + INT_MAP_SPARE, spare_2 - 1);
@@ -3119,13 +3119,13 @@ arm_2_2:;
                         store64(node_5 + NODE_KEY, key);
                         store64(node_5 + NODE_VALUE, more);
                         if (has_pair_3 != 0) {
-                            abort();
+                            abort(); // The proof excludes this.
                         }
                         r21 = free_2;
                     }
                     char *node_6 = load_address(map + INT_MAP_NODES) + (at_6 * NODE_SIZE);
                     if (load8(node_6 + NODE_HAS_PAIR) != 1) {
-                        abort();
+                        abort(); // The proof excludes this.
                     }
                     store16(node_6 + NODE_HIGH, (uint16_t)(r21 >> 32));
                     store32(node_6 + NODE_LOW, (uint32_t)r21);
@@ -3137,7 +3137,7 @@ arm_2_2:;
                     uint64_t free = load64(map + INT_MAP_FREE);
                     char *node_4 = load_address(map + INT_MAP_NODES) + (free * NODE_SIZE);
                     if (load8(node_4 + NODE_HAS_PAIR) != 0) {
-                        abort();
+                        abort(); // The proof excludes this.
                     }
                     store64(map + INT_MAP_FREE, (((uint64_t)load16(node_4 + NODE_HIGH)) << 32) | ((uint64_t)load32(node_4 + NODE_LOW)));
                     store64(map + INT_MAP_SPARE, spare - 1);
@@ -3148,7 +3148,7 @@ arm_2_2:;
                     store64(node_4 + NODE_KEY, key);
                     store64(node_4 + NODE_VALUE, more);
                     if (has_pair_2 != 0) {
-                        abort();
+                        abort(); // The proof excludes this.
                     }
                     r4_0 = free;
                     goto arm_5_3;
@@ -3164,7 +3164,7 @@ arm_2_2:;
                 goto after_pairs_add_or_insert;
             arm_5_3:;
                 if (load8(slot + SLOT_HAS_PAIR) != 1) {
-                    abort();
+                    abort(); // The proof excludes this.
                 }
                 store16(slot + SLOT_HIGH, (uint16_t)(r4_0 >> 32));
                 store32(slot + SLOT_LOW, (uint32_t)r4_0);
@@ -3175,7 +3175,7 @@ arm_2_2:;
                 store64(slot + SLOT_KEY, key);
                 store64(slot + SLOT_VALUE, more);
                 if (has_pair != 0) {
-                    abort();
+                    abort(); // The proof excludes this.
                 }
             }
             char *r11 = load_address(map + INT_MAP_WORDS) + ((index >> 3) & UINT64_C(0x1FFFFFFFFFFFFFF8));
@@ -3283,7 +3283,7 @@ static ALWAYS_INLINE uint32_t do_intmap_find_or_insert(char *handle, uint64_t ke
                         uint64_t free_2 = load64(map + INT_MAP_FREE);
                         char *node_3 = load_address(map + INT_MAP_NODES) + (free_2 * NODE_SIZE);
                         if (load8(node_3 + NODE_HAS_PAIR) != 0) {
-                            abort();
+                            abort(); // The proof excludes this.
                         }
                         store64(map + INT_MAP_FREE, (((uint64_t)load16(node_3 + NODE_HIGH)) << 32) | ((uint64_t)load32(node_3 + NODE_LOW)));
                         store64(map + INT_MAP_SPARE, spare_2 - 1);
@@ -3294,13 +3294,13 @@ static ALWAYS_INLINE uint32_t do_intmap_find_or_insert(char *handle, uint64_t ke
                         store64(node_3 + NODE_KEY, key);
                         store64(node_3 + NODE_VALUE, value);
                         if (has_pair_3 != 0) {
-                            abort();
+                            abort(); // The proof excludes this.
                         }
                         r21 = free_2;
                     }
                     char *node_4 = load_address(map + INT_MAP_NODES) + (at_2 * NODE_SIZE);
                     if (load8(node_4 + NODE_HAS_PAIR) != 1) {
-                        abort();
+                        abort(); // The proof excludes this.
                     }
                     store16(node_4 + NODE_HIGH, (uint16_t)(r21 >> 32));
                     store32(node_4 + NODE_LOW, (uint32_t)r21);
@@ -3312,7 +3312,7 @@ static ALWAYS_INLINE uint32_t do_intmap_find_or_insert(char *handle, uint64_t ke
                     uint64_t free = load64(map + INT_MAP_FREE);
                     char *node_2 = load_address(map + INT_MAP_NODES) + (free * NODE_SIZE);
                     if (load8(node_2 + NODE_HAS_PAIR) != 0) {
-                        abort();
+                        abort(); // The proof excludes this.
                     }
                     store64(map + INT_MAP_FREE, (((uint64_t)load16(node_2 + NODE_HIGH)) << 32) | ((uint64_t)load32(node_2 + NODE_LOW)));
                     store64(map + INT_MAP_SPARE, spare - 1);
@@ -3323,7 +3323,7 @@ static ALWAYS_INLINE uint32_t do_intmap_find_or_insert(char *handle, uint64_t ke
                     store64(node_2 + NODE_KEY, key);
                     store64(node_2 + NODE_VALUE, value);
                     if (has_pair_2 != 0) {
-                        abort();
+                        abort(); // The proof excludes this.
                     }
                     r4_0_2 = free;
                     goto arm_5_3;
@@ -3337,7 +3337,7 @@ static ALWAYS_INLINE uint32_t do_intmap_find_or_insert(char *handle, uint64_t ke
                 goto x18;
             arm_5_3:;
                 if (load8(slot + SLOT_HAS_PAIR) != 1) {
-                    abort();
+                    abort(); // The proof excludes this.
                 }
                 store16(slot + SLOT_HIGH, (uint16_t)(r4_0_2 >> 32));
                 store32(slot + SLOT_LOW, (uint32_t)r4_0_2);
@@ -3348,7 +3348,7 @@ static ALWAYS_INLINE uint32_t do_intmap_find_or_insert(char *handle, uint64_t ke
                 store64(slot + SLOT_KEY, key);
                 store64(slot + SLOT_VALUE, value);
                 if (has_pair != 0) {
-                    abort();
+                    abort(); // The proof excludes this.
                 }
             }
             char *r11 = load_address(map + INT_MAP_WORDS) + ((index >> 3) & UINT64_C(0x1FFFFFFFFFFFFFF8));
@@ -3447,7 +3447,7 @@ static ALWAYS_INLINE struct word_word do_intmap_insert(char *handle, uint64_t ke
         struct word_word at_2 = chain_last_in_2(map + INT_MAP_NODES, r10);
         char *node_2 = load_address(map + INT_MAP_NODES) + (at_2.first * NODE_SIZE);
         if (load8(node_2 + NODE_HAS_PAIR) != 1) {
-            abort();
+            abort(); // The proof excludes this.
         }
         uint64_t key_2 = load64(node_2 + NODE_KEY);
         uint64_t value_3 = load64(node_2 + NODE_VALUE);
@@ -3455,7 +3455,7 @@ static ALWAYS_INLINE struct word_word do_intmap_insert(char *handle, uint64_t ke
         store64(node_2 + NODE_VALUE, value);
         if (r0_3 == 0) {
             if (load8(slot + SLOT_HAS_PAIR) != 1) {
-                abort();
+                abort(); // The proof excludes this.
             }
             uint64_t value_4 = load64(slot + SLOT_VALUE);
             store64(slot + SLOT_KEY, key_2);
@@ -3501,7 +3501,7 @@ arm_2_2:;
                         uint64_t free_2 = load64(map + INT_MAP_FREE);
                         char *node_4 = load_address(map + INT_MAP_NODES) + (free_2 * NODE_SIZE);
                         if (load8(node_4 + NODE_HAS_PAIR) != 0) {
-                            abort();
+                            abort(); // The proof excludes this.
                         }
                         store64(map + INT_MAP_FREE, (((uint64_t)load16(node_4 + NODE_HIGH)) << 32) | ((uint64_t)load32(node_4 + NODE_LOW)));
                         store64(map + INT_MAP_SPARE, spare_2 - 1);
@@ -3512,13 +3512,13 @@ arm_2_2:;
                         store64(node_4 + NODE_KEY, key);
                         store64(node_4 + NODE_VALUE, value);
                         if (has_pair_3 != 0) {
-                            abort();
+                            abort(); // The proof excludes this.
                         }
                         r21 = free_2;
                     }
                     char *node_5 = load_address(map + INT_MAP_NODES) + (at_3 * NODE_SIZE);
                     if (load8(node_5 + NODE_HAS_PAIR) != 1) {
-                        abort();
+                        abort(); // The proof excludes this.
                     }
                     store16(node_5 + NODE_HIGH, (uint16_t)(r21 >> 32));
                     store32(node_5 + NODE_LOW, (uint32_t)r21);
@@ -3530,7 +3530,7 @@ arm_2_2:;
                     uint64_t free = load64(map + INT_MAP_FREE);
                     char *node_3 = load_address(map + INT_MAP_NODES) + (free * NODE_SIZE);
                     if (load8(node_3 + NODE_HAS_PAIR) != 0) {
-                        abort();
+                        abort(); // The proof excludes this.
                     }
                     store64(map + INT_MAP_FREE, (((uint64_t)load16(node_3 + NODE_HIGH)) << 32) | ((uint64_t)load32(node_3 + NODE_LOW)));
                     store64(map + INT_MAP_SPARE, spare - 1);
@@ -3541,7 +3541,7 @@ arm_2_2:;
                     store64(node_3 + NODE_KEY, key);
                     store64(node_3 + NODE_VALUE, value);
                     if (has_pair_2 != 0) {
-                        abort();
+                        abort(); // The proof excludes this.
                     }
                     r4_0 = free;
                     goto arm_5_3;
@@ -3557,7 +3557,7 @@ arm_2_2:;
                 goto after_pairs_insert;
             arm_5_3:;
                 if (load8(slot + SLOT_HAS_PAIR) != 1) {
-                    abort();
+                    abort(); // The proof excludes this.
                 }
                 store16(slot + SLOT_HIGH, (uint16_t)(r4_0 >> 32));
                 store32(slot + SLOT_LOW, (uint32_t)r4_0);
@@ -3568,7 +3568,7 @@ arm_2_2:;
                 store64(slot + SLOT_KEY, key);
                 store64(slot + SLOT_VALUE, value);
                 if (has_pair != 0) {
-                    abort();
+                    abort(); // The proof excludes this.
                 }
             }
             char *r11 = load_address(map + INT_MAP_WORDS) + ((index >> 3) & UINT64_C(0x1FFFFFFFFFFFFFF8));
