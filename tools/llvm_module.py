@@ -199,8 +199,8 @@ class Function:
             if value not in found:
                 found.add(value)
                 code = self.made_by.get(value, "")
-                left += cases.get(value, [])
-                left += re.findall(rf"%{NAME}", code) if re.match("insertvalue|select|zext|freeze", code) else []
+                parts = re.findall(rf"%{NAME}", code) if re.match("insertvalue|select|zext|freeze", code) else []
+                left += [*cases.get(value, []), *parts]
         return found
 
     def leave_out_unused(self):

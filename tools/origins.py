@@ -37,9 +37,8 @@ class Origins:
         # large numbers that have a name, by their types, and how statuses of failures are called
         self.constants = {("i64", int(it)): name for text in texts.values() for name, it in CONSTANT.findall(text)}
         self.statuses = {int(it) % (1 << 32): name for text in texts.values() for name, it in STATUS.findall(text)}
-        for (_, number), name in list(self.constants.items()):
-            if name == "NOWHERE":
-                self.constants |= {("i16", number >> 32): "NOWHERE_HIGH", ("i32", number % (1 << 32)): "NOWHERE_LOW"}
+        for number in [it for (_, it), name in self.constants.items() if name == "NOWHERE"]:
+            self.constants |= {("i16", number >> 32): "NOWHERE_HIGH", ("i32", number % (1 << 32)): "NOWHERE_LOW"}
 
     def file(self, name):
         """The file that has a function, as far as a look tells; None if none of the sources has it."""

@@ -27,6 +27,7 @@ LOADED = re.compile(rf"load {TYPE}, ptr ({VALUE})(?:, align \d+)?$")
 CHOSEN = re.compile(rf"select i1 {VALUE}, {TYPE} ({VALUE}), {TYPE} ({VALUE})$")
 TIMES = re.compile(rf"(mul|shl|and) (?:(?:nuw|nsw) )*i64 {VALUE}, (-?\d+)$")
 PART = re.compile(rf"extractvalue {TYPE} ({VALUE}), (\d+)$")
+JOINED = re.compile(rf"or disjoint i64 ({VALUE}), {VALUE}$")
 NEXT = re.compile(rf"add (?:(?:nuw|nsw) )*i64 ({VALUE}), 1$")
 HASHED = re.compile(rf"mul i64 {VALUE}, -7046029254386353067$")
 MASKED = re.compile(rf"and i64 ({VALUE}), ({VALUE})$")
@@ -326,6 +327,8 @@ class Places:
             return "index"
         if called and called[1] in BLOCKS:
             return "block"
+        if JOINED.match(code) and re.match("shl .*, 32$", function.made_by.get(bare(JOINED.match(code)[1]), "")):
+            return "link"
         return "hash" if HASHED.match(code) else None
 
     def number_name(self, function, value):

@@ -124,8 +124,8 @@ def constant(number, kind):
     """A number as this type has it: none is negative."""
     number %= 1 << bits(kind)
     if bits(kind) == 128:
-        parts = [constant(it, "i64") for it in (number >> 64, number)]
-        return f"u128_of({number}u)" if number < 1 << 31 else f"u128_two({parts[0]}, {parts[1]})"
+        wide = f"u128_two({constant(number >> 64, 'i64')}, {constant(number, 'i64')})"
+        return f"u128_of({number}u)" if number < 1 << 31 else wide
     if number < 1 << 31:
         return str(number)
     if bits(kind) < 64:
@@ -406,6 +406,8 @@ class FunctionInC:
         if re.fullmatch(r"\d+u?", left) or bits(kind) < 32 and word in ("mul", "shl"):
             left = f"({c_type(kind) if bits(kind) > 32 else 'uint32_t'}){left}"
         text = f"{left} {BINARY[word]} {right}"
+        if parts := re.fullmatch(r"\(\(\(uint64_t\)(.+)\) << 32\) \| \(\(uint64_t\)(.+)\)", text):
+            return kind, f"link_of({parts[1]}, {parts[2]})"
         if is_odd(kind):
             text = f"({text}) & UINT64_C({(1 << bits(kind)) - 1})"
         return kind, f"({c_type(kind)})({text})" if bits(kind) < 64 else text
@@ -711,16 +713,12 @@ class FunctionInC:
     def declared_in(self, lines):
         """The lines with the declarations of all variables, each where it is set first or at the start of a block."""
         scopes, starts = Scopes(lines), defaultdict(list)
-        kinds = {self.variable(it): self.types[it] for it in self.variables} | self.copies_of
-        out = list(lines)
-        for name, kind in kinds.items():
+        for name, kind in ({self.variable(it): self.types[it] for it in self.variables} | self.copies_of).items():
             at, is_set = scopes.declaration(name)
-            if is_set:
-                out[at] = declared(kind, lines[at])
-            else:
-                starts[at].append((name, kind))
+            starts[at] += [] if is_set else [(name, kind)]
+            lines[at] = declared(kind, lines[at]) if is_set else lines[at]
         behind = [[*self.declarations(starts[at], len(scopes.blocks[at]) if at >= 0 else -1)] for at in range(-1, len(lines))]
-        return [*behind[0], *self.declared_rooms(), *(it for one, more in zip(out, behind[1:]) for it in (one, *more))]
+        return [*behind[0], *self.declared_rooms(), *(it for one, more in zip(lines, behind[1:]) for it in (one, *more))]
 
     @staticmethod
     def declarations(variables, depth):

@@ -21,10 +21,6 @@ class Scopes:
                 opened.append(at)
         places = {line: at for at, line in enumerate(lines) if line.endswith(":;")}
         self.jumps = [(at, places[f"{line[5:-1]}:;"]) for at, line in enumerate(lines) if line.startswith("goto ")]
-        self.uses = {}
-        for at, line in enumerate(lines):
-            for word in set(re.findall(r"\w+", line)):
-                self.uses.setdefault(word, []).append(at)
 
     def is_entered(self, block, start):
         """Whether a jump from elsewhere leads to what is behind a line in a block."""
@@ -37,7 +33,7 @@ class Scopes:
     def declaration(self, name):
         """The line that declares a variable as it sets it, or that opens the block at whose start it is declared, or -1 for the
         function's start; and whether it is set there."""
-        uses = self.uses[name]
+        uses = [at for at, line in enumerate(self.lines) if re.search(rf"\b{name}\b", line)]
         block, first = os.path.commonprefix([self.blocks[at] for at in uses]), uses[0]
         if self.blocks[first] == block and self.lines[first].startswith(f"{name} = "):
             if not self.is_switch(block) and not self.is_entered(block, first):

@@ -217,6 +217,11 @@ static inline uint64_t sum_or_most(uint64_t one, uint64_t other) {
     return one > ~other ? UINT64_MAX : one + other;
 }
 
+// The link that two parts make.
+static inline uint64_t link_of(uint64_t high, uint64_t low) {
+    return high << 32 | low;
+}
+
 // The least number of things of a size that take 2^63 bytes or more. No block of memory is so long.
 #define TOO_MANY(size) ((uint64_t)INT64_MAX / (size) + 1)
 
@@ -594,12 +599,12 @@ static ALWAYS_INLINE uint64_t chain_seek(char *pool, uint64_t from, uint64_t pla
         if (load8(node + NODE_HAS_PAIR) != 1) {
             abort(); // The proof excludes this.
         }
-        uint64_t r10 = (((uint64_t)load16(node + NODE_HIGH)) << 32) | ((uint64_t)load32(node + NODE_LOW));
+        uint64_t link = link_of(load16(node + NODE_HIGH), load32(node + NODE_LOW));
         uint64_t r12 = r2_013 + 1;
         if (r12 == place) {
-            return r10;
+            return link;
         }
-        at = r10;
+        at = link;
         r2_013 = r12;
     }
 }
@@ -612,16 +617,16 @@ static ALWAYS_INLINE struct byte_address intmap_get_counted(char *map, uint64_t 
     if (load8(slot + SLOT_HAS_PAIR) != 1) {
         return made_byte_address(0, NULL);
     }
-    uint64_t r10 = (((uint64_t)load16(slot + SLOT_HIGH)) << 32) | ((uint64_t)load32(slot + SLOT_LOW));
+    uint64_t link = link_of(load16(slot + SLOT_HIGH), load32(slot + SLOT_LOW));
     if (load64(slot + SLOT_KEY) == key) {
         r11 = slot;
     } else {
         uint64_t nodes_len = load64(map + INT_MAP_NODES_LEN);
-        if (nodes_len <= r10) {
+        if (nodes_len <= link) {
             return made_byte_address(0, NULL);
         }
         char *nodes = load_address(map + INT_MAP_NODES);
-        uint64_t at = r10;
+        uint64_t at = link;
         uint64_t r2_0 = 0;
         for (;;) {
             char *node = nodes + (at * NODE_SIZE);
@@ -633,7 +638,7 @@ static ALWAYS_INLINE struct byte_address intmap_get_counted(char *map, uint64_t 
                     r11 = slot;
                     break;
                 }
-                uint64_t at_2 = chain_seek(map + INT_MAP_NODES, r10, r2_0);
+                uint64_t at_2 = chain_seek(map + INT_MAP_NODES, link, r2_0);
                 char *node_2 = load_address(map + INT_MAP_NODES) + (at_2 * NODE_SIZE);
                 if (load8(node_2 + NODE_HAS_PAIR) != 1) {
                     abort(); // The proof excludes this.
@@ -641,11 +646,11 @@ static ALWAYS_INLINE struct byte_address intmap_get_counted(char *map, uint64_t 
                 r11 = node_2;
                 break;
             }
-            uint64_t r10_2 = (((uint64_t)load16(node + NODE_HIGH)) << 32) | ((uint64_t)load32(node + NODE_LOW));
-            if (nodes_len <= r10_2) {
+            uint64_t link_2 = link_of(load16(node + NODE_HIGH), load32(node + NODE_LOW));
+            if (nodes_len <= link_2) {
                 return made_byte_address(0, NULL);
             }
-            at = r10_2;
+            at = link_2;
             r2_0 = r2_0 + 1;
         }
     }
@@ -658,8 +663,8 @@ static ALIGNED NOINLINE struct word_word row_take_first_of_several(char *slot, c
     if (load8(slot + SLOT_HAS_PAIR) != 1) {
         abort(); // The proof excludes this.
     }
-    uint64_t at = (((uint64_t)load16(slot + SLOT_HIGH)) << 32) | ((uint64_t)load32(slot + SLOT_LOW));
-    char *node = load_address(pool + POOL_NODES) + (at * NODE_SIZE);
+    uint64_t link = link_of(load16(slot + SLOT_HIGH), load32(slot + SLOT_LOW));
+    char *node = load_address(pool + POOL_NODES) + (link * NODE_SIZE);
     if (load8(node + NODE_HAS_PAIR) != 1) {
         abort(); // The proof excludes this.
     }
@@ -672,7 +677,7 @@ static ALIGNED NOINLINE struct word_word row_take_first_of_several(char *slot, c
     store16(node + NODE_HIGH, (uint16_t)(free >> 32));
     store32(node + NODE_LOW, (uint32_t)free);
     memset(node + NODE_KEY, 0, PAIR_SIZE);
-    store64(pool + POOL_FREE, at);
+    store64(pool + POOL_FREE, link);
     store64(pool + POOL_SPARE, load64(pool + POOL_SPARE) + 1);
     if (load8(slot + SLOT_HAS_PAIR) != 1) {
         abort(); // The proof excludes this.
@@ -823,7 +828,7 @@ arm_8:;
                     r0 = NOWHERE;
                 } else {
                     uint64_t r10_2 = load64(nodes_at + POOL_NODES_LEN) - load64(nodes_at + POOL_SPARE);
-                    uint64_t at = (((uint64_t)high) << 32) | ((uint64_t)low);
+                    uint64_t at = link_of(high, low);
                     for (;;) {
                         if (load64(map + INT_MAP_NODES_LEN) <= at) {
                             r0 = r10_2;
@@ -835,7 +840,7 @@ arm_8:;
                             break;
                         }
                         uint16_t high_2 = load16(node + NODE_HIGH);
-                        uint64_t r10_3 = (((uint64_t)high_2) << 32) | ((uint64_t)load32(node + NODE_LOW));
+                        uint64_t link = link_of(high_2, load32(node + NODE_LOW));
                         pool_append(r14, nodes_at, (high_2 == NOWHERE_HIGH) ? NOWHERE : ((load64(nodes_at + POOL_NODES_LEN) + 1) - load64(nodes_at + POOL_SPARE)), load64(node + NODE_KEY), load64(node + NODE_VALUE));
                         if (load8(r14) != 0) {
                             memset(r0_27, 0, 40);
@@ -853,7 +858,7 @@ arm_8:;
                             memcpy(result + MADE_SLOTS_NODES, r0_27, POOL_SIZE);
                             return;
                         }
-                        at = r10_3;
+                        at = link;
                     }
                 }
                 key_2 = key;
@@ -1321,7 +1326,7 @@ static ALIGNED NOINLINE void intmap_add_growing(char *result, char *map, uint64_
     char *slot_2 = load_address(map + INT_MAP_SLOTS) + (slot * SLOT_SIZE);
     if (load8(slot_2 + SLOT_HAS_PAIR) == 1) {
         if (((load64(slot_2 + SLOT_KEY) * MULTIPLIER) & r2) != index) {
-            uint64_t at = (((uint64_t)load16(slot_2 + SLOT_HIGH)) << 32) | ((uint64_t)load32(slot_2 + SLOT_LOW));
+            uint64_t at = link_of(load16(slot_2 + SLOT_HIGH), load32(slot_2 + SLOT_LOW));
             for (;;) {
                 if (nodes_len <= at) {
                     x2 = r10_2;
@@ -1335,7 +1340,7 @@ static ALIGNED NOINLINE void intmap_add_growing(char *result, char *map, uint64_
                 if (((load64(node + NODE_KEY) * MULTIPLIER) & r2) == index) {
                     break;
                 }
-                at = (((uint64_t)load16(node + NODE_HIGH)) << 32) | ((uint64_t)load32(node + NODE_LOW));
+                at = link_of(load16(node + NODE_HIGH), load32(node + NODE_LOW));
             }
         }
         x2 = r10_2 + 1;
@@ -1406,14 +1411,14 @@ after_Slots_needed:;
                     uint16_t high = load16(slot_4 + SLOT_HIGH);
                     if (high != NOWHERE_HIGH) {
                         uint64_t at_2 = NOWHERE;
-                        uint64_t at_3 = (((uint64_t)high) << 32) | ((uint64_t)load32(slot_4 + SLOT_LOW));
+                        uint64_t at_3 = link_of(high, load32(slot_4 + SLOT_LOW));
                         for (;;) {
                             char *node_2 = nodes + (at_3 * NODE_SIZE);
                             if (load8(node_2 + NODE_HAS_PAIR) != 1) {
                                 abort(); // The proof excludes this.
                             }
                             uint16_t high_2 = load16(node_2 + NODE_HIGH);
-                            uint64_t r10_3 = (((uint64_t)high_2) << 32) | ((uint64_t)load32(node_2 + NODE_LOW));
+                            uint64_t link = link_of(high_2, load32(node_2 + NODE_LOW));
                             store16(node_2 + NODE_HIGH, (uint16_t)(at_2 >> 32));
                             store32(node_2 + NODE_LOW, (uint32_t)at_2);
                             if (high_2 == NOWHERE_HIGH) {
@@ -1425,7 +1430,7 @@ after_Slots_needed:;
                                 break;
                             }
                             at_2 = at_3;
-                            at_3 = r10_3;
+                            at_3 = link;
                         }
                     }
                 }
@@ -1452,11 +1457,11 @@ after_Slots_needed:;
         }
         char *slot_5 = load_address(map + INT_MAP_SLOTS) + r6;
         if (load8(slot_5 + SLOT_HAS_PAIR) == 1) {
-            uint64_t r10_4 = (((uint64_t)load16(slot_5 + SLOT_HIGH)) << 32) | ((uint64_t)load32(slot_5 + SLOT_LOW));
+            uint64_t link_2 = link_of(load16(slot_5 + SLOT_HIGH), load32(slot_5 + SLOT_LOW));
             uint64_t nodes_len_2 = load64(map + INT_MAP_NODES_LEN);
-            if (nodes_len_2 > r10_4) {
+            if (nodes_len_2 > link_2) {
                 char *nodes_3 = load_address(map + INT_MAP_NODES);
-                uint64_t at_4 = r10_4;
+                uint64_t at_4 = link_2;
                 uint64_t r2_016 = 0;
                 for (;;) {
                     char *node_3 = nodes_3 + (at_4 * NODE_SIZE);
@@ -1464,13 +1469,13 @@ after_Slots_needed:;
                         r3_0 = r2_016;
                         break;
                     }
-                    uint64_t r10_5 = (((uint64_t)load16(node_3 + NODE_HIGH)) << 32) | ((uint64_t)load32(node_3 + NODE_LOW));
+                    uint64_t link_3 = link_of(load16(node_3 + NODE_HIGH), load32(node_3 + NODE_LOW));
                     uint64_t r11_2 = r2_016 + 1;
-                    if (nodes_len_2 <= r10_5) {
+                    if (nodes_len_2 <= link_3) {
                         r3_0 = r11_2;
                         break;
                     }
-                    at_4 = r10_5;
+                    at_4 = link_3;
                     r2_016 = r11_2;
                 }
             } else {
@@ -1627,8 +1632,8 @@ static ALIGNED NOINLINE struct word_word row_take_first_of_several_2(char *slot,
     if (load8(slot + SLOT_HAS_PAIR) != 1) {
         abort(); // The proof excludes this.
     }
-    uint64_t at = (((uint64_t)load16(slot + SLOT_HIGH)) << 32) | ((uint64_t)load32(slot + SLOT_LOW));
-    char *node = load_address(pool + POOL_NODES) + (at * NODE_SIZE);
+    uint64_t link = link_of(load16(slot + SLOT_HIGH), load32(slot + SLOT_LOW));
+    char *node = load_address(pool + POOL_NODES) + (link * NODE_SIZE);
     if (load8(node + NODE_HAS_PAIR) != 1) {
         abort(); // The proof excludes this.
     }
@@ -1641,7 +1646,7 @@ static ALIGNED NOINLINE struct word_word row_take_first_of_several_2(char *slot,
     store16(node + NODE_HIGH, (uint16_t)(free >> 32));
     store32(node + NODE_LOW, (uint32_t)free);
     memset(node + NODE_KEY, 0, PAIR_SIZE);
-    store64(pool + POOL_FREE, at);
+    store64(pool + POOL_FREE, link);
     store64(pool + POOL_SPARE, load64(pool + POOL_SPARE) + 1);
     if (load8(slot + SLOT_HAS_PAIR) != 1) {
         abort(); // The proof excludes this.
@@ -1668,7 +1673,7 @@ static ALIGNED NOINLINE void row_put_behind_first(char *slot, char *pool, uint64
     uint32_t low = load32(slot + SLOT_LOW);
     uint64_t spare = load64(pool + POOL_SPARE);
     if (spare == 0) {
-        pool_append(r0, pool, (((uint64_t)high) << 32) | ((uint64_t)low), a2, a3);
+        pool_append(r0, pool, link_of(high, low), a2, a3);
         if (load8(r0) != 0) {
             abort(); // The proof excludes this.
         }
@@ -1679,7 +1684,7 @@ static ALIGNED NOINLINE void row_put_behind_first(char *slot, char *pool, uint64
         if (load8(node + NODE_HAS_PAIR) != 0) {
             abort(); // The proof excludes this.
         }
-        store64(pool + POOL_FREE, (((uint64_t)load16(node + NODE_HIGH)) << 32) | ((uint64_t)load32(node + NODE_LOW)));
+        store64(pool + POOL_FREE, link_of(load16(node + NODE_HIGH), load32(node + NODE_LOW)));
         store64(pool + POOL_SPARE, spare - 1);
         uint8_t has_pair = load8(node + NODE_HAS_PAIR);
         store16(node + NODE_HAS_PAIR, 1);
@@ -1711,7 +1716,7 @@ static ALWAYS_INLINE uint64_t chain_last_in(char *pool, uint64_t from) {
     if (high == NOWHERE_HIGH) {
         return from;
     }
-    uint64_t at = (((uint64_t)high) << 32) | ((uint64_t)load32(node + NODE_LOW));
+    uint64_t at = link_of(high, load32(node + NODE_LOW));
     for (;;) {
         char *node_2 = nodes + (at * NODE_SIZE);
         if (load8(node_2 + NODE_HAS_PAIR) != 1) {
@@ -1721,7 +1726,7 @@ static ALWAYS_INLINE uint64_t chain_last_in(char *pool, uint64_t from) {
         if (high_2 == NOWHERE_HIGH) {
             return at;
         }
-        at = (((uint64_t)high_2) << 32) | ((uint64_t)load32(node_2 + NODE_LOW));
+        at = link_of(high_2, load32(node_2 + NODE_LOW));
     }
 }
 
@@ -1737,7 +1742,7 @@ static ALWAYS_INLINE struct word_word chain_last_in_2(char *pool, uint64_t from)
     if (high == NOWHERE_HIGH) {
         return made_word_word(from, 0);
     }
-    uint64_t at = (((uint64_t)high) << 32) | ((uint64_t)load32(node + NODE_LOW));
+    uint64_t at = link_of(high, load32(node + NODE_LOW));
     uint64_t r2_048 = 0;
     for (;;) {
         char *node_2 = nodes + (at * NODE_SIZE);
@@ -1749,7 +1754,7 @@ static ALWAYS_INLINE struct word_word chain_last_in_2(char *pool, uint64_t from)
         if (high_2 == NOWHERE_HIGH) {
             return made_word_word(at, r14);
         }
-        at = (((uint64_t)high_2) << 32) | ((uint64_t)load32(node_2 + NODE_LOW));
+        at = link_of(high_2, load32(node_2 + NODE_LOW));
         r2_048 = r14;
     }
 }
@@ -1811,14 +1816,14 @@ static ALIGNED uint8_t table_grow_to(char *map, uint64_t capacity) {
                     uint16_t high = load16(slot + SLOT_HIGH);
                     if (high != NOWHERE_HIGH) {
                         uint64_t at = NOWHERE;
-                        uint64_t at_2 = (((uint64_t)high) << 32) | ((uint64_t)load32(slot + SLOT_LOW));
+                        uint64_t at_2 = link_of(high, load32(slot + SLOT_LOW));
                         for (;;) {
                             char *node = nodes + (at_2 * NODE_SIZE);
                             if (load8(node + NODE_HAS_PAIR) != 1) {
                                 abort(); // The proof excludes this.
                             }
                             uint16_t high_2 = load16(node + NODE_HIGH);
-                            uint64_t r10 = (((uint64_t)high_2) << 32) | ((uint64_t)load32(node + NODE_LOW));
+                            uint64_t link = link_of(high_2, load32(node + NODE_LOW));
                             store16(node + NODE_HIGH, (uint16_t)(at >> 32));
                             store32(node + NODE_LOW, (uint32_t)at);
                             if (high_2 == NOWHERE_HIGH) {
@@ -1830,7 +1835,7 @@ static ALIGNED uint8_t table_grow_to(char *map, uint64_t capacity) {
                                 break;
                             }
                             at = at_2;
-                            at_2 = r10;
+                            at_2 = link;
                         }
                     }
                 }
@@ -1872,16 +1877,16 @@ static ALWAYS_INLINE void do_intmap_place(char *word, uint64_t key, char *at) {
     if (load8(slot + SLOT_HAS_PAIR) != 1) {
         return;
     }
-    uint64_t r10 = (((uint64_t)load16(slot + SLOT_HIGH)) << 32) | ((uint64_t)load32(slot + SLOT_LOW));
+    uint64_t link = link_of(load16(slot + SLOT_HIGH), load32(slot + SLOT_LOW));
     if (load64(slot + SLOT_KEY) == key) {
         r9 = slot;
     } else {
         uint64_t nodes_len = load64(map + INT_MAP_NODES_LEN);
-        if (nodes_len <= r10) {
+        if (nodes_len <= link) {
             return;
         }
         char *nodes = load_address(map + INT_MAP_NODES);
-        uint64_t at_2 = r10;
+        uint64_t at_2 = link;
         uint64_t r2_0 = 0;
         for (;;) {
             char *node = nodes + (at_2 * NODE_SIZE);
@@ -1893,7 +1898,7 @@ static ALWAYS_INLINE void do_intmap_place(char *word, uint64_t key, char *at) {
                     r9 = slot;
                     break;
                 }
-                uint64_t at_3 = chain_seek(map + INT_MAP_NODES, r10, r2_0);
+                uint64_t at_3 = chain_seek(map + INT_MAP_NODES, link, r2_0);
                 char *node_2 = nodes + (at_3 * NODE_SIZE);
                 if (load8(node_2 + NODE_HAS_PAIR) != 1) {
                     abort(); // The proof excludes this.
@@ -1901,11 +1906,11 @@ static ALWAYS_INLINE void do_intmap_place(char *word, uint64_t key, char *at) {
                 r9 = node_2;
                 break;
             }
-            uint64_t r10_2 = (((uint64_t)load16(node + NODE_HIGH)) << 32) | ((uint64_t)load32(node + NODE_LOW));
-            if (nodes_len <= r10_2) {
+            uint64_t link_2 = link_of(load16(node + NODE_HIGH), load32(node + NODE_LOW));
+            if (nodes_len <= link_2) {
                 return;
             }
-            at_2 = r10_2;
+            at_2 = link_2;
             r2_0 = r2_0 + 1;
         }
     }
@@ -1979,7 +1984,7 @@ static ALWAYS_INLINE bool do_intmap_equal(char *word, char *other) {
     char *r1_3 = r6;
     uint64_t r1_4 = r6_2;
     for (;;) {
-        uint64_t r1_5, r1_6, r1_8, storemerge, r1_12, r1_14, r17, r27;
+        uint64_t r1_5, r1_6, r1_8, link, r1_12, r1_14, r17, r27;
         char *r1_7, *r11, *r1_13, *slot;
         if (nodes_len > at) {
             char *node = load_address(map + INT_MAP_NODES) + (at * NODE_SIZE);
@@ -1988,7 +1993,7 @@ static ALWAYS_INLINE bool do_intmap_equal(char *word, char *other) {
                 r1_6 = r1_2;
                 r1_7 = r1_3;
                 r1_8 = r1_4;
-                storemerge = (((uint64_t)load16(node + NODE_HIGH)) << 32) | ((uint64_t)load32(node + NODE_LOW));
+                link = link_of(load16(node + NODE_HIGH), load32(node + NODE_LOW));
                 r11 = node;
                 goto arm_6_2;
             }
@@ -2030,7 +2035,7 @@ static ALWAYS_INLINE bool do_intmap_equal(char *word, char *other) {
         r1_6 = r1_12;
         r1_7 = r1_13;
         r1_8 = r1_14;
-        storemerge = (((uint64_t)load16(slot + SLOT_HIGH)) << 32) | ((uint64_t)load32(slot + SLOT_LOW));
+        link = link_of(load16(slot + SLOT_HIGH), load32(slot + SLOT_LOW));
         r11 = slot;
     arm_6_2:;
         struct byte_address r5 = intmap_get_counted(map_2, load64(r11 + 8));
@@ -2040,7 +2045,7 @@ static ALWAYS_INLINE bool do_intmap_equal(char *word, char *other) {
         if (load64(r11 + 16) != load64(r5.second)) {
             return false;
         }
-        at = storemerge;
+        at = link;
         r1 = r1_5;
         r1_2 = r1_6;
         r1_3 = r1_7;
@@ -2136,12 +2141,12 @@ static ALWAYS_INLINE char *do_intmap_step(char *result, char *word, char *at) {
             char *slot_2 = load_address(map + INT_MAP_SLOTS) + r8;
             if (load8(slot_2 + SLOT_HAS_PAIR) == 1) {
                 uint64_t r3_0;
-                uint64_t r10 = (((uint64_t)load16(slot_2 + SLOT_HIGH)) << 32) | ((uint64_t)load32(slot_2 + SLOT_LOW));
+                uint64_t link = link_of(load16(slot_2 + SLOT_HIGH), load32(slot_2 + SLOT_LOW));
                 uint64_t nodes_len = load64(map + INT_MAP_NODES_LEN);
-                if (nodes_len > r10) {
+                if (nodes_len > link) {
                     uint64_t r2_0;
                     char *nodes = load_address(map + INT_MAP_NODES);
-                    uint64_t at_2 = r10;
+                    uint64_t at_2 = link;
                     uint64_t r2_020 = 0;
                     for (;;) {
                         char *node = nodes + (at_2 * NODE_SIZE);
@@ -2149,13 +2154,13 @@ static ALWAYS_INLINE char *do_intmap_step(char *result, char *word, char *at) {
                             r2_0 = r2_020;
                             break;
                         }
-                        uint64_t r10_2 = (((uint64_t)load16(node + NODE_HIGH)) << 32) | ((uint64_t)load32(node + NODE_LOW));
+                        uint64_t link_2 = link_of(load16(node + NODE_HIGH), load32(node + NODE_LOW));
                         uint64_t r11 = r2_020 + 1;
-                        if (nodes_len <= r10_2) {
+                        if (nodes_len <= link_2) {
                             r2_0 = r11;
                             break;
                         }
-                        at_2 = r10_2;
+                        at_2 = link_2;
                         r2_020 = r11;
                     }
                     r3_0 = r2_0 + 1;
@@ -2173,15 +2178,15 @@ static ALWAYS_INLINE char *do_intmap_step(char *result, char *word, char *at) {
                         r11_pn137 = slot_3;
                         goto arm_5;
                     }
-                    uint64_t r10_3 = (((uint64_t)load16(slot_3 + SLOT_HIGH)) << 32) | ((uint64_t)load32(slot_3 + SLOT_LOW));
+                    uint64_t link_3 = link_of(load16(slot_3 + SLOT_HIGH), load32(slot_3 + SLOT_LOW));
                     uint64_t r19 = place - 1;
-                    uint64_t at_3 = chain_seek(map + INT_MAP_NODES, r10_3, r19);
+                    uint64_t at_3 = chain_seek(map + INT_MAP_NODES, link_3, r19);
                     char *nodes_2 = load_address(map + INT_MAP_NODES);
                     char *node_2 = nodes_2 + (at_3 * NODE_SIZE);
                     if (load8(node_2 + NODE_HAS_PAIR) != 1) {
                         abort(); // The proof excludes this.
                     }
-                    uint64_t at_4 = chain_seek(map + INT_MAP_NODES, r10_3, r19);
+                    uint64_t at_4 = chain_seek(map + INT_MAP_NODES, link_3, r19);
                     char *node_3 = nodes_2 + (at_4 * NODE_SIZE);
                     if (load8(node_3 + NODE_HAS_PAIR) != 1) {
                         abort(); // The proof excludes this.
@@ -2260,17 +2265,17 @@ static ALWAYS_INLINE struct word_word do_intmap_add_present(char *handle, uint64
         char *slot = load_address(map + INT_MAP_SLOTS) + ((load64(map + INT_MAP_MASK) & (key * MULTIPLIER)) * SLOT_SIZE);
         if (load8(slot + SLOT_HAS_PAIR) == 1) {
             char *r9;
-            uint64_t r10 = (((uint64_t)load16(slot + SLOT_HIGH)) << 32) | ((uint64_t)load32(slot + SLOT_LOW));
+            uint64_t link = link_of(load16(slot + SLOT_HIGH), load32(slot + SLOT_LOW));
             if (load64(slot + SLOT_KEY) == key) {
                 r9 = slot;
             } else {
                 uint64_t nodes_len = load64(map + INT_MAP_NODES_LEN);
-                if (nodes_len <= r10) {
+                if (nodes_len <= link) {
                     r29 = empty_word_half();
                     goto after_pairs_add_present;
                 }
                 char *nodes = load_address(map + INT_MAP_NODES);
-                uint64_t at = r10;
+                uint64_t at = link;
                 uint64_t r2_0 = 0;
                 for (;;) {
                     char *node = nodes + (at * NODE_SIZE);
@@ -2283,7 +2288,7 @@ static ALWAYS_INLINE struct word_word do_intmap_add_present(char *handle, uint64
                             r9 = slot;
                             break;
                         }
-                        uint64_t at_2 = chain_seek(map + INT_MAP_NODES, r10, r2_0);
+                        uint64_t at_2 = chain_seek(map + INT_MAP_NODES, link, r2_0);
                         char *node_2 = nodes + (at_2 * NODE_SIZE);
                         if (load8(node_2 + NODE_HAS_PAIR) != 1) {
                             abort(); // The proof excludes this.
@@ -2291,12 +2296,12 @@ static ALWAYS_INLINE struct word_word do_intmap_add_present(char *handle, uint64
                         r9 = node_2;
                         break;
                     }
-                    uint64_t r10_2 = (((uint64_t)load16(node + NODE_HIGH)) << 32) | ((uint64_t)load32(node + NODE_LOW));
-                    if (nodes_len <= r10_2) {
+                    uint64_t link_2 = link_of(load16(node + NODE_HIGH), load32(node + NODE_LOW));
+                    if (nodes_len <= link_2) {
                         r29 = empty_word_half();
                         goto after_pairs_add_present;
                     }
-                    at = r10_2;
+                    at = link_2;
                     r2_0 = r2_0 + 1;
                 }
             }
@@ -2433,26 +2438,26 @@ static ALWAYS_INLINE char *do_intmap_cut(char *result, char *handle, char *at) {
             if (load8(slot_2 + SLOT_HAS_PAIR) == 1) {
                 uint64_t r3_0;
                 uint16_t high = load16(slot_2 + SLOT_HIGH);
-                uint64_t at_2 = (((uint64_t)high) << 32) | ((uint64_t)load32(slot_2 + SLOT_LOW));
+                uint64_t link = link_of(high, load32(slot_2 + SLOT_LOW));
                 uint64_t nodes_len = load64(map + INT_MAP_NODES_LEN);
-                if (nodes_len > at_2) {
+                if (nodes_len > link) {
                     uint64_t r2_0;
                     char *nodes = load_address(map + INT_MAP_NODES);
-                    uint64_t at_3 = at_2;
+                    uint64_t at_2 = link;
                     uint64_t r2_020 = 0;
                     for (;;) {
-                        char *node = nodes + (at_3 * NODE_SIZE);
+                        char *node = nodes + (at_2 * NODE_SIZE);
                         if (load8(node + NODE_HAS_PAIR) != 1) {
                             r2_0 = r2_020;
                             break;
                         }
-                        uint64_t r10 = (((uint64_t)load16(node + NODE_HIGH)) << 32) | ((uint64_t)load32(node + NODE_LOW));
+                        uint64_t link_2 = link_of(load16(node + NODE_HIGH), load32(node + NODE_LOW));
                         uint64_t r11 = r2_020 + 1;
-                        if (nodes_len <= r10) {
+                        if (nodes_len <= link_2) {
                             r2_0 = r11;
                             break;
                         }
-                        at_3 = r10;
+                        at_2 = link_2;
                         r2_020 = r11;
                     }
                     r3_0 = r2_0 + 1;
@@ -2461,7 +2466,8 @@ static ALWAYS_INLINE char *do_intmap_cut(char *result, char *handle, char *at) {
                 }
                 if (place < r3_0) {
                     char *node_2, *nodes_2, *node_3, *node_4, *node_5;
-                    uint64_t free, r10_2, key, value, r2_0_2, key_2, value_2, at_4, r8, at_5, free_2, key_3, value_3;
+                    uint64_t free, link_3, key, value, link_4, key_2, value_2, at_3, r8, link_5, free_2, key_3,
+                        value_3;
                     uint16_t high_3;
                     uint32_t low;
                     switch (place) {
@@ -2472,34 +2478,34 @@ static ALWAYS_INLINE char *do_intmap_cut(char *result, char *handle, char *at) {
                         nodes_at = map + INT_MAP_NODES;
                         goto arm_1_2;
                     case 1:
-                        node_2 = load_address(map + INT_MAP_NODES) + (at_2 * NODE_SIZE);
+                        node_2 = load_address(map + INT_MAP_NODES) + (link * NODE_SIZE);
                         if (load8(node_2 + NODE_HAS_PAIR) != 1) {
                             abort(); // The proof excludes this.
                         }
                         free = load64(map + INT_MAP_FREE);
-                        r10_2 = (((uint64_t)load16(node_2 + NODE_HIGH)) << 32) | ((uint64_t)load32(node_2 + NODE_LOW));
+                        link_3 = link_of(load16(node_2 + NODE_HIGH), load32(node_2 + NODE_LOW));
                         key = load64(node_2 + NODE_KEY);
                         value = load64(node_2 + NODE_VALUE);
                         store16(node_2 + NODE_HAS_PAIR, 0);
                         store16(node_2 + NODE_HIGH, (uint16_t)(free >> 32));
                         store32(node_2 + NODE_LOW, (uint32_t)free);
                         memset(node_2 + NODE_KEY, 0, PAIR_SIZE);
-                        store64(map + INT_MAP_FREE, at_2);
+                        store64(map + INT_MAP_FREE, link);
                         store64(map + INT_MAP_SPARE, load64(map + INT_MAP_SPARE) + 1);
-                        r2_0_2 = r10_2;
+                        link_4 = link_3;
                         key_2 = key;
                         value_2 = value;
                         break;
                     default:
-                        at_4 = chain_seek(map + INT_MAP_NODES, at_2, place - 2);
+                        at_3 = chain_seek(map + INT_MAP_NODES, link, place - 2);
                         nodes_2 = load_address(map + INT_MAP_NODES);
-                        r8 = at_4 * NODE_SIZE;
+                        r8 = at_3 * NODE_SIZE;
                         node_3 = nodes_2 + r8;
                         if (load8(node_3 + NODE_HAS_PAIR) != 1) {
                             abort(); // The proof excludes this.
                         }
-                        at_5 = (((uint64_t)load16(node_3 + NODE_HIGH)) << 32) | ((uint64_t)load32(node_3 + NODE_LOW));
-                        node_4 = nodes_2 + (at_5 * NODE_SIZE);
+                        link_5 = link_of(load16(node_3 + NODE_HIGH), load32(node_3 + NODE_LOW));
+                        node_4 = nodes_2 + (link_5 * NODE_SIZE);
                         if (load8(node_4 + NODE_HAS_PAIR) != 1) {
                             abort(); // The proof excludes this.
                         }
@@ -2512,7 +2518,7 @@ static ALWAYS_INLINE char *do_intmap_cut(char *result, char *handle, char *at) {
                         store16(node_4 + NODE_HIGH, (uint16_t)(free_2 >> 32));
                         store32(node_4 + NODE_LOW, (uint32_t)free_2);
                         memset(node_4 + NODE_KEY, 0, PAIR_SIZE);
-                        store64(map + INT_MAP_FREE, at_5);
+                        store64(map + INT_MAP_FREE, link_5);
                         store64(map + INT_MAP_SPARE, load64(map + INT_MAP_SPARE) + 1);
                         node_5 = load_address(map + INT_MAP_NODES) + r8;
                         if (load8(node_5 + NODE_HAS_PAIR) != 1) {
@@ -2520,7 +2526,7 @@ static ALWAYS_INLINE char *do_intmap_cut(char *result, char *handle, char *at) {
                         }
                         store16(node_5 + NODE_HIGH, high_3);
                         store32(node_5 + NODE_LOW, low);
-                        r2_0_2 = at_2;
+                        link_4 = link;
                         key_2 = key_3;
                         value_2 = value_3;
                         break;
@@ -2528,8 +2534,8 @@ static ALWAYS_INLINE char *do_intmap_cut(char *result, char *handle, char *at) {
                     if (load8(slot_2 + SLOT_HAS_PAIR) != 1) {
                         abort(); // The proof excludes this.
                     }
-                    store16(slot_2 + SLOT_HIGH, (uint16_t)(r2_0_2 >> 32));
-                    store32(slot_2 + SLOT_LOW, (uint32_t)r2_0_2);
+                    store16(slot_2 + SLOT_HIGH, (uint16_t)(link_4 >> 32));
+                    store32(slot_2 + SLOT_LOW, (uint32_t)link_4);
                     r19 = made_word_word(key_2, value_2);
                     goto x12;
                 }
@@ -2657,21 +2663,21 @@ static ALWAYS_INLINE struct word_word do_intmap_remove(char *handle, uint64_t ke
             uint64_t r0, r72_1_merged, r72_1_merged_2;
             char *r11;
             uint16_t high = load16(slot + SLOT_HIGH);
-            uint64_t at = (((uint64_t)high) << 32) | ((uint64_t)load32(slot + SLOT_LOW));
+            uint64_t link = link_of(high, load32(slot + SLOT_LOW));
             if (load64(slot + SLOT_KEY) == key) {
                 r0 = 0;
             } else {
                 uint64_t nodes_len = load64(map + INT_MAP_NODES_LEN);
-                if (nodes_len <= at) {
+                if (nodes_len <= link) {
                     spec_select1 = 0;
                     x10 = 0;
                     goto after_pairs_remove;
                 }
                 char *nodes = load_address(map + INT_MAP_NODES);
-                uint64_t at_2 = at;
+                uint64_t at = link;
                 uint64_t r2_0 = 0;
                 for (;;) {
-                    char *node = nodes + (at_2 * NODE_SIZE);
+                    char *node = nodes + (at * NODE_SIZE);
                     if (load8(node + NODE_HAS_PAIR) != 1) {
                         spec_select1 = 0;
                         x10 = 0;
@@ -2681,13 +2687,13 @@ static ALWAYS_INLINE struct word_word do_intmap_remove(char *handle, uint64_t ke
                         r0 = r2_0 + 1;
                         break;
                     }
-                    uint64_t r10 = (((uint64_t)load16(node + NODE_HIGH)) << 32) | ((uint64_t)load32(node + NODE_LOW));
-                    if (nodes_len <= r10) {
+                    uint64_t link_2 = link_of(load16(node + NODE_HIGH), load32(node + NODE_LOW));
+                    if (nodes_len <= link_2) {
                         spec_select1 = 0;
                         x10 = 0;
                         goto after_pairs_remove;
                     }
-                    at_2 = r10;
+                    at = link_2;
                     r2_0 = r2_0 + 1;
                 }
             }
@@ -2696,9 +2702,9 @@ static ALWAYS_INLINE struct word_word do_intmap_remove(char *handle, uint64_t ke
                 memset(slot, 0, SLOT_SIZE);
                 r72_1_merged = value;
             } else {
-                uint64_t at_3, r9, key_3, value_3;
+                uint64_t link_3, r9, key_3, value_3;
                 char *nodes_2 = load_address(map + INT_MAP_NODES);
-                uint64_t r8 = at * NODE_SIZE;
+                uint64_t r8 = link * NODE_SIZE;
                 char *node_2 = nodes_2 + r8;
                 if (load8(node_2 + NODE_HAS_PAIR) != 1) {
                     abort(); // The proof excludes this.
@@ -2712,16 +2718,16 @@ static ALWAYS_INLINE struct word_word do_intmap_remove(char *handle, uint64_t ke
                     store16(node_2 + NODE_HIGH, (uint16_t)(free >> 32));
                     store32(node_2 + NODE_LOW, (uint32_t)free);
                     memset(node_2 + NODE_KEY, 0, PAIR_SIZE);
-                    store64(map + INT_MAP_FREE, at);
+                    store64(map + INT_MAP_FREE, link);
                     store64(map + INT_MAP_SPARE, load64(map + INT_MAP_SPARE) + 1);
-                    at_3 = NOWHERE;
+                    link_3 = NOWHERE;
                     r9 = 0;
                     key_3 = key_2;
                     value_3 = value_2;
                 } else {
-                    uint64_t r6, r6_2, at_5, r3_0;
-                    uint64_t at_4 = (((uint64_t)high_2) << 32) | ((uint64_t)load32(node_2 + NODE_LOW));
-                    uint64_t r8_2 = at_4 * NODE_SIZE;
+                    uint64_t r6, r6_2, r2_0_2, r3_0;
+                    uint64_t link_4 = link_of(high_2, load32(node_2 + NODE_LOW));
+                    uint64_t r8_2 = link_4 * NODE_SIZE;
                     char *node_3 = nodes_2 + r8_2;
                     if (load8(node_3 + NODE_HAS_PAIR) != 1) {
                         abort(); // The proof excludes this.
@@ -2730,14 +2736,14 @@ static ALWAYS_INLINE struct word_word do_intmap_remove(char *handle, uint64_t ke
                     if (high_3 == NOWHERE_HIGH) {
                         r6 = r8;
                         r6_2 = r8_2;
-                        at_5 = at_4;
+                        r2_0_2 = link_4;
                         r3_0 = 1;
                     } else {
-                        uint64_t at_6 = (((uint64_t)high_3) << 32) | ((uint64_t)load32(node_3 + NODE_LOW));
+                        uint64_t at_2 = link_of(high_3, load32(node_3 + NODE_LOW));
                         uint64_t r3_0_2 = 1;
-                        uint64_t at_7 = at_4;
+                        uint64_t r2_0_3 = link_4;
                         for (;;) {
-                            uint64_t r8_3 = at_6 * NODE_SIZE;
+                            uint64_t r8_3 = at_2 * NODE_SIZE;
                             char *node_4 = nodes_2 + r8_3;
                             if (load8(node_4 + NODE_HAS_PAIR) != 1) {
                                 abort(); // The proof excludes this.
@@ -2745,15 +2751,15 @@ static ALWAYS_INLINE struct word_word do_intmap_remove(char *handle, uint64_t ke
                             uint64_t r18 = r3_0_2 + 1;
                             uint16_t high_4 = load16(node_4 + NODE_HIGH);
                             if (high_4 == NOWHERE_HIGH) {
-                                r6 = at_7 * 24;
+                                r6 = r2_0_3 * 24;
                                 r6_2 = r8_3;
-                                at_5 = at_6;
+                                r2_0_2 = at_2;
                                 r3_0 = r18;
                                 break;
                             }
                             r3_0_2 = r18;
-                            at_7 = at_6;
-                            at_6 = (((uint64_t)high_4) << 32) | ((uint64_t)load32(node_4 + NODE_LOW));
+                            r2_0_3 = at_2;
+                            at_2 = link_of(high_4, load32(node_4 + NODE_LOW));
                         }
                     }
                     char *node_5 = nodes_2 + r6_2;
@@ -2764,7 +2770,7 @@ static ALWAYS_INLINE struct word_word do_intmap_remove(char *handle, uint64_t ke
                     store16(node_5 + NODE_HIGH, (uint16_t)(free_2 >> 32));
                     store32(node_5 + NODE_LOW, (uint32_t)free_2);
                     memset(node_5 + NODE_KEY, 0, PAIR_SIZE);
-                    store64(map + INT_MAP_FREE, at_5);
+                    store64(map + INT_MAP_FREE, r2_0_2);
                     store64(map + INT_MAP_SPARE, load64(map + INT_MAP_SPARE) + 1);
                     char *node_6 = load_address(map + INT_MAP_NODES) + r6;
                     if (load8(node_6 + NODE_HAS_PAIR) != 1) {
@@ -2772,7 +2778,7 @@ static ALWAYS_INLINE struct word_word do_intmap_remove(char *handle, uint64_t ke
                     }
                     store16(node_6 + NODE_HIGH, NOWHERE_HIGH);
                     store32(node_6 + NODE_LOW, NOWHERE_LOW);
-                    at_3 = at;
+                    link_3 = link;
                     r9 = r3_0;
                     key_3 = key_4;
                     value_3 = value_4;
@@ -2780,8 +2786,8 @@ static ALWAYS_INLINE struct word_word do_intmap_remove(char *handle, uint64_t ke
                 if (load8(slot + SLOT_HAS_PAIR) != 1) {
                     abort(); // The proof excludes this.
                 }
-                store16(slot + SLOT_HIGH, (uint16_t)(at_3 >> 32));
-                store32(slot + SLOT_LOW, (uint32_t)at_3);
+                store16(slot + SLOT_HIGH, (uint16_t)(link_3 >> 32));
+                store32(slot + SLOT_LOW, (uint32_t)link_3);
                 if (r0 == 0) {
                     uint64_t value_5 = load64(slot + SLOT_VALUE);
                     store64(slot + SLOT_KEY, key_3);
@@ -2794,7 +2800,7 @@ static ALWAYS_INLINE struct word_word do_intmap_remove(char *handle, uint64_t ke
                     r72_1_merged_2 = value_3;
                     goto after_row_take_3;
                 }
-                uint64_t r68 = chain_swap_behind(at_3, map + INT_MAP_NODES, r53, key_3, value_3);
+                uint64_t r68 = chain_swap_behind(link_3, map + INT_MAP_NODES, r53, key_3, value_3);
                 if (load8(slot + SLOT_HAS_PAIR) != 0) {
                     r72_1_merged_2 = r68;
                     goto after_row_take_3;
@@ -2834,17 +2840,17 @@ static ALWAYS_INLINE struct word_word do_intmap_replace(char *handle, uint64_t k
         char *slot = load_address(map + INT_MAP_SLOTS) + ((load64(map + INT_MAP_MASK) & (key * MULTIPLIER)) * SLOT_SIZE);
         if (load8(slot + SLOT_HAS_PAIR) == 1) {
             char *r9;
-            uint64_t r10 = (((uint64_t)load16(slot + SLOT_HIGH)) << 32) | ((uint64_t)load32(slot + SLOT_LOW));
+            uint64_t link = link_of(load16(slot + SLOT_HIGH), load32(slot + SLOT_LOW));
             if (load64(slot + SLOT_KEY) == key) {
                 r9 = slot;
             } else {
                 uint64_t nodes_len = load64(map + INT_MAP_NODES_LEN);
-                if (nodes_len <= r10) {
+                if (nodes_len <= link) {
                     r26 = empty_word_half();
                     goto after_pairs_replace;
                 }
                 char *nodes = load_address(map + INT_MAP_NODES);
-                uint64_t at = r10;
+                uint64_t at = link;
                 uint64_t r2_0 = 0;
                 for (;;) {
                     char *node = nodes + (at * NODE_SIZE);
@@ -2857,7 +2863,7 @@ static ALWAYS_INLINE struct word_word do_intmap_replace(char *handle, uint64_t k
                             r9 = slot;
                             break;
                         }
-                        uint64_t at_2 = chain_seek(map + INT_MAP_NODES, r10, r2_0);
+                        uint64_t at_2 = chain_seek(map + INT_MAP_NODES, link, r2_0);
                         char *node_2 = nodes + (at_2 * NODE_SIZE);
                         if (load8(node_2 + NODE_HAS_PAIR) != 1) {
                             abort(); // The proof excludes this.
@@ -2865,12 +2871,12 @@ static ALWAYS_INLINE struct word_word do_intmap_replace(char *handle, uint64_t k
                         r9 = node_2;
                         break;
                     }
-                    uint64_t r10_2 = (((uint64_t)load16(node + NODE_HIGH)) << 32) | ((uint64_t)load32(node + NODE_LOW));
-                    if (nodes_len <= r10_2) {
+                    uint64_t link_2 = link_of(load16(node + NODE_HIGH), load32(node + NODE_LOW));
+                    if (nodes_len <= link_2) {
                         r26 = empty_word_half();
                         goto after_pairs_replace;
                     }
-                    at = r10_2;
+                    at = link_2;
                     r2_0 = r2_0 + 1;
                 }
             }
@@ -3025,14 +3031,14 @@ static ALWAYS_INLINE struct word_word do_intmap_add_or_insert(char *handle, uint
     if (x4) {
         uint64_t value_3;
         char *r9;
-        uint64_t r10 = (((uint64_t)load16(slot + SLOT_HIGH)) << 32) | ((uint64_t)load32(slot + SLOT_LOW));
+        uint64_t link = link_of(load16(slot + SLOT_HIGH), load32(slot + SLOT_LOW));
         if (load64(slot + SLOT_KEY) != key) {
             uint64_t nodes_len = load64(map + INT_MAP_NODES_LEN);
-            if (nodes_len <= r10) {
+            if (nodes_len <= link) {
                 goto arm_2_2;
             }
             char *nodes = load_address(map + INT_MAP_NODES);
-            uint64_t at = r10;
+            uint64_t at = link;
             uint64_t r2_0 = 0;
             for (;;) {
                 char *node = nodes + (at * NODE_SIZE);
@@ -3043,21 +3049,21 @@ static ALWAYS_INLINE struct word_word do_intmap_add_or_insert(char *handle, uint
                     if (r2_0 == UINT64_MAX) {
                         break;
                     }
-                    uint64_t at_2 = chain_seek(map + INT_MAP_NODES, r10, r2_0);
+                    uint64_t at_2 = chain_seek(map + INT_MAP_NODES, link, r2_0);
                     if (load8((nodes + (at_2 * NODE_SIZE)) + NODE_HAS_PAIR) != 1) {
                         abort(); // The proof excludes this.
                     }
-                    uint64_t at_3 = chain_seek(map + INT_MAP_NODES, r10, r2_0);
+                    uint64_t at_3 = chain_seek(map + INT_MAP_NODES, link, r2_0);
                     char *node_2 = nodes + (at_3 * NODE_SIZE);
                     if (load8(node_2 + NODE_HAS_PAIR) != 1) {
                         abort(); // The proof excludes this.
                     }
                     uint64_t value_2 = load64(node_2 + NODE_VALUE);
-                    uint64_t at_4 = chain_seek(map + INT_MAP_NODES, r10, r2_0);
+                    uint64_t at_4 = chain_seek(map + INT_MAP_NODES, link, r2_0);
                     if (load8((nodes + (at_4 * NODE_SIZE)) + NODE_HAS_PAIR) != 1) {
                         abort(); // The proof excludes this.
                     }
-                    uint64_t at_5 = chain_seek(map + INT_MAP_NODES, r10, r2_0);
+                    uint64_t at_5 = chain_seek(map + INT_MAP_NODES, link, r2_0);
                     char *node_3 = nodes + (at_5 * NODE_SIZE);
                     if (load8(node_3 + NODE_HAS_PAIR) != 1) {
                         abort(); // The proof excludes this.
@@ -3066,11 +3072,11 @@ static ALWAYS_INLINE struct word_word do_intmap_add_or_insert(char *handle, uint
                     r9 = node_3;
                     goto after_OccupiedEntry_insert;
                 }
-                uint64_t r10_2 = (((uint64_t)load16(node + NODE_HIGH)) << 32) | ((uint64_t)load32(node + NODE_LOW));
-                if (nodes_len <= r10_2) {
+                uint64_t link_2 = link_of(load16(node + NODE_HIGH), load32(node + NODE_LOW));
+                if (nodes_len <= link_2) {
                     goto arm_2_2;
                 }
-                at = r10_2;
+                at = link_2;
                 r2_0 = r2_0 + 1;
             }
         }
@@ -3093,10 +3099,10 @@ arm_2_2:;
             if (x4) {
                 uint64_t spare, r4_0;
                 uint16_t high = load16(slot + SLOT_HIGH);
-                uint64_t r10_3 = (((uint64_t)high) << 32) | ((uint64_t)load32(slot + SLOT_LOW));
+                uint64_t link_3 = link_of(high, load32(slot + SLOT_LOW));
                 if (high != NOWHERE_HIGH) {
                     uint64_t r21;
-                    uint64_t at_6 = chain_last_in(map + INT_MAP_NODES, r10_3);
+                    uint64_t at_6 = chain_last_in(map + INT_MAP_NODES, link_3);
                     uint64_t spare_2 = load64(map + INT_MAP_SPARE);
                     if (spare_2 == 0) {
                         pool_append(r0_2, map + INT_MAP_NODES, NOWHERE, key, more);
@@ -3110,7 +3116,7 @@ arm_2_2:;
                         if (load8(node_5 + NODE_HAS_PAIR) != 0) {
                             abort(); // The proof excludes this.
                         }
-                        store64(map + INT_MAP_FREE, (((uint64_t)load16(node_5 + NODE_HIGH)) << 32) | ((uint64_t)load32(node_5 + NODE_LOW)));
+                        store64(map + INT_MAP_FREE, link_of(load16(node_5 + NODE_HIGH), load32(node_5 + NODE_LOW)));
                         store64(map + INT_MAP_SPARE, spare_2 - 1);
                         uint8_t has_pair_3 = load8(node_5 + NODE_HAS_PAIR);
                         store16(node_5 + NODE_HAS_PAIR, 1);
@@ -3129,7 +3135,7 @@ arm_2_2:;
                     }
                     store16(node_6 + NODE_HIGH, (uint16_t)(r21 >> 32));
                     store32(node_6 + NODE_LOW, (uint32_t)r21);
-                    r4_0 = r10_3;
+                    r4_0 = link_3;
                     goto arm_5_3;
                 }
                 spare = load64(map + INT_MAP_SPARE);
@@ -3139,7 +3145,7 @@ arm_2_2:;
                     if (load8(node_4 + NODE_HAS_PAIR) != 0) {
                         abort(); // The proof excludes this.
                     }
-                    store64(map + INT_MAP_FREE, (((uint64_t)load16(node_4 + NODE_HIGH)) << 32) | ((uint64_t)load32(node_4 + NODE_LOW)));
+                    store64(map + INT_MAP_FREE, link_of(load16(node_4 + NODE_HIGH), load32(node_4 + NODE_LOW)));
                     store64(map + INT_MAP_SPARE, spare - 1);
                     uint8_t has_pair_2 = load8(node_4 + NODE_HAS_PAIR);
                     store16(node_4 + NODE_HAS_PAIR, 1);
@@ -3232,15 +3238,15 @@ static ALWAYS_INLINE uint32_t do_intmap_find_or_insert(char *handle, uint64_t ke
     uint8_t has_pair = load8(slot + SLOT_HAS_PAIR);
     bool x4 = has_pair == 1;
     if (x4) {
-        uint64_t r10 = (((uint64_t)load16(slot + SLOT_HIGH)) << 32) | ((uint64_t)load32(slot + SLOT_LOW));
+        uint64_t link = link_of(load16(slot + SLOT_HIGH), load32(slot + SLOT_LOW));
         if (load64(slot + SLOT_KEY) == key) {
             r4_0 = 1;
             goto after_pairs_find_or_insert;
         }
         uint64_t nodes_len = load64(map + INT_MAP_NODES_LEN);
-        if (nodes_len > r10) {
+        if (nodes_len > link) {
             char *nodes = load_address(map + INT_MAP_NODES);
-            uint64_t at = r10;
+            uint64_t at = link;
             for (;;) {
                 char *node = nodes + (at * NODE_SIZE);
                 if (load8(node + NODE_HAS_PAIR) != 1) {
@@ -3250,11 +3256,11 @@ static ALWAYS_INLINE uint32_t do_intmap_find_or_insert(char *handle, uint64_t ke
                     r4_0 = 1;
                     goto after_pairs_find_or_insert;
                 }
-                uint64_t r10_2 = (((uint64_t)load16(node + NODE_HIGH)) << 32) | ((uint64_t)load32(node + NODE_LOW));
-                if (nodes_len <= r10_2) {
+                uint64_t link_2 = link_of(load16(node + NODE_HIGH), load32(node + NODE_LOW));
+                if (nodes_len <= link_2) {
                     break;
                 }
-                at = r10_2;
+                at = link_2;
             }
         }
     }
@@ -3268,10 +3274,10 @@ static ALWAYS_INLINE uint32_t do_intmap_find_or_insert(char *handle, uint64_t ke
             if (x4) {
                 uint64_t spare, r4_0_2;
                 uint16_t high = load16(slot + SLOT_HIGH);
-                uint64_t r10_3 = (((uint64_t)high) << 32) | ((uint64_t)load32(slot + SLOT_LOW));
+                uint64_t link_3 = link_of(high, load32(slot + SLOT_LOW));
                 if (high != NOWHERE_HIGH) {
                     uint64_t r21;
-                    uint64_t at_2 = chain_last_in(map + INT_MAP_NODES, r10_3);
+                    uint64_t at_2 = chain_last_in(map + INT_MAP_NODES, link_3);
                     uint64_t spare_2 = load64(map + INT_MAP_SPARE);
                     if (spare_2 == 0) {
                         pool_append(r0_2, map + INT_MAP_NODES, NOWHERE, key, value);
@@ -3285,7 +3291,7 @@ static ALWAYS_INLINE uint32_t do_intmap_find_or_insert(char *handle, uint64_t ke
                         if (load8(node_3 + NODE_HAS_PAIR) != 0) {
                             abort(); // The proof excludes this.
                         }
-                        store64(map + INT_MAP_FREE, (((uint64_t)load16(node_3 + NODE_HIGH)) << 32) | ((uint64_t)load32(node_3 + NODE_LOW)));
+                        store64(map + INT_MAP_FREE, link_of(load16(node_3 + NODE_HIGH), load32(node_3 + NODE_LOW)));
                         store64(map + INT_MAP_SPARE, spare_2 - 1);
                         uint8_t has_pair_3 = load8(node_3 + NODE_HAS_PAIR);
                         store16(node_3 + NODE_HAS_PAIR, 1);
@@ -3304,7 +3310,7 @@ static ALWAYS_INLINE uint32_t do_intmap_find_or_insert(char *handle, uint64_t ke
                     }
                     store16(node_4 + NODE_HIGH, (uint16_t)(r21 >> 32));
                     store32(node_4 + NODE_LOW, (uint32_t)r21);
-                    r4_0_2 = r10_3;
+                    r4_0_2 = link_3;
                     goto arm_5_3;
                 }
                 spare = load64(map + INT_MAP_SPARE);
@@ -3314,7 +3320,7 @@ static ALWAYS_INLINE uint32_t do_intmap_find_or_insert(char *handle, uint64_t ke
                     if (load8(node_2 + NODE_HAS_PAIR) != 0) {
                         abort(); // The proof excludes this.
                     }
-                    store64(map + INT_MAP_FREE, (((uint64_t)load16(node_2 + NODE_HIGH)) << 32) | ((uint64_t)load32(node_2 + NODE_LOW)));
+                    store64(map + INT_MAP_FREE, link_of(load16(node_2 + NODE_HIGH), load32(node_2 + NODE_LOW)));
                     store64(map + INT_MAP_SPARE, spare - 1);
                     uint8_t has_pair_2 = load8(node_2 + NODE_HAS_PAIR);
                     store16(node_2 + NODE_HAS_PAIR, 1);
@@ -3408,16 +3414,16 @@ static ALWAYS_INLINE struct word_word do_intmap_insert(char *handle, uint64_t ke
     if (x4) {
         uint64_t r0_3;
         uint16_t high = load16(slot + SLOT_HIGH);
-        uint64_t r10 = (((uint64_t)high) << 32) | ((uint64_t)load32(slot + SLOT_LOW));
+        uint64_t link = link_of(high, load32(slot + SLOT_LOW));
         if (load64(slot + SLOT_KEY) == key) {
             r0_3 = 0;
         } else {
             uint64_t nodes_len = load64(map + INT_MAP_NODES_LEN);
-            if (nodes_len <= r10) {
+            if (nodes_len <= link) {
                 goto arm_2_2;
             }
             char *nodes = load_address(map + INT_MAP_NODES);
-            uint64_t at = r10;
+            uint64_t at = link;
             uint64_t r2_0 = 0;
             for (;;) {
                 char *node = nodes + (at * NODE_SIZE);
@@ -3428,11 +3434,11 @@ static ALWAYS_INLINE struct word_word do_intmap_insert(char *handle, uint64_t ke
                     r0_3 = r2_0 + 1;
                     break;
                 }
-                uint64_t r10_2 = (((uint64_t)load16(node + NODE_HIGH)) << 32) | ((uint64_t)load32(node + NODE_LOW));
-                if (nodes_len <= r10_2) {
+                uint64_t link_2 = link_of(load16(node + NODE_HIGH), load32(node + NODE_LOW));
+                if (nodes_len <= link_2) {
                     goto arm_2_2;
                 }
-                at = r10_2;
+                at = link_2;
                 r2_0 = r2_0 + 1;
             }
         }
@@ -3444,7 +3450,7 @@ static ALWAYS_INLINE struct word_word do_intmap_insert(char *handle, uint64_t ke
             spec_select1 = 1;
             goto after_pairs_insert;
         }
-        struct word_word at_2 = chain_last_in_2(map + INT_MAP_NODES, r10);
+        struct word_word at_2 = chain_last_in_2(map + INT_MAP_NODES, link);
         char *node_2 = load_address(map + INT_MAP_NODES) + (at_2.first * NODE_SIZE);
         if (load8(node_2 + NODE_HAS_PAIR) != 1) {
             abort(); // The proof excludes this.
@@ -3470,7 +3476,7 @@ static ALWAYS_INLINE struct word_word do_intmap_insert(char *handle, uint64_t ke
             spec_select1 = 1;
             goto after_pairs_insert;
         }
-        uint64_t r69 = chain_swap_behind(r10, map + INT_MAP_NODES, r55, key_2, value_3);
+        uint64_t r69 = chain_swap_behind(link, map + INT_MAP_NODES, r55, key_2, value_3);
         r5 = r69;
         spec_select1 = 1;
         goto after_pairs_insert;
@@ -3486,10 +3492,10 @@ arm_2_2:;
             if (x4) {
                 uint64_t spare, r4_0;
                 uint16_t high_2 = load16(slot + SLOT_HIGH);
-                uint64_t r10_3 = (((uint64_t)high_2) << 32) | ((uint64_t)load32(slot + SLOT_LOW));
+                uint64_t link_3 = link_of(high_2, load32(slot + SLOT_LOW));
                 if (high_2 != NOWHERE_HIGH) {
                     uint64_t r21;
-                    uint64_t at_3 = chain_last_in(map + INT_MAP_NODES, r10_3);
+                    uint64_t at_3 = chain_last_in(map + INT_MAP_NODES, link_3);
                     uint64_t spare_2 = load64(map + INT_MAP_SPARE);
                     if (spare_2 == 0) {
                         pool_append(r0_2, map + INT_MAP_NODES, NOWHERE, key, value);
@@ -3503,7 +3509,7 @@ arm_2_2:;
                         if (load8(node_4 + NODE_HAS_PAIR) != 0) {
                             abort(); // The proof excludes this.
                         }
-                        store64(map + INT_MAP_FREE, (((uint64_t)load16(node_4 + NODE_HIGH)) << 32) | ((uint64_t)load32(node_4 + NODE_LOW)));
+                        store64(map + INT_MAP_FREE, link_of(load16(node_4 + NODE_HIGH), load32(node_4 + NODE_LOW)));
                         store64(map + INT_MAP_SPARE, spare_2 - 1);
                         uint8_t has_pair_3 = load8(node_4 + NODE_HAS_PAIR);
                         store16(node_4 + NODE_HAS_PAIR, 1);
@@ -3522,7 +3528,7 @@ arm_2_2:;
                     }
                     store16(node_5 + NODE_HIGH, (uint16_t)(r21 >> 32));
                     store32(node_5 + NODE_LOW, (uint32_t)r21);
-                    r4_0 = r10_3;
+                    r4_0 = link_3;
                     goto arm_5_3;
                 }
                 spare = load64(map + INT_MAP_SPARE);
@@ -3532,7 +3538,7 @@ arm_2_2:;
                     if (load8(node_3 + NODE_HAS_PAIR) != 0) {
                         abort(); // The proof excludes this.
                     }
-                    store64(map + INT_MAP_FREE, (((uint64_t)load16(node_3 + NODE_HIGH)) << 32) | ((uint64_t)load32(node_3 + NODE_LOW)));
+                    store64(map + INT_MAP_FREE, link_of(load16(node_3 + NODE_HIGH), load32(node_3 + NODE_LOW)));
                     store64(map + INT_MAP_SPARE, spare - 1);
                     uint8_t has_pair_2 = load8(node_3 + NODE_HAS_PAIR);
                     store16(node_3 + NODE_HAS_PAIR, 1);

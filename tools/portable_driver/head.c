@@ -177,6 +177,11 @@ static inline uint64_t sum_or_most(uint64_t one, uint64_t other) {
     return one > ~other ? UINT64_MAX : one + other;
 }
 
+// The link that two parts make.
+static inline uint64_t link_of(uint64_t high, uint64_t low) {
+    return high << 32 | low;
+}
+
 // The least number of things of a size that take 2^63 bytes or more. No block of memory is so long.
 #define TOO_MANY(size) ((uint64_t)INT64_MAX / (size) + 1)
 
