@@ -239,11 +239,9 @@ class FunctionInC:
     def __init__(self, printer, function):
         self.printer, self.function, self.graph = printer, function, function.graph
         self.is_call_of_c = "::" not in function.name
-        # blocks that only return: each way to one ends with a return of its own. With that clang would save one register
-        # more in calls of C that return a struct
-        is_apart = self.is_call_of_c and function.result[0] == "{"
         self.returned = function.returned()
-        self.ends = {it for it, lines in function.blocks.items() if not is_apart and all(ENDS.match(line) for line in lines)}
+        # blocks that only return: each way to one ends with a return of its own
+        self.ends = {it for it, lines in function.blocks.items() if all(ENDS.match(line) for line in lines)}
         self.graph.joins -= self.ends
         self.name, self.taken, self.names, self.types = printer.name(function.name), set(), {}, {}
         labels = set()

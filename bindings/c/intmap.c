@@ -3000,10 +3000,8 @@ static ALWAYS_INLINE uint32_t do_intmap_with_capacity(char *handle, uint64_t cap
 // Adds to the value of a present key as `intmap_add_present` does, or inserts an absent key with `more`.
 // intmap_add_or_insert, in crates/intmap_c/src/pairs.rt
 static ALWAYS_INLINE struct word_word do_intmap_add_or_insert(char *handle, uint64_t key, uint64_t more) {
-    uint64_t value, r19, map_address_2, index, r40, value_4, len, x23;
-    char *map, *slot;
-    uint8_t has_pair;
-    bool x4;
+    char *map;
+    uint64_t r40, value_3, len, x23;
     uint64_t r0_room[3];
     char *r0 = (char *)r0_room;
     uint64_t r0_2_room[3];
@@ -3015,21 +3013,19 @@ static ALWAYS_INLINE struct word_word do_intmap_add_or_insert(char *handle, uint
     if (map_address == 0) {
         struct byte_address r15 = handle_make_first();
         if (r15.first == 0) {
-            value = 0;
-            r19 = NO_MEMORY;
-            goto after_pairs_intmap_add_or_insert;
+            return made_word_word(0, NO_MEMORY);
         }
         map = r15.second;
     } else {
         map = (char *)(uintptr_t)map_address;
     }
-    map_address_2 = (uint64_t)(uintptr_t)map;
-    index = load64(map + INT_MAP_MASK) & (key * MULTIPLIER);
-    slot = load_address(map + INT_MAP_SLOTS) + (index * SLOT_SIZE);
-    has_pair = load8(slot + SLOT_HAS_PAIR);
-    x4 = has_pair == 1;
+    uint64_t map_address_2 = (uint64_t)(uintptr_t)map;
+    uint64_t index = load64(map + INT_MAP_MASK) & (key * MULTIPLIER);
+    char *slot = load_address(map + INT_MAP_SLOTS) + (index * SLOT_SIZE);
+    uint8_t has_pair = load8(slot + SLOT_HAS_PAIR);
+    bool x4 = has_pair == 1;
     if (x4) {
-        uint64_t value_3;
+        uint64_t value_2;
         char *r9;
         uint64_t link = link_of(load16(slot + SLOT_HIGH), load32(slot + SLOT_LOW));
         if (load64(slot + SLOT_KEY) != key) {
@@ -3058,7 +3054,7 @@ static ALWAYS_INLINE struct word_word do_intmap_add_or_insert(char *handle, uint
                     if (load8(node_2 + NODE_HAS_PAIR) != 1) {
                         abort(); // The proof excludes this.
                     }
-                    uint64_t value_2 = load64(node_2 + NODE_VALUE);
+                    uint64_t value = load64(node_2 + NODE_VALUE);
                     uint64_t at_4 = chain_seek(map + INT_MAP_NODES, link, r2_0);
                     if (load8((nodes + (at_4 * NODE_SIZE)) + NODE_HAS_PAIR) != 1) {
                         abort(); // The proof excludes this.
@@ -3068,7 +3064,7 @@ static ALWAYS_INLINE struct word_word do_intmap_add_or_insert(char *handle, uint
                     if (load8(node_3 + NODE_HAS_PAIR) != 1) {
                         abort(); // The proof excludes this.
                     }
-                    value_3 = value_2;
+                    value_2 = value;
                     r9 = node_3;
                     goto after_OccupiedEntry_insert;
                 }
@@ -3080,12 +3076,12 @@ static ALWAYS_INLINE struct word_word do_intmap_add_or_insert(char *handle, uint
                 r2_0 = r2_0 + 1;
             }
         }
-        value_3 = load64(slot + SLOT_VALUE);
+        value_2 = load64(slot + SLOT_VALUE);
         r9 = slot;
     after_OccupiedEntry_insert:;
-        store64(r9 + 16, value_3 + more);
+        store64(r9 + 16, value_2 + more);
         r40 = 1;
-        value_4 = value_3;
+        value_3 = value_2;
         goto after_pairs_add_or_insert;
     }
 arm_2_2:;
@@ -3166,7 +3162,7 @@ arm_2_2:;
                 }
             after_IntMap_add:;
                 r40 = NO_MEMORY;
-                value_4 = 0;
+                value_3 = 0;
                 goto after_pairs_add_or_insert;
             arm_5_3:;
                 if (load8(slot + SLOT_HAS_PAIR) != 1) {
@@ -3188,25 +3184,22 @@ arm_2_2:;
             store64(r11, load64(r11) | ((uint64_t)1 << (index & 63)));
             store64(map + INT_MAP_LEN, r44);
             r40 = 0;
-            value_4 = 0;
+            value_3 = 0;
             goto after_pairs_add_or_insert;
         }
         intmap_add_growing(r12, map, r44, index, key, more);
         if (load8(r12) == 0) {
             r40 = 0;
-            value_4 = 0;
+            value_3 = 0;
             goto after_pairs_add_or_insert;
         }
         x23 = ((load64(r12 + 16) & 255) == 0) ? NO_MEMORY : TOO_LARGE;
     }
     r40 = x23;
-    value_4 = 0;
+    value_3 = 0;
 after_pairs_add_or_insert:;
     store64(handle, map_address_2);
-    value = value_4;
-    r19 = r40;
-after_pairs_intmap_add_or_insert:;
-    return made_word_word(value, r19);
+    return made_word_word(value_3, r40);
 }
 
 // Finds the key, or inserts the pair if the key is absent, and returns whether the key was present.
@@ -3383,10 +3376,8 @@ after_pairs_find_or_insert:;
 // Inserts the pair of the key and the value at the end of its slot, and returns the value before.
 // intmap_insert, in crates/intmap_c/src/pairs.rt
 static ALWAYS_INLINE struct word_word do_intmap_insert(char *handle, uint64_t key, uint64_t value) {
-    uint64_t r6, r19, map_address_2, index, r5, spec_select1, len, x20;
-    char *map, *slot;
-    uint8_t has_pair;
-    bool x4;
+    char *map;
+    uint64_t r5, spec_select1, len, x20;
     uint64_t r0_room[3];
     char *r0 = (char *)r0_room;
     uint64_t r0_2_room[3];
@@ -3398,19 +3389,17 @@ static ALWAYS_INLINE struct word_word do_intmap_insert(char *handle, uint64_t ke
     if (map_address == 0) {
         struct byte_address r15 = handle_make_first();
         if (r15.first == 0) {
-            r6 = 0;
-            r19 = NO_MEMORY;
-            goto after_pairs_intmap_insert;
+            return made_word_word(0, NO_MEMORY);
         }
         map = r15.second;
     } else {
         map = (char *)(uintptr_t)map_address;
     }
-    map_address_2 = (uint64_t)(uintptr_t)map;
-    index = load64(map + INT_MAP_MASK) & (key * MULTIPLIER);
-    slot = load_address(map + INT_MAP_SLOTS) + (index * SLOT_SIZE);
-    has_pair = load8(slot + SLOT_HAS_PAIR);
-    x4 = has_pair == 1;
+    uint64_t map_address_2 = (uint64_t)(uintptr_t)map;
+    uint64_t index = load64(map + INT_MAP_MASK) & (key * MULTIPLIER);
+    char *slot = load_address(map + INT_MAP_SLOTS) + (index * SLOT_SIZE);
+    uint8_t has_pair = load8(slot + SLOT_HAS_PAIR);
+    bool x4 = has_pair == 1;
     if (x4) {
         uint64_t r0_3;
         uint16_t high = load16(slot + SLOT_HIGH);
@@ -3596,10 +3585,7 @@ arm_2_2:;
     spec_select1 = x20;
 after_pairs_insert:;
     store64(handle, map_address_2);
-    r6 = r5;
-    r19 = spec_select1;
-after_pairs_intmap_insert:;
-    return made_word_word(r6, r19);
+    return made_word_word(r5, spec_select1);
 }
 
 // Makes slots for the pairs and `additional` more, and returns `OK`.
