@@ -244,6 +244,22 @@ class PlainList:
                 raise NoMemory
             self.grow(1 << (wanted - 1).bit_length())
 
+    def reserve_pairs(self, additional, refuses, sharing=0):
+        """There are as many slots as so many pairs more want, and nodes for so many of them."""
+        length = len(self.pairs) + additional
+        if length > GREATEST:
+            raise TooLarge
+        slots = self.wanted(length, self.factor)
+        nodes = self.further() + sharing
+        if slots > self.slots or nodes > self.room:
+            if refuses or max(slots, nodes) > 2**40:
+                raise NoMemory
+        if slots > self.slots:
+            self.grow(slots, sharing)
+        elif nodes > self.room:
+            self.room = nodes
+            self.asked += self.nodes()
+
     def set_load_factor(self, factor, refuses):
         slots = self.wanted(len(self.pairs), factor)
         if slots > self.slots:
@@ -521,6 +537,8 @@ CALLS = {
     ("retain_alternate", 0): lambda it, _: retain_alternate(it),
     ("retain_all", 0): lambda it, _: retain_all(it),
     ("reserve", 1): lambda it, refuses, n: it.reserve(n, refuses) or "done",
+    ("reserve_pairs", 1): lambda it, refuses, n: it.reserve_pairs(n, refuses) or "done",
+    ("reserve_insertions", 1): lambda it, refuses, n: it.reserve_pairs(n, refuses, n) or "done",
     ("set_load_factor", 1): lambda it, refuses, n: it.set_load_factor(n, refuses) or "done",
     ("get_load_factor", 0): lambda it, _: str(it.factor),
     ("len", 0): lambda it, _: str(len(it.pairs)),

@@ -380,6 +380,8 @@ SET_CALLS = {
     ("remove", 1): lambda it, _, k: truth(it.set.remove(k) is not None),
     ("contains", 1): lambda it, _, k: truth(k in it.set.place_of),
     ("reserve", 1): lambda it, refuses, n: it.set.reserve(n, refuses) or "done",
+    ("reserve_members", 1): lambda it, refuses, n: it.set.reserve_pairs(n, refuses) or "done",
+    ("reserve_insertions", 1): lambda it, refuses, n: it.set.reserve_pairs(n, refuses, n) or "done",
     ("clear", 0): lambda it, _: it.set.clear() or "done",
     ("retain_odd", 0): lambda it, _: it.set.retain(lambda key, _: key % 2) or "done",
     ("retain_above", 1): lambda it, _, n: it.set.retain(lambda key, _: key > n) or "done",

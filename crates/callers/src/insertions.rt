@@ -1,5 +1,5 @@
 //! Insertions of many pairs, insertions that never fail, and pairs that wait after a failure.
-ghost use Rattle.std.specs.Prelude.{[], ◌++◌, ◌+◌, ◌<◌, ◌^◌, ◌∷◌, ◌≡◌, ◌≤◌, All, IfErr, IfOk, List, None, OnErr, OnOk, Some, ℕ, length, reverse, true, vec_capacity};
+ghost use Rattle.std.specs.Prelude.{[], ◌++◌, ◌+◌, ◌<◌, ◌^◌, ◌∷◌, ◌≡◌, ◌≤◌, All, IfErr, IfOk, List, None, OnErr, OnOk, Some, ℕ, cond, length, nat_lt, reverse, true, vec_capacity};
 ghost use Rattle.std.specs.Option.{option_or};
 ghost use Rattle.intmap.specs.Bindings.{HasDistinctKeys, Updates, value_of};
 ghost use Rattle.intmap.specs.Growth.{IsNext, MeetsLoad};
@@ -105,11 +105,48 @@ pub fn insert_small<A: Allocator + Copy>(map: &mut IntMap<u64, u64, A>, key: u64
     ensures capacity { map.new.capacity ≡ map.old.capacity }
     ensures updates { Updates (λ k. k) map.old.walk map.new.walk key (Some value) }
     ensures len { length map.new.walk ≡ length map.old.walk + 1 }
+    ensures factor { map.new.factor ≡ map.old.factor }
 {
     laws::met_loads_keep_capacity();
     laws::small_new_keys_are_alone::<u64, u64>();
     let _pairs = map.len();
     insert_alone(map, key, value);
+}
+
+/// Counters with the numbers from 0 to `n` - 1, all of which are 0.
+///
+/// It fails only before the first of them is inserted: if the map can't be made, or the room for all.
+pub fn counters<A: Allocator + Copy>(alloc: A, n: usize) -> Result<IntMap<u64, u64, A>, Cause>
+    ensures { IfOk result (λ map. (q : ℕ)
+        → value_of (λ k. k) map.walk q ≡ cond (nat_lt q n) (Some 0) None) }
+{
+    let mut map = IntMap::new(alloc)?;
+    map.reserve_pairs(n)?;
+    for number in 0..n {
+        insert_next(&mut map, number, n);
+    }
+    Ok(map)
+}
+
+/// Inserts the counter that follows the others, where `n` counters meet the load. It never fails.
+fn insert_next<A: Allocator + Copy>(map: &mut IntMap<u64, u64, A>, number: usize, n: usize)
+    requires below { number < n }
+    requires len { length map.old.walk ≡ number }
+    requires values { (q : ℕ)
+        → value_of (λ k. k) map.old.walk q ≡ cond (nat_lt q number) (Some 0) None }
+    requires room { MeetsLoad map.old.capacity n map.old.factor }
+    requires small { map.old.factor < 1000 }
+    ensures len { length map.new.walk ≡ number + 1 }
+    ensures values { (q : ℕ)
+        → value_of (λ k. k) map.new.walk q ≡ cond (nat_lt q (number + 1)) (Some 0) None }
+    ensures room { MeetsLoad map.new.capacity n map.new.factor }
+    ensures small { map.new.factor < 1000 }
+{
+    laws::fewer_pairs_meet_loads();
+    laws::met_loads_leave_slots();
+    laws::present_keys_are_below::<u64, u64>();
+    let _capacity = map.capacity();
+    insert_small(map, number as u64, 0);
 }
 
 /// Inserts the pair of a key that is alone in its slot, at a length that leaves the capacity. It
@@ -123,7 +160,8 @@ fn insert_alone<K: IntKey, V: Drop, A: Allocator + Copy>(
     requires stays { IsNext map.old.capacity (length map.old.walk + 1) map.old.factor
         map.old.capacity }
     requires count { length map.old.walk + 1 < 2 ^ 64 }
-    ensures { IsInsertion K.number_of K.is_valid map.old key value map.new }
+    ensures inserted { IsInsertion K.number_of K.is_valid map.old key value map.new }
+    ensures factor { map.new.factor ≡ map.old.factor }
 {
     match map.insert(key, value) {
         Ok(_old) => (),

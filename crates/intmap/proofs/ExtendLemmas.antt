@@ -90,9 +90,9 @@ abbrev pub refusal_of : (T : Type 0) → Cause → Result T Cause
 refusal_of T cause = Err cause
 
 -- the cause of a map that could not be made with so many slots
-pub cause-of_slots : {T : Type 0} (cause : Cause) (b : ℕ) → ((refusal_of T cause) ≡ (refusal_of T TooLarge)) ↔ (2 ^ 63 < b) → ((cause ≡ TooLarge) × (2 ^ 63 < b)) ⊎ ((cause ≡ Memory) × (b ≤ 2 ^ 63))
-cause-of_slots TooLarge b large = inl (refl, large.0 refl)
-cause-of_slots Memory b large = elim (cases_lt (2 ^ 63) b) [
+pub cause-with_slots : {T : Type 0} (cause : Cause) (b : ℕ) → ((refusal_of T cause) ≡ (refusal_of T TooLarge)) ↔ (2 ^ 63 < b) → ((cause ≡ TooLarge) × (2 ^ 63 < b)) ⊎ ((cause ≡ Memory) × (b ≤ 2 ^ 63))
+cause-with_slots TooLarge b large = inl (refl, large.0 refl)
+cause-with_slots Memory b large = elim (cases_lt (2 ^ 63) b) [
   | inl more ↦ (let no = large.1 more in cc)
   | inr within ↦ inr (refl, within)
 ]

@@ -28,7 +28,7 @@ use Rattle.intmap.specs.declared.refusal.Cause.TheVariants.{Memory, TooLarge}
 use Rattle.intmap_table.proofs.BindSameLemmas.{value_of-same_number}
 use Rattle.intmap.proofs.CostLemmas.{HasDistinctKeys-tail}
 use Rattle.intmap.proofs.EqualityLemmas.{value_of-rest}
-use Rattle.intmap.proofs.ExtendLemmas.{refusal_of, cause-of_slots, option_or-none, value_of-append}
+use Rattle.intmap.proofs.ExtendLemmas.{refusal_of, cause-with_slots, option_or-none, value_of-append}
 use Rattle.intmap.proofs.JsonLemmas.{Entry}
 
 abbrev pub Pairs : Type 0
@@ -160,7 +160,7 @@ pairs_of (e ∷ es) texts =
 -- a map of so many slots that could not be made
 pub MayRefuseToRead-slots : {T : Type 0} (ms : Members) (cause : Cause) (b : ℕ) → b ≡ members_len ms → (refusal_of T cause ≡ refusal_of T TooLarge) ↔ (2 ^ 63 < b)
     → MayRefuseToRead ms (json_cause cause)
-MayRefuseToRead-slots {T} ms cause b count large = elim (cause-of_slots {T = T} cause b large) [
+MayRefuseToRead-slots {T} ms cause b count large = elim (cause-with_slots {T = T} cause b large) [
   | inl more ↦ inl (ap json_cause more.0, inl (subst (λ n. 2 ^ 63 < n) count more.1))
   | inr within ↦ inr (ap json_cause within.0, subst (λ n. n ≤ 2 ^ 63) count within.1)
 ]

@@ -1,5 +1,5 @@
 -- Pairs for which a table has room are inserted in turn, and none fails.
-use Rattle.std.proofs.Common.{◌≡◌, ℕ, ◌+◌, ◌<◌, ◌≤◌, cond, List, [], ◌∷◌, ◌++◌, length, get_or, None, refl, sym, ap, ◌∙◌, append_assoc, arith}
+use Rattle.std.proofs.Common.{◌≡◌, ℕ, ◌+◌, ◌^◌, ◌<◌, ◌≤◌, cond, List, [], ◌∷◌, ◌++◌, length, get_or, None, refl, sym, ap, ◌∙◌, append_assoc, arith}
 use Rattle.std.specs.Prelude.{All}
 use Rattle.std.proofs.lemmas.List.{length-append}
 use Rattle.std.proofs.lemmas.List.Elements.{All-nil, All-cons, All-head, All-tail}
@@ -12,17 +12,17 @@ use Rattle.intmap_table.specs.Reach.{class_size}
 use Rattle.intmap_table.specs.Walk.{walk_of}
 use Rattle.intmap_table.proofs.DistinctLemmas.{length-walk_of}
 use Rattle.intmap_table.proofs.PositionLemmas.{position-from_none, swap_out-none}
-use Rattle.intmap_table.proofs.SlotNumberLemmas.{slot_number-below}
+use Rattle.intmap_table.proofs.SlotNumberLemmas.{capacity-positive, slot_number-below}
 use Rattle.intmap_table.proofs.WalkLemmas.{class_size-same, walk_of-walk_of}
 use Rattle.intmap.specs.Extending.{MapInsertsAll}
 use Rattle.intmap.specs.Insertions.{MapInserts}
-use Rattle.intmap.specs.Growth.{IsNext}
-use Rattle.intmap.specs.Map.{MapState, NeedsNoMemory}
+use Rattle.intmap.specs.Growth.{IsNext, MeetsLoad}
+use Rattle.intmap.specs.Map.{MapState, IsMap, NeedsNoMemory}
 use Rattle.intmap.specs.PlainLists.{RefusalIsDue, list_of}
-use Rattle.intmap.specs.Room.{HasRoomFor}
+use Rattle.intmap.specs.Room.{HasRoomFor, HasRoomInRow}
 use Rattle.intmap.specs.declared.refusal.Cause.{Cause}
 use Rattle.intmap.proofs.CostLemmas.{class_size-in_row}
-use Rattle.intmap.proofs.LoadFactorLemmas.{IsNext-unique, IsNext-loaded}
+use Rattle.intmap.proofs.LoadFactorLemmas.{IsNext-unique, IsNext-loaded, IsLoaded-from, MeetsLoad-fewer}
 use Rattle.intmap.proofs.RefusalLemmas.{NeedsNoMemory-never_refused}
 
 module _ {K V : Type 0} (number : K → ℕ) where
@@ -142,3 +142,16 @@ module _ {K V : Type 0} (number : K → ℕ) where
           let part : class_size number ps C q.0 ≡ class_size number front C q.0 + class_size number (q ∷ qs) C q.0 = ap (λ M. class_size number M C q.0) is ∙ class_size-append number front (q ∷ qs) C q.0 in
           let own = class_size-own number C q qs in
           All-cons (λ p. class_size number (L ++ ps) C p.0 ≡ 1) q qs (omega (arith, most, whole, part, own)) (each (front ++ q ∷ []) qs (is ∙ sym (append_assoc front (q ∷ []) qs)))
+
+  -- if the load factor is met with n further pairs, there is room for as many in a row
+  pub HasRoomInRow-met : (is_valid : K → Type 0) (m : MapState K V) (n : ℕ) → IsMap number is_valid m → length m.walk + n < 2 ^ 64 → MeetsLoad m.capacity (length m.walk + n) m.factor
+      → HasRoomInRow number m.walk m.capacity m.factor n
+  HasRoomInRow-met is_valid m n valid fits meets ps few once row =
+      let len = length-append m.walk ps in
+      let some = capacity-positive m.capacity valid.capacity in
+      record {
+        alone = All-alone m.walk m.capacity row.first ps once row.all;
+        count = omega (arith, len, few, fits);
+        load = IsLoaded-from m.capacity (length (m.walk ++ ps)) m.factor some
+            (MeetsLoad-fewer m.capacity (length m.walk + n) (length (m.walk ++ ps)) m.factor some meets (omega (arith, len, few)));
+      }

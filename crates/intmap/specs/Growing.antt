@@ -1,6 +1,6 @@
 -- What a reservation and a new load factor do to a map and to a plain list, and why they fail.
-use Rattle.std.specs.Prelude.{◌≡◌, ◌↔◌, ℕ, ◌+◌, ◌^◌, ◌<◌, ◌≤◌, max, length}
-use Rattle.intmap.specs.Growth.{IsWanted, IsLeastPower, NeedsTooMuch}
+use Rattle.std.specs.Prelude.{◌≡◌, ◌↔◌, ◌⊎◌, ℕ, ◌+◌, ◌^◌, ◌<◌, ◌≤◌, max, length}
+use Rattle.intmap.specs.Growth.{IsWanted, IsLeastPower, MeetsLoad, NeedsTooMuch}
 use Rattle.intmap.specs.Map.{MapState, in_slots}
 use Rattle.intmap.specs.PlainLists.{PlainList}
 use Rattle.intmap.specs.declared.refusal.Cause.{Cause}
@@ -29,10 +29,26 @@ pub record MayRefuseFactor (C n F : ℕ) (cause : Cause) : Type 0 where
   pub too_large : (cause ≡ TooLarge) ↔ NeedsTooMuch (IsWanted C n F)
   pub memory : cause ≡ Memory → IsWanted C n F C → ⊥
 
+-- no room can be made for n pairs in all, at the load factor F: no map has as many, or more than 2^63 slots are needed
+abbrev pub NeedsTooMuchRoom : ℕ → ℕ → ℕ → Type 0
+NeedsTooMuchRoom C n F = (2 ^ 64 ≤ n) ⊎ NeedsTooMuch (IsWanted C n F)
+
+-- the making of room for n pairs in all may fail with this cause: as too large if and only if it can't be made, and for want of memory only
+-- if C slots don't meet the load factor with n pairs
+pub record MayRefuseRoom (C n F : ℕ) (cause : Cause) : Type 0 where
+  pub too_large : (cause ≡ TooLarge) ↔ NeedsTooMuchRoom C n F
+  pub memory : cause ≡ Memory → MeetsLoad C n F → ⊥
+
 module _ {K V : Type 0} (number : K → ℕ) where
   -- a reservation of room for so many further pairs took the map m to n: the same pairs, in slots that are enough for all of them
   pub record IsReservation (m : MapState K V) (additional : ℕ) (n : MapState K V) : Type 0 where
     pub enough : IsEnough m.capacity (length m.walk + additional) n.capacity
+    pub state : n ≡ in_slots number m n.capacity
+
+  -- room was made for so many further pairs, which took the map m to n: the same pairs, in slots that meet its load factor with all of them
+  pub record IsRoomMade (m : MapState K V) (additional : ℕ) (n : MapState K V) : Type 0 where
+    pub count : length m.walk + additional < 2 ^ 64
+    pub meets : MeetsFactor m.capacity (length m.walk + additional) m.factor n.capacity
     pub state : n ≡ in_slots number m n.capacity
 
   -- the load factor F was set, which took the map m to n: the same pairs, in slots that meet F

@@ -1,5 +1,6 @@
 -- Which pairs a table has room for.
 use Rattle.std.specs.Prelude.{◌≡◌, ℕ, ◌+◌, ◌^◌, ◌<◌, ◌≤◌, List, ◌++◌, length, All}
+use Rattle.intmap_table.specs.Bindings.{HasDistinctKeys}
 use Rattle.intmap_table.specs.Reach.{class_size}
 use Rattle.intmap.specs.Growth.{MeetsLoad, last_due}
 
@@ -15,3 +16,7 @@ module _ {K V : Type 0} (number : K → ℕ) where
     pub alone : All (λ p. class_size number (L ++ ps) C p.0 ≡ 1) ps
     pub count : length (L ++ ps) < 2 ^ 64
     pub load : 4 ≤ length (L ++ ps) → MeetsLoad C (last_due (length (L ++ ps))) F
+
+  -- it has room for any n further pairs or fewer whose keys are new, and stand with its own in a row no longer than C
+  abbrev pub HasRoomInRow : List (K × V) → ℕ → ℕ → ℕ → Type 0
+  HasRoomInRow L C F n = (ps : List (K × V)) → length ps ≤ n → HasDistinctKeys number (L ++ ps) → AreInRow C (L ++ ps) → HasRoomFor L C F ps

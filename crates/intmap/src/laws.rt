@@ -212,6 +212,16 @@ pub fn met_loads_leave_room<K: IntKey, V>()
         → NeedsNoMemory K.number_of L C F k }
 {}
 
+/// Where a number of pairs meets the load, so does each smaller one.
+pub fn fewer_pairs_meet_loads()
+    ensures { (C m n F : ℕ) → IsCapacity C → MeetsLoad C n F → m ≤ n → MeetsLoad C m F }
+{}
+
+/// With a load factor below 1, there are more slots than pairs where the pairs meet the load.
+pub fn met_loads_leave_slots()
+    ensures { (C n F : ℕ) → IsCapacity C → F < 1000 → MeetsLoad C n F → n < C }
+{}
+
 /// If all keys have numbers below the capacity, an absent key with such a number shares its slot
 /// with none.
 pub fn small_new_keys_are_alone<K: IntKey, V>()

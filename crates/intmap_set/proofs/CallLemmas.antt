@@ -1,19 +1,20 @@
 -- What a call leaves of the map and returns, as the set shows it.
-use Rattle.std.proofs.Common.{◌≡◌, ◌∙◌, ℕ, ◌+◌, Bool, true, false, cond, Some, refl, sym, ap, subst, length}
-use Rattle.std.specs.Prelude.{not, is_none, Result, Ok, Err, IfErr, OnErr, IsErrAnd, MatchBool}
+use Rattle.std.proofs.Common.{◌≡◌, ◌∙◌, ℕ, ◌+◌, ◌^◌, ◌<◌, Bool, true, false, cond, Some, refl, sym, ap, subst, length}
+use Rattle.std.specs.Prelude.{◌↔◌, not, is_none, Result, Ok, Err, IfErr, OnErr, IsErrAnd, MatchBool}
 use Rattle.std.proofs.lemmas.Map.Entries.{length-keys_of}
 use Rattle.intmap.specs.declared.refusal.Cause.{Cause}
 use Rattle.intmap.specs.Bindings.{value_of}
 use Rattle.intmap.specs.Insertions.{IsInsertion}
 use Rattle.intmap.specs.PlainLists.{RefusalIsDue, list_of}
 use Rattle.intmap.specs.Growing as of_map
-use Rattle.intmap.specs.Growing.{IsEnough, MayRefuseReserve}
+use Rattle.intmap.specs.Growing.{IsEnough, MayRefuseReserve, MayRefuseRoom, MeetsFactor, NeedsTooMuchRoom}
 use Rattle.intmap.specs.Map.{MapState, NeedsNoMemory, after_search, after_insert, after_remove, in_slots}
 use Rattle.intmap.specs.Reach.{reach}
+use Rattle.intmap.specs.Room.{HasRoomInRow}
 use Rattle.intmap.specs.Walk.{ArePassed}
 use Rattle.intmap_set.specs.Sets.{SetState, as_map, load_factor, looked_up, paired, set_of}
 use Rattle.intmap_set.specs.Extending.{Inserts}
-use Rattle.intmap_set.specs.Growing.{IsReservation}
+use Rattle.intmap_set.specs.Growing.{IsReservation, IsRoomMade}
 use Rattle.intmap_set.proofs.MemberLemmas.{Updates-seen, as_map-seen, holds-seen, length-seen, not-is_none, set_of-as_map}
 
 -- what holds, holds on an error
@@ -45,6 +46,24 @@ module _ {K : Type 0} (number : K → ℕ) (m n : MapState K (Unit {0})) (s : Se
   -- and why that fails is why the set does
   pub MayRefuseReserve-seen : (d : ℕ) (r : Result (Unit {0}) Cause) → IfErr r (MayRefuseReserve m.capacity (length m.walk + d)) → IfErr r (MayRefuseReserve s.capacity (length s.walk + d))
   MayRefuseReserve-seen d r = subst (λ (t : ℕ × ℕ). IfErr r (MayRefuseReserve t.0 (t.1 + d))) (λ i. ((seen i).capacity, length-seen m s seen i))
+
+  -- so is the making of room
+  pub IsRoomMade-seen : (d : ℕ) → of_map.IsRoomMade number m d n → IsRoomMade number s d (set_of n)
+  IsRoomMade-seen d did = record {
+    count = subst (λ k. k + d < 2 ^ 64) (length-seen m s seen) did.count;
+    meets = subst (λ (t : ℕ × ℕ × ℕ). MeetsFactor t.0 (t.1 + d) t.2 n.capacity) (λ i. ((seen i).capacity, length-seen m s seen i, kept i)) did.meets;
+    state = in_slots-seen did.state;
+  }
+
+  pub MayRefuseRoom-seen : (d : ℕ) (r : Result (Unit {0}) Cause) → IfErr r (MayRefuseRoom m.capacity (length m.walk + d) m.factor) → IfErr r (MayRefuseRoom s.capacity (length s.walk + d) load_factor)
+  MayRefuseRoom-seen d r = subst (λ (t : ℕ × ℕ × ℕ). IfErr r (MayRefuseRoom t.0 (t.1 + d) t.2)) (λ i. ((seen i).capacity, length-seen m s seen i, kept i))
+
+  pub NeedsTooMuchRoom-seen : (d : ℕ) {P : Type 0} → P ↔ NeedsTooMuchRoom m.capacity (length m.walk + d) m.factor → P ↔ NeedsTooMuchRoom s.capacity (length s.walk + d) load_factor
+  NeedsTooMuchRoom-seen d {P} = subst (λ (t : ℕ × ℕ × ℕ). P ↔ NeedsTooMuchRoom t.0 (t.1 + d) t.2) (λ i. ((seen i).capacity, length-seen m s seen i, kept i))
+
+  -- room in the map is room in the set
+  pub HasRoomInRow-seen : (d : ℕ) → HasRoomInRow number m.walk m.capacity m.factor d → HasRoomInRow number (paired s.walk) s.capacity load_factor d
+  HasRoomInRow-seen d = subst (λ x. HasRoomInRow number x.walk x.capacity x.factor d) (as_map-seen m s seen kept)
 
   -- slots without a member are slots without a pair
   pub ArePassed-seen : (i : ℕ) → ArePassed number m.walk m.capacity i → ArePassed number (paired s.walk) s.capacity i

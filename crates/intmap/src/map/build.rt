@@ -44,7 +44,7 @@ impl<K: IntKey, V: Drop, A: Allocator + Copy> IntMap<K, V, A> {
         ensures memory { IfErr result (λ cause. cause ≡ Cause.Memory) }
         ensures valid { IfOk result (IsMap K.number_of K.is_valid) }
     {
-        IntMap::with_slots(alloc, FIRST_CAPACITY)
+        IntMap::of_slots(alloc, FIRST_CAPACITY)
     }
 
     /// An empty map with a load factor of 909 thousandths. Its number of slots is the least power
@@ -67,11 +67,11 @@ impl<K: IntKey, V: Drop, A: Allocator + Copy> IntMap<K, V, A> {
         if capacity > GREATEST_CAPACITY {
             return Err(Cause::TooLarge);
         }
-        IntMap::with_slots(alloc, capacity.max(LEAST_CAPACITY).next_power_of_two())
+        IntMap::of_slots(alloc, capacity.max(LEAST_CAPACITY).next_power_of_two())
     }
 
     /// An empty map of `slots` slots. It fails only if an allocation fails.
-    fn with_slots(alloc: A, slots: usize) -> Result<IntMap<K, V, A>, Cause>
+    fn of_slots(alloc: A, slots: usize) -> Result<IntMap<K, V, A>, Cause>
         requires { IsCapacity slots }
         ensures state { IfOk result (λ made. made ≡ empty_map slots) }
         ensures memory { IfErr result (λ cause. cause ≡ Cause.Memory) }

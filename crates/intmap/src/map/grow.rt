@@ -1,8 +1,10 @@
 //! The capacity and the load factor, as callers set them.
-ghost use Rattle.std.specs.Prelude.{◌≡◌, ◌+◌, length, IfErr, OnOk, OnErr};
+ghost use Rattle.std.specs.Prelude.{◌≡◌, ◌↔◌, ◌+◌, ◌≤◌, length, Err, IfErr, IsOk, OnOk, OnErr};
 ghost use Rattle.intmap_table.specs.Bindings.{value_of};
-ghost use Rattle.intmap.specs.Growing.{IsReservation, IsNewFactor, MayRefuseReserve, MayRefuseFactor};
-ghost use Rattle.intmap.specs.Map.{IsMap};
+ghost use Rattle.intmap.specs.Growing.{IsReservation, IsNewFactor, IsRoomMade, MayRefuseReserve, MayRefuseFactor, MayRefuseRoom, MeetsFactor, NeedsTooMuchRoom};
+ghost use Rattle.intmap.specs.Growth.{IsWanted, MeetsLoad, NeedsTooMuch};
+ghost use Rattle.intmap.specs.Map.{IsMap, in_slots};
+ghost use Rattle.intmap.specs.Room.{HasRoomInRow};
 
 use crate::load::{GREATEST_CAPACITY, threshold_of, wanted_capacity};
 use crate::map::IntMap;
@@ -45,11 +47,80 @@ impl<K: IntKey, V: Drop, A: Allocator + Copy> IntMap<K, V, A> {
         }
         let slots = (self.len + additional).next_power_of_two();
         let capacity = slots.max(self.table.capacity());
-        if self.table.grow_to(capacity).is_err() {
+        if self.table.grow_to(capacity, 0).is_err() {
             return Err(Cause::Memory);
         }
         self.threshold = threshold_of(capacity, self.factor);
         Ok(())
+    }
+
+    /// Makes room for `additional` pairs more: at once, whatever the length is, the capacity becomes
+    /// the least of itself and its doublings at which as many pairs more meet the load factor. The
+    /// next `additional` insertions of absent keys then leave the capacity, as long as the load
+    /// factor stays.
+    ///
+    /// Keys that follow one another, such as ids, are then inserted without failure: each has a slot
+    /// of its own, as long as they and the keys of the map lie within as many numbers in a row as
+    /// there are slots. The insertion of a key whose slot holds a pair may allocate, and fail:
+    /// [`reserve_insertions`](IntMap::reserve_insertions) makes room for such keys too.
+    ///
+    /// It fails with [`Cause::TooLarge`] if and only if there would be more than 2^64 - 1 pairs, or
+    /// no capacity up to 2^63 meets the load factor, and otherwise with [`Cause::Memory`] if an
+    /// allocation fails. It never fails if the present capacity meets the load factor. A failed
+    /// call leaves the map as it was.
+    ///
+    /// ```text
+    /// let mut map: IntMap<u64, char> = IntMap::with_capacity(alloc, 16)?;
+    /// map.reserve_pairs(15)?;
+    /// // 15 pairs in 16 slots are 937 thousandths
+    /// map.capacity()    // 32
+    /// map.reserve_pairs(29)?;
+    /// map.capacity()    // 32
+    /// ```
+    pub fn reserve_pairs(&mut self, additional: usize) -> Result<(), Cause>
+        ensures reserved { OnOk result (IsRoomMade K.number_of self.old additional self.new) }
+        ensures room { OnOk result (HasRoomInRow K.number_of self.new.walk self.new.capacity
+            self.new.factor additional) }
+        ensures err { OnErr result (self.new ≡ self.old) }
+        ensures refused { IfErr result (MayRefuseRoom self.old.capacity
+            (length self.old.walk + additional) self.old.factor) }
+        ensures updates { (q : K)
+            → value_of K.number_of self.new.walk q ≡ value_of K.number_of self.old.walk q }
+        ensures len { length self.new.walk ≡ length self.old.walk }
+        ensures valid { IsMap K.number_of K.is_valid self.old }
+        ensures valid_after { IsMap K.number_of K.is_valid self.new }
+    {
+        self.make_room(additional, 0)
+    }
+
+    /// Makes room for `additional` insertions of any keys: the slots that
+    /// [`reserve_pairs`](IntMap::reserve_pairs) makes, and memory for as many pairs that share a slot
+    /// with another. The next `additional` insertions of absent keys then allocate nothing, so none
+    /// of them fails, as long as no call but insertions, removals and look-ups changes the map.
+    ///
+    /// It fails as [`reserve_pairs`](IntMap::reserve_pairs) does, and also, with [`Cause::Memory`],
+    /// if the memory for pairs that share a slot is refused. A failed call leaves the map as it was.
+    /// That the insertions don't fail is tested, not proved: contracts don't see this memory.
+    ///
+    /// ```text
+    /// let mut map: IntMap<u64, char> = IntMap::new(alloc)?;
+    /// map.reserve_insertions(100)?;
+    /// map.capacity()    // 128
+    /// ```
+    pub fn reserve_insertions(&mut self, additional: usize) -> Result<(), Cause>
+        ensures reserved { OnOk result (IsRoomMade K.number_of self.old additional self.new) }
+        ensures room { OnOk result (HasRoomInRow K.number_of self.new.walk self.new.capacity
+            self.new.factor additional) }
+        ensures err { OnErr result (self.new ≡ self.old) }
+        ensures too_large { (result ≡ Err Cause.TooLarge) ↔ NeedsTooMuchRoom self.old.capacity
+            (length self.old.walk + additional) self.old.factor }
+        ensures updates { (q : K)
+            → value_of K.number_of self.new.walk q ≡ value_of K.number_of self.old.walk q }
+        ensures len { length self.new.walk ≡ length self.old.walk }
+        ensures valid { IsMap K.number_of K.is_valid self.old }
+        ensures valid_after { IsMap K.number_of K.is_valid self.new }
+    {
+        self.make_room(additional, additional)
     }
 
     /// Sets the load factor, in thousandths: the greatest number of pairs for each slot at the
@@ -79,10 +150,54 @@ impl<K: IntKey, V: Drop, A: Allocator + Copy> IntMap<K, V, A> {
         ensures valid { IsMap K.number_of K.is_valid self.old }
         ensures valid_after { IsMap K.number_of K.is_valid self.new }
     {
-        let Some(capacity) = wanted_capacity(self.len, self.table.capacity(), thousandths) else {
+        self.fit(self.len, thousandths, 0)
+    }
+
+    /// Makes the slots that meet the load factor with `additional` pairs more, and room for `sharing`
+    /// more pairs that share a slot with another.
+    fn make_room(&mut self, additional: usize, sharing: usize) -> Result<(), Cause>
+        ensures reserved { OnOk result (IsRoomMade K.number_of self.old additional self.new) }
+        ensures room { OnOk result (HasRoomInRow K.number_of self.new.walk self.new.capacity
+            self.new.factor additional) }
+        ensures err { OnErr result (self.new ≡ self.old) }
+        ensures too_large { (result ≡ Err Cause.TooLarge) ↔ NeedsTooMuchRoom self.old.capacity
+            (length self.old.walk + additional) self.old.factor }
+        ensures free { sharing ≡ 0 → MeetsLoad self.old.capacity
+            (length self.old.walk + additional) self.old.factor → result ≡ Err Cause.Memory → ⊥ }
+        ensures updates { (q : K)
+            → value_of K.number_of self.new.walk q ≡ value_of K.number_of self.old.walk q }
+        ensures len { length self.new.walk ≡ length self.old.walk }
+        ensures valid { IsMap K.number_of K.is_valid self.old }
+        ensures valid_after { IsMap K.number_of K.is_valid self.new }
+    {
+        let Some(pairs) = self.len.checked_add(additional) else {
             return Err(Cause::TooLarge);
         };
-        if self.table.grow_to(capacity).is_err() {
+        self.fit(pairs, self.factor, sharing)
+    }
+
+    /// Makes the slots in which `pairs` pairs meet this load factor, and sets it. It also makes room
+    /// for `sharing` more pairs that share a slot with another.
+    fn fit(&mut self, pairs: usize, thousandths: usize, sharing: usize) -> Result<(), Cause>
+        requires { length self.old.walk ≤ pairs }
+        ensures meets { OnOk result
+            (MeetsFactor self.old.capacity pairs thousandths self.new.capacity) }
+        ensures state { OnOk result (self.new ≡ in_slots K.number_of
+            (record self.old { factor = thousandths }) self.new.capacity) }
+        ensures err { OnErr result (self.new ≡ self.old) }
+        ensures too_large { (result ≡ Err Cause.TooLarge)
+            ↔ NeedsTooMuch (IsWanted self.old.capacity pairs thousandths) }
+        ensures updates { (q : K)
+            → value_of K.number_of self.new.walk q ≡ value_of K.number_of self.old.walk q }
+        ensures len { length self.new.walk ≡ length self.old.walk }
+        ensures free { sharing ≡ 0 → MeetsLoad self.old.capacity pairs thousandths → IsOk result }
+        ensures valid { IsMap K.number_of K.is_valid self.old }
+        ensures valid_after { IsMap K.number_of K.is_valid self.new }
+    {
+        let Some(capacity) = wanted_capacity(pairs, self.table.capacity(), thousandths) else {
+            return Err(Cause::TooLarge);
+        };
+        if self.table.grow_to(capacity, sharing).is_err() {
             return Err(Cause::Memory);
         }
         self.factor = thousandths;

@@ -1,11 +1,12 @@
 //! New sets, and the insertion of a key.
 ghost use Rattle.std.specs.Prelude.{◌≡◌, ◌↔◌, ◌+◌, ◌^◌, ◌<◌, max, length, not, Err, IfOk, IfErr, OnOk, OnErr, IsOk, MatchBool};
-ghost use Rattle.intmap.specs.Growing.{MayRefuseReserve};
+ghost use Rattle.intmap.specs.Growing.{MayRefuseReserve, MayRefuseRoom, NeedsTooMuchRoom};
 ghost use Rattle.intmap.specs.Growth.{IsLeastPower};
 ghost use Rattle.intmap.specs.Map.{NeedsNoMemory, after_insert, least_capacity};
 ghost use Rattle.intmap.specs.PlainLists.{RefusalIsDue, list_of};
+ghost use Rattle.intmap.specs.Room.{HasRoomInRow};
 ghost use Rattle.intmap_set.specs.Extending.{Inserts};
-ghost use Rattle.intmap_set.specs.Growing.{IsReservation};
+ghost use Rattle.intmap_set.specs.Growing.{IsReservation, IsRoomMade};
 ghost use Rattle.intmap_set.specs.Sets.{IsSet, as_map, empty_set, holds, load_factor, looked_up, paired, set_of};
 
 use crate::set::IntSet;
@@ -114,5 +115,72 @@ impl<K: IntKey, A: Allocator + Copy> IntSet<K, A> {
         ensures valid_after { IsSet K.number_of K.is_valid self.new }
     {
         self.map.reserve(additional)
+    }
+
+    /// Makes room for `additional` members more: at once, whatever the length is, the capacity
+    /// becomes the least of itself and its doublings at which as many members more meet the load
+    /// factor. The next `additional` insertions of new keys then leave the capacity.
+    ///
+    /// Keys that follow one another, such as ids, are then inserted without failure: each has a slot
+    /// of its own, as long as they and the members lie within as many numbers in a row as there are
+    /// slots. The insertion of a key whose slot holds a member may allocate, and fail:
+    /// [`reserve_insertions`](IntSet::reserve_insertions) makes room for such keys too.
+    ///
+    /// It fails with [`Cause::TooLarge`] if and only if there would be more than 2^64 - 1 members,
+    /// or no capacity up to 2^63 meets the load factor, and otherwise with [`Cause::Memory`] if an
+    /// allocation fails. It never fails if the present capacity meets the load factor. A failed
+    /// call leaves the set as it was. Both counts stay.
+    ///
+    /// ```text
+    /// let mut set: IntSet<u64> = IntSet::with_capacity(alloc, 16)?;
+    /// set.reserve_members(15)?;
+    /// // 15 members in 16 slots are 937 thousandths
+    /// set.capacity()    // 32
+    /// ```
+    pub fn reserve_members(&mut self, additional: usize) -> Result<(), Cause>
+        ensures reserved { OnOk result (IsRoomMade K.number_of self.old additional self.new) }
+        ensures room { OnOk result (HasRoomInRow K.number_of (paired self.new.walk)
+            self.new.capacity load_factor additional) }
+        ensures err { OnErr result (self.new ≡ self.old) }
+        ensures refused { IfErr result (MayRefuseRoom self.old.capacity
+            (length self.old.walk + additional) load_factor) }
+        ensures updates { (q : K)
+            → holds K.number_of self.new.walk q ≡ holds K.number_of self.old.walk q }
+        ensures len { length self.new.walk ≡ length self.old.walk }
+        ensures valid { IsSet K.number_of K.is_valid self.old }
+        ensures valid_after { IsSet K.number_of K.is_valid self.new }
+    {
+        self.map.reserve_pairs(additional)
+    }
+
+    /// Makes room for `additional` insertions of any keys: the slots that
+    /// [`reserve_members`](IntSet::reserve_members) makes, and memory for as many members that share a
+    /// slot with another. The next `additional` insertions of new keys then allocate nothing, so none
+    /// of them fails, as long as no call but insertions, removals and look-ups changes the set.
+    ///
+    /// It fails as [`reserve_members`](IntSet::reserve_members) does, and also, with
+    /// [`Cause::Memory`], if the memory for members that share a slot is refused. A failed call
+    /// leaves the set as it was. That the insertions don't fail is tested, not proved: contracts
+    /// don't see this memory.
+    ///
+    /// ```text
+    /// let mut set: IntSet<u64> = IntSet::new(alloc)?;
+    /// set.reserve_insertions(100)?;
+    /// set.capacity()    // 128
+    /// ```
+    pub fn reserve_insertions(&mut self, additional: usize) -> Result<(), Cause>
+        ensures reserved { OnOk result (IsRoomMade K.number_of self.old additional self.new) }
+        ensures room { OnOk result (HasRoomInRow K.number_of (paired self.new.walk)
+            self.new.capacity load_factor additional) }
+        ensures err { OnErr result (self.new ≡ self.old) }
+        ensures too_large { (result ≡ Err Cause.TooLarge) ↔ NeedsTooMuchRoom self.old.capacity
+            (length self.old.walk + additional) load_factor }
+        ensures updates { (q : K)
+            → holds K.number_of self.new.walk q ≡ holds K.number_of self.old.walk q }
+        ensures len { length self.new.walk ≡ length self.old.walk }
+        ensures valid { IsSet K.number_of K.is_valid self.old }
+        ensures valid_after { IsSet K.number_of K.is_valid self.new }
+    {
+        self.map.reserve_insertions(additional)
     }
 }

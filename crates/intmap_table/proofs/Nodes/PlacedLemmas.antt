@@ -9,7 +9,7 @@ use Rattle.intmap_table.specs.Classes.{slot_number}
 use Rattle.intmap_table.specs.Walk.{slot_of}
 use Rattle.intmap_table.specs.Tables.Nodes.{AreHome, further}
 use Rattle.intmap_table.specs.Tables.Rows.{IsGrown}
-use Rattle.intmap_table.specs.Tables.Slots.{joined, IsNextRow}
+use Rattle.intmap_table.specs.Tables.Slots.{joined}
 use Rattle.intmap_table.specs.Tables.Rows.{turned, put_second, IsPlaced}
 use Rattle.intmap_table.proofs.Tables.AroundLemmas.{joined-taken}
 use Rattle.intmap_table.proofs.Tables.GrownLemmas.{slot_of-elsewhere}

@@ -7,6 +7,11 @@ pub OnErr-always : {V E P : Type 0} (r : Result V E) → P → OnErr r P
 OnErr-always (Ok _) p = tt
 OnErr-always (Err _) p = p
 
+-- and if there is none
+pub OnOk-always : {V E P : Type 0} (r : Result V E) → P → OnOk r P
+OnOk-always (Ok _) p = p
+OnOk-always (Err _) p = tt
+
 -- two things that a success ensures
 pub OnOk-both : {V E : Type 0} (r : Result V E) (P Q : Type 0) → OnOk r P → OnOk r Q → OnOk r (P × Q)
 OnOk-both (Ok _) P Q p q = (p, q)

@@ -163,6 +163,25 @@ impl<P, A: Allocator> Pool<P, A> {
     }
 }
 
+impl<P, A: Allocator> Pool<P, A> {
+    /// Makes room for `additional` more pairs.
+    pub(crate) fn reserve(&mut self, additional: usize) -> Result<(), AllocError>
+        ensures nodes { self.new.nodes ≡ self.old.nodes }
+        ensures held { self.new.held ≡ self.old.held }
+        ensures room { OnOk result (additional ≤ self.new.room) }
+        ensures none { OnErr result (self.old.room < additional) }
+    {
+        if additional <= self.spare {
+            return Ok(());
+        }
+        let new = additional - self.spare;
+        if new > NODE_LIMIT - self.nodes.len() {
+            return Err(AllocError);
+        }
+        self.nodes.reserve_exact(new)
+    }
+}
+
 impl<P: Drop, A: Allocator> Pool<P, A> {
     /// Nodes with room for as many pairs, none of which is there yet.
     pub(crate) fn with_room(alloc: A, room: usize) -> Result<Pool<P, A>, AllocError>

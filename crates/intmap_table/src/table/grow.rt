@@ -54,8 +54,9 @@ impl<K: IntKey, X: Drop, A: Allocator + Copy> Table<K, X, A> {
     }
 
     /// Moves all pairs, in the order of the walk, to their slots among `capacity` slots. If the
-    /// table has that many already, it does nothing. If an allocation fails, nothing changes.
-    pub fn grow_to(&mut self, capacity: usize) -> Result<(), AllocError>
+    /// table has that many already, no pair moves. The next `additional` pairs that share a slot with
+    /// another then need no allocation. If an allocation fails, nothing changes.
+    pub fn grow_to(&mut self, capacity: usize, additional: usize) -> Result<(), AllocError>
         requires capacity { IsCapacity capacity }
         requires larger { self.old.capacity ≤ capacity }
         requires count { length self.old.walk < 2 ^ 64 }
@@ -63,11 +64,11 @@ impl<K: IntKey, X: Drop, A: Allocator + Copy> Table<K, X, A> {
             (self.new.walk ≡ walk_of K.number_of self.old.walk capacity) }
         ensures capacity { OnOk result (self.new.capacity ≡ capacity) }
         ensures err { OnErr result (self.new ≡ self.old) }
-        ensures free { self.old.capacity ≡ capacity → IsOk result }
+        ensures free { self.old.capacity ≡ capacity → additional ≡ 0 → IsOk result }
     {
         if capacity == self.slots.len() {
-            return Ok(());
+            return self.slots.reserve(additional);
         }
-        self.slots.grow(capacity, &mut Steps::new())
+        self.slots.grow(capacity, additional, &mut Steps::new())
     }
 }

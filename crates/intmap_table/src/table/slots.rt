@@ -188,13 +188,16 @@ impl<K: IntKey, X, A: Allocator> Slots<K, X, A> {
 }
 
 /// Adds `count` slots without a pair, for which there is room.
-fn add_empty<P, A: Allocator>(slots: &mut Vec<Slot<P>, A>, count: usize)
+fn add_empty<P: Drop, A: Allocator>(slots: &mut Vec<Slot<P>, A>, count: usize)
     requires none { slots.old.items ≡ [] }
     requires room { count ≤ vec_capacity slots.old }
     ensures { slots.new.items ≡ replicate count Empty }
 {
-    for added in 0..count {
-        slots.push_reserved(Slot::empty());
+    let make = || -> Slot<P>
+        ensures { result ≡ Empty }
+    { Slot::empty() };
+    if slots.resize_with(count, make).is_err() {
+        unreachable!();
     }
 }
 

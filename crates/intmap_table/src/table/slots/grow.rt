@@ -156,7 +156,7 @@ impl<K: IntKey, X, A: Allocator> Slots<K, X, A> {
         self.pool.held()
     }
 
-    /// Moves all pairs, slot after slot, to new slots.
+    /// Moves all pairs, slot after slot, to new slots, and leaves none.
     fn move_all(&mut self, new: &mut Slots<K, X, A>, placed: &mut Steps)
         requires grown { IsGrown (length self.old.rows) (length new.old.rows) }
         requires own { (i : ℕ) → i < length self.old.rows
@@ -169,6 +169,7 @@ impl<K: IntKey, X, A: Allocator> Slots<K, X, A> {
         ensures len { length new.new.rows ≡ length new.old.rows }
         ensures room { new.old.room ≤ new.new.room + further self.old.rows }
         ensures counted { placed.new ≡ placed.old + length (joined self.old.rows) }
+        ensures empty { (i : ℕ) → row_at self.new i ≡ [] }
     {
         move_rows(&self.bits, &mut self.slots, &mut self.pool, new, placed);
         self.bits.clear_all();
@@ -191,9 +192,23 @@ impl<K: IntKey, X, A: Allocator> Slots<K, X, A> {
 }
 
 impl<K: IntKey, X: Drop, A: Allocator + Copy> Slots<K, X, A> {
-    /// Moves all pairs, in the order of the walk, to their slots among `capacity` slots. If an
-    /// allocation fails, no pair moves.
-    pub(crate) fn grow(&mut self, capacity: usize, placed: &mut Steps) -> Result<(), AllocError>
+    /// Makes room for `additional` more pairs that share a slot. If an allocation fails, no pair moves.
+    pub(crate) fn reserve(&mut self, additional: usize) -> Result<(), AllocError>
+        ensures rows { self.new.rows ≡ self.old.rows }
+        ensures room { OnOk result (additional ≤ self.new.room) }
+        ensures none { OnErr result (self.old.room < additional) }
+    {
+        self.pool.reserve(additional)
+    }
+
+    /// Moves all pairs, in the order of the walk, to their slots among `capacity` slots, and makes room
+    /// for `additional` more pairs that share a slot. If an allocation fails, no pair moves.
+    pub(crate) fn grow(
+        &mut self,
+        capacity: usize,
+        additional: usize,
+        placed: &mut Steps,
+    ) -> Result<(), AllocError>
         requires grown { IsGrown (length self.old.rows) capacity }
         requires own { (i : ℕ) → i < length self.old.rows
             → All (λ p. slot_number K.number_of p.0 (length self.old.rows) ≡ i)
@@ -201,11 +216,15 @@ impl<K: IntKey, X: Drop, A: Allocator + Copy> Slots<K, X, A> {
         ensures len { OnOk result (length self.new.rows ≡ capacity) }
         ensures rows { OnOk result ((j : ℕ) → j < capacity
             → row_at self.new j ≡ slot_of K.number_of (joined self.old.rows) capacity j) }
+        ensures room { OnOk result (additional ≤ self.new.room) }
         ensures counted { OnOk result (placed.new ≡ placed.old + length (joined self.old.rows)) }
         ensures err { OnErr result (self.new ≡ self.old) }
         ensures none_placed { OnErr result (placed.new ≡ placed.old) }
     {
-        let Ok(mut new) = Slots::new(self.allocator(), capacity, self.further()) else {
+        let Some(room) = self.further().checked_add(additional) else {
+            return Err(AllocError);
+        };
+        let Ok(mut new) = Slots::new(self.allocator(), capacity, room) else {
             return Err(AllocError);
         };
         self.move_all(&mut new, placed);

@@ -6,7 +6,7 @@ use Rattle.std.proofs.iter.runs.Consumers.{total_runs}
 use Rattle.intmap_table.specs.Bindings.{value_of}
 use Rattle.intmap.specs.Extending.{Extends, ExtendsUpTo}
 use Rattle.intmap.specs.Map.{MapState}
-use Rattle.intmap.proofs.ExtendLemmas.{MatchResult-refused, cause-of_slots, option_or-none}
+use Rattle.intmap.proofs.ExtendLemmas.{MatchResult-refused, cause-with_slots, option_or-none}
 use Rattle.intmap.proofs.map.IntMap.from_iter.Goals as goal
 
 pub returns-in_err-map-clause-collects : goal.returns-in_err-map-clause-collects
@@ -15,7 +15,7 @@ returns-in_err-map-clause-collects g c =
       lower,
       c.size_hint-lower.ensures.lower c.requires.ends,
       MatchResult-refused c.from_residual.result _ _ _ c.from_residual.ensures.1
-          (λ cause is. elim (cause-of_slots c.in_err-map.field-0.0 lower c.in_err-map.ensures.too_large) [
+          (λ cause is. elim (cause-with_slots c.in_err-map.field-0.0 lower c.in_err-map.ensures.too_large) [
             | inl large ↦ inl (is ∙ large.0, large.1)
             | inr within ↦ inr (inl (is ∙ within.0, within.1))
           ]),

@@ -59,7 +59,7 @@ returns-then-is_err g c =
         memory = λ _. elim (cases_lt c.self.inside.table.capacity (length c.self.inside.table.walk + c.args.additional)) [
           | inl more ↦ more
           | inr fits ↦ (let low = IsLeastPower-fits _ _ c.self.inside.table.capacity (least g at) c.self.invariant.map.capacity fits in
-              absurd (IsOk-at_err c.grow_to.result refused (c.grow_to.ensures.free (omega (arith, low, most g at)))))
+              absurd (IsOk-at_err c.grow_to.result refused (c.grow_to.ensures.free (omega (arith, low, most g at)) refl)))
         ];
       };
       updates = λ q. refl;

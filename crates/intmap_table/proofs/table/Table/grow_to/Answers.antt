@@ -4,7 +4,7 @@ use Rattle.std.proofs.lemmas.Result.{on_ok_weaker, on_err_weaker}
 use Rattle.intmap_table.specs.Tables.Slots.{joined}
 use Rattle.intmap_table.specs.Tables.Rows.{HasMoved, IsTable}
 use Rattle.intmap_table.proofs.Tables.GrownLemmas.{IsGrown-from}
-use Rattle.intmap_table.proofs.Tables.MemoryLemmas.{OnOk-or, OnOk-both}
+use Rattle.intmap_table.proofs.Tables.MemoryLemmas.{OnOk-always, OnOk-or, OnOk-both}
 use Rattle.intmap_table.proofs.Rows.MovedLemmas.{joined-moved, IsTable-moved}
 use Rattle.intmap_table.proofs.Rows.TableLemmas.{walk_of-joined}
 use Rattle.intmap_table.proofs.table.Table.grow_to.Goals as goal
@@ -18,14 +18,14 @@ moved g c =
 pub returns-then-capacity-len-clause-walk : goal.returns-then-capacity-len-clause-walk
 returns-then-capacity-len-clause-walk g c =
     let own : c.args.capacity ≡ length c.self.inside.slots.rows = c.if-capacity-len.true ∙ c.len.ensures in
-    rw (← c.self.view_is, own) (sym (walk_of-joined g.K.IntKey.number_of c.self.inside.slots.rows c.self.invariant))
+    rw (← c.self.view_is, c.reserve.ensures.rows, own) (OnOk-always c.reserve.result (sym (walk_of-joined g.K.IntKey.number_of c.self.inside.slots.rows c.self.invariant)))
 
 pub grow-requires-clause-grown : goal.grow-requires-clause-grown
 grow-requires-clause-grown g c = IsGrown-from _ _ c.self.invariant.capacity c.requires.capacity (rw (← c.self.view_is) at c.requires.larger)
 
-pub invariant_of-self : goal.invariant_of-self
-invariant_of-self g c =
-    OnOk-or c.grow.result (on_ok_weaker c.grow.result (λ m. IsTable-moved _ _ _ _ m) (moved g (goal.at.invariant_of-self g c).After-grow))
+pub invariant_of-self-2 : goal.invariant_of-self-2
+invariant_of-self-2 g c =
+    OnOk-or c.grow.result (on_ok_weaker c.grow.result (λ m. IsTable-moved _ _ _ _ m) (moved g (goal.at.invariant_of-self-2 g c).After-grow))
     (on_err_weaker c.grow.result (λ same. subst (λ s. IsTable g.K.IntKey.number_of s.rows) (sym same) c.self.invariant) c.grow.ensures.err)
 
 pub returns-clause-walk : goal.returns-clause-walk

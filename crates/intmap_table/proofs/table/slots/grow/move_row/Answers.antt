@@ -1,8 +1,8 @@
-use Rattle.std.proofs.Common.{◌≡◌, ◌<◌, [], length, ap, sym, ◌∙◌, subst, arith}
+use Rattle.std.proofs.Common.{◌≡◌, ◌<◌, length, ap, sym, ◌∙◌, subst, arith}
 use Rattle.std.proofs.lemmas.List.{length-set}
 use Rattle.intmap_table.specs.Classes.{slot_number}
 use Rattle.intmap_table.specs.Walk.{slot_of}
-use Rattle.intmap_table.specs.Tables.Nodes.{row_in, is_empty}
+use Rattle.intmap_table.specs.Tables.Nodes.{row_in}
 use Rattle.intmap_table.proofs.Nodes.DroppedLemmas.{Dropped-start, Dropped-next, Dropped-all}
 use Rattle.intmap_table.proofs.Nodes.PlacedLemmas.{Moving, Moving-first, Moving-next, Moving-end, first-there}
 use Rattle.intmap_table.proofs.table.slots.grow.move_row.Goals as goal

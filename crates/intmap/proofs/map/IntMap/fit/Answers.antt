@@ -2,27 +2,34 @@ use Rattle.std.proofs.Common.{◌≡◌, length, sym, ◌∙◌, arith, refl}
 use Rattle.intmap_table.specs.Walk.{walk_of}
 use Rattle.intmap.specs.Growth.{IsWanted, NeedsTooMuch}
 use Rattle.intmap.proofs.GrowthLemmas.{IsWanted-unique}
-use Rattle.intmap.proofs.LoadFactorLemmas.{not_needed, IsLoaded-from}
+use Rattle.intmap.proofs.LoadFactorLemmas.{not_needed, IsLoaded-from, IsWanted-same, MeetsLoad-fewer}
 use Rattle.intmap_table.proofs.SlotNumberLemmas.{capacity-greatest, capacity-positive}
 use Rattle.intmap.proofs.AfterLemmas.{value_of-in_slots, length-in_slots}
 use Rattle.intmap.proofs.MapLemmas.{IsConsistent-grown, IsOk-at_err}
 use Rattle.intmap_table.proofs.Tables.MemoryLemmas.{OnOk-at, OnErr-at}
-use Rattle.intmap.proofs.map.IntMap.set_load_factor.Goals as goal
-use Rattle.intmap.proofs.map.IntMap.set_load_factor.Goals.{After-is_err, After-threshold_of-self-inside}
+use Rattle.intmap.proofs.map.IntMap.fit.Goals as goal
+use Rattle.intmap.proofs.map.IntMap.fit.Goals.{After-is_err, After-threshold_of-self-inside}
 
 module _ (g : _) (c : After-is_err g) where
-  wanted : IsWanted c.self.inside.table.capacity (length c.self.inside.table.walk) c.args.thousandths c.in-Some.capacity
-  wanted = rw (← c.self.invariant.count) (rw c.capacity.ensures.value at c.in-Some.ensures.wanted)
+  wanted : IsWanted c.self.inside.table.capacity c.args.pairs c.args.thousandths c.in-Some.capacity
+  wanted = rw c.capacity.ensures.value at c.in-Some.ensures.wanted
+
+  -- a capacity up to 2^63 is enough
+  fits : NeedsTooMuch (IsWanted c.self.inside.table.capacity c.args.pairs c.args.thousandths) → ⊥
+  fits much = not_needed _ (IsWanted-unique _ _ _) c.in-Some.capacity wanted (capacity-greatest c.in-Some.capacity c.in-Some.ensures.capacity) much
 
 pub returns-in_default : goal.returns-in_default
 returns-in_default g c =
-    let much : NeedsTooMuch (IsWanted c.self.inside.table.capacity (length c.self.inside.table.walk) c.args.thousandths) = rw (← c.self.invariant.count) (rw c.capacity.ensures.value at c.in_default.ensures.none) in
+    let much : NeedsTooMuch (IsWanted c.self.inside.table.capacity c.args.pairs c.args.thousandths) = rw c.capacity.ensures.value at c.in_default.ensures.none in
     rw (← c.self.view_is) record {
-      set = tt;
+      meets = tt;
+      state = tt;
       err = refl;
-      refused = record { too_large = (λ _. much, λ _. refl); memory = λ e. cc };
+      too_large = (λ _. much, λ _. refl);
       updates = λ q. refl;
       len = refl;
+      free = λ none meets. absurd (not_needed _ (IsWanted-unique _ _ _) c.self.inside.table.capacity (IsWanted-same _ _ _ c.self.invariant.map.capacity meets)
+          (capacity-greatest _ c.self.invariant.map.capacity) much);
       valid = c.self.invariant.map;
       valid_after = c.self.invariant.map;
     }
@@ -32,14 +39,14 @@ returns-then-is_err g c =
     let at = (goal.at.returns-then-is_err g c).After-is_err in
     let refused = sym c.is_err.ensures.value ∙ c.if-is_err.true in
     rw (← c.self.view_is, OnErr-at c.grow_to.result _ refused c.grow_to.ensures.err) record {
-      set = tt;
+      meets = tt;
+      state = tt;
       err = refl;
-      refused = record {
-        too_large = (λ e. cc, λ much. absurd (not_needed _ (IsWanted-unique _ _ _) c.in-Some.capacity (wanted g at) (capacity-greatest c.in-Some.capacity c.in-Some.ensures.capacity) much));
-        memory = λ _ enough. IsOk-at_err c.grow_to.result refused (c.grow_to.ensures.free (IsWanted-unique _ _ _ _ _ enough (wanted g at)));
-      };
+      too_large = (λ e. cc, λ much. absurd (fits g at much));
       updates = λ q. refl;
       len = refl;
+      free = λ none meets. absurd (IsOk-at_err c.grow_to.result refused (c.grow_to.ensures.free
+          (IsWanted-unique _ _ _ _ _ (IsWanted-same _ _ _ c.self.invariant.map.capacity meets) (wanted g at)) none));
       valid = c.self.invariant.map;
       valid_after = c.self.invariant.map;
     }
@@ -55,8 +62,10 @@ pub invariant_of-self-2 : goal.invariant_of-self-2
 invariant_of-self-2 g c =
     let at = (goal.at.invariant_of-self-2 g c).After-is_err in let told = grown g (goal.at.invariant_of-self-2 g c).After-threshold_of-self-inside in
     let cap = c.in-Some.ensures.capacity in
+    let some = capacity-positive c.in-Some.capacity cap in
     IsConsistent-grown _ _ _ _ _ _ _ _ c.self.invariant c.grow_to.new.self.capacity c.args.thousandths _ (rw told.0 cap) (omega arith)
-    (rw told.0 (IsLoaded-from c.in-Some.capacity (length c.self.inside.table.walk) c.args.thousandths (capacity-positive c.in-Some.capacity cap) (wanted g at).meets))
+    (rw told.0 (IsLoaded-from c.in-Some.capacity (length c.self.inside.table.walk) c.args.thousandths some
+    (MeetsLoad-fewer c.in-Some.capacity c.args.pairs (length c.self.inside.table.walk) c.args.thousandths some (wanted g at).meets (rw (← c.self.view_is) at c.requires))))
     (rw told.0 c.threshold_of-self-inside.ensures) told.1
 
 pub returns : goal.returns
@@ -64,14 +73,13 @@ returns g c =
     let at = (goal.at.returns g c).After-is_err in let told = grown g (goal.at.returns g c).After-threshold_of-self-inside in
     let after = (invariant_of-self-2 g c).map in
     rw (← c.self.view_is) record {
-      set = record {
-        meets = rw told.0 (record { in_range = capacity-greatest c.in-Some.capacity c.in-Some.ensures.capacity; wanted = wanted g at });
-        state = rw (← told.1) refl;
-      };
+      meets = rw told.0 (record { in_range = capacity-greatest c.in-Some.capacity c.in-Some.ensures.capacity; wanted = wanted g at });
+      state = rw (← told.1) refl;
       err = tt;
-      refused = tt;
+      too_large = (λ e. cc, λ much. absurd (fits g at much));
       updates = λ q. value_of-in_slots g.K.IntKey.number_of g.K.IntKey.is_valid _ _ _ q after.capacity told.1;
       len = length-in_slots g.K.IntKey.number_of g.K.IntKey.is_valid _ _ _ after.capacity told.1;
+      free = λ none meets. refl;
       valid = c.self.invariant.map;
       valid_after = after;
     }

@@ -2,7 +2,7 @@ use Rattle.std.proofs.Common.{sym, ap, subst, length, lit<}
 use Rattle.intmap_table.specs.Classes.{IsCapacity}
 use Rattle.intmap.specs.Growth.{IsThreshold}
 use Rattle.intmap.proofs.MapLemmas.{IsMapWalk-empty}
-use Rattle.intmap.proofs.map.IntMap.with_slots.Goals as goal
+use Rattle.intmap.proofs.map.IntMap.of_slots.Goals as goal
 
 pub invariant_of-result : goal.invariant_of-result
 invariant_of-result g c = record {
