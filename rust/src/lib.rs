@@ -44,7 +44,8 @@
 //! - `capacity`, `with_capacity(128)` and `reserve(128)` count slots: 128 pairs may double them.
 //!   [`with_room_for`](IntMap::with_room_for) and [`reserve_pairs`](IntMap::reserve_pairs) count
 //!   pairs, [`reserve_members`](IntSet::reserve_members) members. Keys that share a slot still
-//!   allocate.
+//!   allocate. Behind [`reserve_insertions(128)`](IntMap::reserve_insertions) the insertions of 128
+//!   new keys of any kind allocate nothing.
 //! - [`iter_mut`](IntMap::iter_mut) and [`values_mut`](IntMap::values_mut) cost *O*(*n* + *c*) before
 //!   their first step if keys share a slot: [`for_each_mut`](IntMap::for_each_mut) doesn't.
 //! - `new`, `default` and `mem::take` allocate, so no map is a constant. A map that begins with

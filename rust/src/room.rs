@@ -1,8 +1,5 @@
 //! How many slots hold so many pairs, and load factors.
 
-/// The load factor of a new map and of a new set, in thousandths.
-pub(crate) const FIRST_FACTOR: usize = 909;
-
 /// The least capacity of a map or a set.
 pub(crate) const LEAST_SLOTS: usize = 2;
 

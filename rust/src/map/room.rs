@@ -1,16 +1,18 @@
 //! Room for a number of pairs, and memory that is given back.
 use super::IntMap;
 use crate::IntKey;
+use crate::guard::guarded;
 use crate::refusal::{Cause, Refused, granted};
-use crate::room::{FIRST_FACTOR, LEAST_SLOTS, slots_for};
+use crate::room::{LEAST_SLOTS, slots_for};
 
 impl<K: IntKey, V> IntMap<K, V> {
-    /// Returns an empty map with room for so many pairs: the capacity is the least power of two in
-    /// which they meet the load factor of a new map, 0.909. The cost is *O*(*c*).
+    /// Returns an empty map with room for so many pairs: the capacity is the least power of two, from
+    /// 2 on, in which they meet the load factor of a new map, 0.909. The cost is *O*(*c*).
     ///
-    /// Insertions of so many keys then add no slots. Keys that share a slot still allocate. All slots
-    /// are written at once. Where [`try_with_room_for`](Self::try_with_room_for) fails, this call
-    /// panics or ends the process.
+    /// Insertions of so many keys then add no slots. Keys that share a slot still allocate:
+    /// [`reserve_insertions`](Self::reserve_insertions) makes room for them too. All slots are written
+    /// at once. Where [`try_with_room_for`](Self::try_with_room_for) fails, this call panics or ends
+    /// the process.
     ///
     /// ```
     /// let mut map = intmap_proved::IntMap::with_room_for(1000);
@@ -26,24 +28,25 @@ impl<K: IntKey, V> IntMap<K, V> {
     /// The same as [`with_room_for`](Self::with_room_for), but it returns a failure.
     ///
     /// # Errors
-    /// [`Cause::TooLarge`] if more than 2^63 slots are needed, and otherwise [`Cause::Memory`] if
-    /// an allocation fails.
+    /// [`Cause::TooLarge`] if more than 2^63 slots are needed, and [`Cause::Memory`] if an allocation
+    /// fails. The first allocation is that of two slots.
     ///
-    /// Proved in part: it is [`try_with_capacity`](IntMap::try_with_capacity), of a number of slots
-    /// that is computed by hand.
+    /// Proved in part: it is [`try_reserve_pairs`](IntMap::try_reserve_pairs) on a map of two
+    /// slots, which [`try_with_capacity`](IntMap::try_with_capacity) makes.
     pub fn try_with_room_for(pairs: usize) -> Result<IntMap<K, V>, Cause> {
-        Self::try_with_capacity(slots_for(pairs, FIRST_FACTOR))
+        let mut map = Self::try_with_capacity(LEAST_SLOTS)?;
+        map.try_reserve_pairs(pairs)?;
+        Ok(map)
     }
 
-    /// Makes room for `additional` pairs more: the capacity becomes the least power of two in which
-    /// they and the present pairs meet the load factor. A greater capacity stays. The cost is
+    /// Makes room for `additional` pairs more: the capacity becomes the least of itself and its
+    /// doublings in which they and the present pairs meet the load factor. The cost is
     /// *O*(*n* + *c*), or *O*(1) if the capacity stays.
     ///
-    /// Insertions of so many new keys then add no slots. Keys that share a slot still allocate. Ids
-    /// that follow one another share no slot if they and the present keys lie within as many numbers
-    /// in a row as there are slots. It is proved that their insertions can't fail in a map with slots
-    /// enough, and tested that this call makes enough. With a load factor above 1, a map that has too
-    /// few slots gets at least one for each present pair.
+    /// Insertions of so many new keys then add no slots. Ids that follow one another share no slot if
+    /// they and the present keys lie within as many numbers in a row as there are slots. It is proved
+    /// that their insertions then can't fail. Keys that share a slot still allocate:
+    /// [`reserve_insertions`](Self::reserve_insertions) makes room for them too.
     /// Where [`try_reserve_pairs`](Self::try_reserve_pairs) fails, this call panics or ends the process.
     ///
     /// ```
@@ -58,17 +61,56 @@ impl<K: IntKey, V> IntMap<K, V> {
     /// The same as [`reserve_pairs`](Self::reserve_pairs), but it returns a failure.
     ///
     /// # Errors
-    /// Those of [`try_with_room_for`](Self::try_with_room_for). The map then stays as it was.
+    /// [`Cause::TooLarge`] if there would be more than 2^64 - 1 pairs or more than 2^63 slots are
+    /// needed, and otherwise [`Cause::Memory`] if an allocation fails. The map then stays as it was.
+    /// It never fails if the capacity stays.
     ///
-    /// Proved in part: it is [`try_reserve`](IntMap::try_reserve), if there are too few slots. How
-    /// many are enough is computed by hand.
+    /// Proved of `IntMap::reserve_pairs`: `reserved`, `room`, `err`, `refused`, `updates`, `len`.
     pub fn try_reserve_pairs(&mut self, additional: usize) -> Result<(), Cause> {
-        let pairs = self.len().checked_add(additional).ok_or(Cause::TooLarge)?;
-        let slots = slots_for(pairs, self.load_factor_thousandths());
-        if slots <= self.capacity() {
-            return Ok(());
-        }
-        self.try_reserve(slots.saturating_sub(self.len()))
+        guarded!(&mut self.map, |map| map.reserve_pairs(additional))
+    }
+
+    /// Makes room for `additional` insertions of any keys: the slots that
+    /// [`reserve_pairs`](Self::reserve_pairs) makes, and memory for as many pairs that share a slot
+    /// with another. The cost is *O*(*n* + *c*), or *O*(*n*) if the capacity stays.
+    ///
+    /// The next `additional` insertions of absent keys then allocate nothing, so none of them fails, as
+    /// long as no call but insertions, removals and look-ups changes the map. This is tested, not
+    /// proved: contracts don't see the memory of pairs that share a slot.
+    /// Where [`try_reserve_insertions`](Self::try_reserve_insertions) fails, this call panics or ends
+    /// the process.
+    ///
+    /// ```
+    /// let mut map = intmap_proved::IntMap::from([(0u64, 'a')]);
+    /// map.reserve_insertions(100);
+    /// assert_eq!(map.capacity(), 128);
+    /// // 100 keys of the slot of 0
+    /// map.extend((1..=100).map(|key| (key << 32, 'b')));
+    /// assert_eq!((map.capacity(), map.load()), (128, 1));
+    /// ```
+    pub fn reserve_insertions(&mut self, additional: usize) {
+        granted(self.try_reserve_insertions(additional))
+    }
+
+    /// The same as [`reserve_insertions`](Self::reserve_insertions), but it returns a failure.
+    ///
+    /// # Errors
+    /// [`Cause::TooLarge`] if there would be more than 2^64 - 1 pairs or more than 2^63 slots are
+    /// needed, and otherwise [`Cause::Memory`] if an allocation fails. The map then stays as it was.
+    ///
+    /// Proved of `IntMap::reserve_insertions`: `reserved`, `room`, `err`, `too_large`, `updates`,
+    /// `len`.
+    ///
+    /// ```
+    /// use intmap_proved::{Cause, IntMap};
+    ///
+    /// let mut map = IntMap::from([(21u64, 'a')]);
+    /// assert_eq!(map.try_reserve_insertions(usize::MAX), Err(Cause::TooLarge));
+    /// assert_eq!(map.try_reserve_insertions(1 << 60), Err(Cause::Memory));
+    /// assert_eq!(map.capacity(), 2);
+    /// ```
+    pub fn try_reserve_insertions(&mut self, additional: usize) -> Result<(), Cause> {
+        guarded!(&mut self.map, |map| map.reserve_insertions(additional))
     }
 
     /// Makes the capacity the least power of two, from 2 on, in which the pairs meet the load

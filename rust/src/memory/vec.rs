@@ -66,6 +66,15 @@ impl<T, A: Allocator> Vec<T, A> {
         self.items.push(item);
     }
 
+    /// Makes the vector `len` items long: drops those behind, or adds what the closure returns.
+    pub fn resize_with<F: FnMut() -> T>(&mut self, len: usize, make: F) -> Result<(), AllocError> {
+        if len > self.items.len() {
+            self.reserve(len - self.items.len())?;
+        }
+        self.items.resize_with(len, make);
+        Ok(())
+    }
+
     /// Drops all items but the first `len`.
     pub fn truncate(&mut self, len: usize) {
         self.items.truncate(len);

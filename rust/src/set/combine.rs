@@ -1,7 +1,6 @@
 //! Two sets: what they have in common, and what not.
 use super::{Difference, IntSet, Intersection, SymmetricDifference, Union};
 use crate::IntKey;
-use crate::room::{FIRST_FACTOR, slots_for};
 use core::ops::{BitAnd, BitAndAssign, BitOr, BitOrAssign, BitXor, BitXorAssign, Sub, SubAssign};
 
 impl<K: IntKey> IntSet<K> {
@@ -109,7 +108,7 @@ impl<K: IntKey> IntSet<K> {
 
 /// A set of members that has room for so many from the start.
 fn made_of<'a, K: IntKey + 'a>(members: impl Iterator<Item = &'a K>, room: usize) -> IntSet<K> {
-    let mut set = IntSet::with_capacity(slots_for(room, FIRST_FACTOR));
+    let mut set = IntSet::with_room_for(room);
     set.extend(members);
     set
 }

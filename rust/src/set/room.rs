@@ -2,7 +2,7 @@
 use super::{IntSet, guarded};
 use crate::IntKey;
 use crate::refusal::{Cause, granted};
-use crate::room::{FIRST_FACTOR, LEAST_SLOTS, slots_for, thousandths_of};
+use crate::room::{LEAST_SLOTS, slots_for, thousandths_of};
 
 impl<K: IntKey> IntSet<K> {
     /// Returns the number of slots, a power of two from 2 to 2^63. The cost is *O*(1).
@@ -35,10 +35,12 @@ impl<K: IntKey> IntSet<K> {
     /// # Errors
     /// Those of [`IntMap::try_with_room_for`](crate::IntMap::try_with_room_for).
     ///
-    /// Proved in part: it is [`try_with_capacity`](IntSet::try_with_capacity), of a number of slots
-    /// that is computed by hand.
+    /// Proved in part: it is [`try_reserve_members`](IntSet::try_reserve_members) on a set of two
+    /// slots, which [`try_with_capacity`](IntSet::try_with_capacity) makes.
     pub fn try_with_room_for(members: usize) -> Result<IntSet<K>, Cause> {
-        Self::try_with_capacity(slots_for(members, FIRST_FACTOR))
+        let mut set = Self::try_with_capacity(LEAST_SLOTS)?;
+        set.try_reserve_members(members)?;
+        Ok(set)
     }
 
     /// Makes the capacity at least the number of members plus `additional`, as
@@ -83,17 +85,45 @@ impl<K: IntKey> IntSet<K> {
     /// The same as [`reserve_members`](Self::reserve_members), but it returns a failure.
     ///
     /// # Errors
-    /// Those of [`IntMap::try_reserve_pairs`](crate::IntMap::try_reserve_pairs).
+    /// Those of [`IntMap::try_reserve_pairs`](crate::IntMap::try_reserve_pairs). The set then stays
+    /// as it was.
     ///
-    /// Proved in part: it is [`try_reserve`](IntSet::try_reserve), if there are too few slots. How
-    /// many are enough is computed by hand.
+    /// Proved of `IntSet::reserve_members`: `reserved`, `room`, `err`, `refused`, `updates`, `len`.
     pub fn try_reserve_members(&mut self, additional: usize) -> Result<(), Cause> {
-        let members = self.len().checked_add(additional).ok_or(Cause::TooLarge)?;
-        let slots = slots_for(members, self.load_factor_thousandths());
-        if slots <= self.capacity() {
-            return Ok(());
-        }
-        self.try_reserve(slots.saturating_sub(self.len()))
+        guarded!(&mut self.set, |set| set.reserve_members(additional))
+    }
+
+    /// Makes room for `additional` insertions of any keys: the slots that
+    /// [`reserve_members`](Self::reserve_members) makes, and memory for as many members that share a
+    /// slot with another. The cost is *O*(*n* + *c*), or *O*(*n*) if the capacity stays.
+    ///
+    /// The next `additional` insertions of new keys then allocate nothing, so none of them fails, as
+    /// [`IntMap::reserve_insertions`](crate::IntMap::reserve_insertions) says. This is tested, not
+    /// proved. Where [`try_reserve_insertions`](Self::try_reserve_insertions) fails, this call panics
+    /// or ends the process.
+    ///
+    /// ```
+    /// let mut set = intmap_proved::IntSet::from([0u64]);
+    /// set.reserve_insertions(100);
+    /// assert_eq!(set.capacity(), 128);
+    /// // 100 keys of the slot of 0
+    /// set.extend((1..=100).map(|key| key << 32));
+    /// assert_eq!((set.capacity(), set.load()), (128, 1));
+    /// ```
+    pub fn reserve_insertions(&mut self, additional: usize) {
+        granted(self.try_reserve_insertions(additional))
+    }
+
+    /// The same as [`reserve_insertions`](Self::reserve_insertions), but it returns a failure.
+    ///
+    /// # Errors
+    /// Those of [`IntMap::try_reserve_insertions`](crate::IntMap::try_reserve_insertions). The set
+    /// then stays as it was.
+    ///
+    /// Proved of `IntSet::reserve_insertions`: `reserved`, `room`, `err`, `too_large`, `updates`,
+    /// `len`.
+    pub fn try_reserve_insertions(&mut self, additional: usize) -> Result<(), Cause> {
+        guarded!(&mut self.set, |set| set.reserve_insertions(additional))
     }
 
     /// Returns the load factor, as [`IntMap::get_load_factor`](crate::IntMap::get_load_factor).

@@ -35,22 +35,23 @@ fn reserved_pairs_add_no_slots_at_any_load_factor() {
         map.try_set_load_factor_thousandths(factor).expect("an empty map meets it");
         map.extend((0..present).map(|key| (key, ())));
         let (before, text) = (map.capacity(), format!("{present} and {more} at {factor}"));
-        map.reserve_pairs(more);
-        let reserved = map.capacity();
-        if factor <= 1000 {
-            assert_eq!(reserved, before.max(least_slots(present + more, factor)), "{text}");
+        for reserve in [IntMap::reserve_pairs, IntMap::reserve_insertions] {
+            let mut map = map.clone();
+            reserve(&mut map, more);
+            let reserved = before.max(least_slots(present + more, factor));
+            assert_eq!(map.capacity(), reserved, "{text}");
+            map.extend((present..present + more).map(|key| (key, ())));
+            let after = (map.capacity(), map.load_factor_thousandths());
+            assert_eq!(after, (reserved, factor), "{text}");
         }
-        if meets(present + more, factor, before) {
-            assert_eq!(reserved, before, "{text}");
-        }
-        map.extend((present..present + more).map(|key| (key, ())));
-        assert_eq!((map.capacity(), map.load_factor_thousandths()), (reserved, factor), "{text}");
     }
-    let mut set = IntSet::from([0u64, 1]);
-    set.reserve_members(98);
-    assert_eq!(set.capacity(), least_slots(100, 909));
-    set.extend(2..100);
-    assert_eq!(set.capacity(), least_slots(100, 909));
+    for reserve in [IntSet::reserve_members, IntSet::reserve_insertions] {
+        let mut set = IntSet::from([0u64, 1]);
+        reserve(&mut set, 98);
+        assert_eq!(set.capacity(), least_slots(100, 909));
+        set.extend(2..100);
+        assert_eq!(set.capacity(), least_slots(100, 909));
+    }
 }
 
 /// A map after some insertions and removals, with its load factor.
@@ -129,6 +130,10 @@ fn clone_from_makes_what_clone_makes() {
 
 #[test]
 fn more_pairs_than_a_usize_counts_are_too_many() {
-    assert_eq!(IntMap::from([(1u64, 'a')]).try_reserve_pairs(usize::MAX), Err(Cause::TooLarge));
-    assert_eq!(IntSet::from([1u64]).try_reserve_members(usize::MAX), Err(Cause::TooLarge));
+    for reserve in [IntMap::try_reserve_pairs, IntMap::try_reserve_insertions] {
+        assert_eq!(reserve(&mut IntMap::from([(1u64, 'a')]), usize::MAX), Err(Cause::TooLarge));
+    }
+    for reserve in [IntSet::try_reserve_members, IntSet::try_reserve_insertions] {
+        assert_eq!(reserve(&mut IntSet::from([1u64]), usize::MAX), Err(Cause::TooLarge));
+    }
 }

@@ -176,6 +176,8 @@ calls! { ON_ALL: [Call<Map>], |map, list, key|
     "IntMap::try_reserve" = map.try_reserve(9 * size(key)), list.reserve(9 * size(key));
     "IntMap::reserve_pairs" = map.reserve_pairs(size(key)), list.reserve_pairs(size(key));
     "IntMap::try_reserve_pairs" = map.try_reserve_pairs(9 * size(key)), list.reserve_pairs(9 * size(key));
+    "IntMap::reserve_insertions" = map.reserve_insertions(size(key)), list.reserve_pairs(size(key));
+    "IntMap::try_reserve_insertions" = map.try_reserve_insertions(9 * size(key)), list.reserve_pairs(9 * size(key));
     "IntMap::shrink_to" = map.shrink_to(size(key)), list.shrink_to(size(key), store);
     "IntMap::try_shrink_to" = map.try_shrink_to(size(key)), list.shrink_to(size(key), store);
     "IntMap::shrink_to_fit" = map.shrink_to_fit(), list.shrink_to(0, store);
@@ -247,6 +249,8 @@ calls! { SET_ON_ALL: [Call<Set>], |set, list, key|
     "IntSet::try_reserve" = set.try_reserve(9 * size(key)), list.reserve(9 * size(key));
     "IntSet::reserve_members" = set.reserve_members(size(key)), list.reserve_pairs(size(key));
     "IntSet::try_reserve_members" = set.try_reserve_members(9 * size(key)), list.reserve_pairs(9 * size(key));
+    "IntSet::reserve_insertions" = set.reserve_insertions(size(key)), list.reserve_pairs(size(key));
+    "IntSet::try_reserve_insertions" = set.try_reserve_insertions(9 * size(key)), list.reserve_pairs(9 * size(key));
     "IntSet::shrink_to" = set.shrink_to(size(key)), list.shrink_to(size(key), add);
     "IntSet::try_shrink_to" = set.try_shrink_to(size(key)), list.shrink_to(size(key), add);
     "IntSet::shrink_to_fit" = set.shrink_to_fit(), list.shrink_to(0, add);

@@ -44,6 +44,8 @@ const CALLS: &[(&str, u64, Call)] = &[
         map.extend((0..30).map(|key| (Key(key * 5), value.clone())));
     }),
     ("reserve", 14, |map, _| map.reserve(1000)),
+    ("reserve_pairs", 14, |map, _| map.reserve_pairs(1000)),
+    ("reserve_insertions", 14, |map, _| map.reserve_insertions(1000)),
     ("set_load_factor", 14, |map, _| map.set_load_factor(0.1)),
     ("get", 12, |map, _| drop(map.get(Key(64)).cloned())),
     ("remove", 12, |map, _| drop(map.remove(Key(64)))),

@@ -79,3 +79,57 @@ fn a_set_of_keys_that_lie_ends_each_call() {
         assert!(set.iter().count() <= 20_000);
     }
 }
+
+type Growth<T> = (&'static str, fn(&mut T));
+
+/// Keys with which a map of 40 grows.
+fn new_keys() -> impl Iterator<Item = Liar> {
+    (100..160).map(Liar)
+}
+
+const MAP_GROWTHS: [Growth<IntMap<Liar, u64>>; 9] = [
+    ("reserve", |map| map.reserve(300)),
+    ("reserve_pairs", |map| map.reserve_pairs(300)),
+    ("reserve_insertions", |map| map.reserve_insertions(300)),
+    ("set_load_factor", |map| map.set_load_factor(0.1)),
+    ("insert", |map| new_keys().for_each(|key| _ = map.insert(key, 1))),
+    ("insert_checked", |map| new_keys().for_each(|key| _ = map.insert_checked(key, 1))),
+    ("insert_entry", |map| new_keys().for_each(|key| _ = map.entry(key).insert_entry(1))),
+    ("insert of a vacant entry", |map| {
+        for key in new_keys() {
+            if let Entry::Vacant(entry) = map.entry(key) {
+                entry.insert(1);
+            }
+        }
+    }),
+    ("extend", |map| map.extend(new_keys().map(|key| (key, 1)))),
+];
+
+const SET_GROWTHS: [Growth<IntSet<Liar>>; 6] = [
+    ("reserve", |set| set.reserve(300)),
+    ("reserve_members", |set| set.reserve_members(300)),
+    ("reserve_insertions", |set| set.reserve_insertions(300)),
+    ("set_load_factor", |set| set.set_load_factor(0.1)),
+    ("insert", |set| new_keys().for_each(|key| _ = set.insert(key))),
+    ("extend", |set| set.extend(new_keys())),
+];
+
+#[test]
+fn a_panic_in_growth_of_keys_that_lie_leaves_no_slot_marked_that_holds_none() {
+    let mut panics = 0;
+    for place in 1..250 {
+        for (name, grow) in MAP_GROWTHS {
+            let mut map = IntMap::with_capacity(64);
+            map.extend((0..40).map(|key| (Liar(key), key)));
+            panics += u64::from(panics_at(place, || grow(&mut map)));
+            assert_eq!(map.iter().count(), map.len(), "pairs after {name}, place {place}");
+        }
+        for (name, grow) in SET_GROWTHS {
+            let mut set = IntSet::with_capacity(64);
+            set.extend((0..40).map(Liar));
+            panics += u64::from(panics_at(place, || grow(&mut set)));
+            assert_eq!(set.iter().count(), set.len(), "members after {name}, place {place}");
+        }
+    }
+    assert!(panics > 1000, "only {panics} panics");
+}

@@ -14,6 +14,8 @@ thread_local! {
     /// Whether one failed since this was set, and how many bytes were granted before.
     static HAS_FAILED: Cell<bool> = const { Cell::new(false) };
     static GRANTED: Cell<usize> = const { Cell::new(0) };
+    /// The bytes of the last request that failed.
+    static REFUSED: Cell<usize> = const { Cell::new(0) };
     static REQUESTS: Cell<u64> = const { Cell::new(0) };
     static BYTES: Cell<isize> = const { Cell::new(0) };
 }
@@ -24,6 +26,7 @@ fn fails(size: usize) -> bool {
     LEFT.set(left.saturating_sub(1));
     let is_failing = left == 1 || size > MOST.get();
     HAS_FAILED.set(HAS_FAILED.get() || is_failing);
+    REFUSED.set(if is_failing { size } else { REFUSED.get() });
     is_failing
 }
 
@@ -81,6 +84,13 @@ pub fn failing_above<T>(most: usize, call: impl FnOnce() -> T) -> (T, usize) {
     let returned = call();
     MOST.set(usize::MAX);
     (returned, GRANTED.get())
+}
+
+/// Makes the call with each request for more than `most` bytes failing. Returns also the bytes of the
+/// last of these, or 0.
+pub fn refused_above<T>(most: usize, call: impl FnOnce() -> T) -> (T, usize) {
+    REFUSED.set(0);
+    (failing_above(most, call).0, REFUSED.get())
 }
 
 /// Lets each request for more than `most` bytes fail from now on, until a call of [`failing_above`]

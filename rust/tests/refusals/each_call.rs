@@ -32,6 +32,9 @@ const MAP_CALLS: &[(&str, u64, u32, u64, MapCall)] = &[
     ("reserve what is there", 4, 0, 0, |map| map.try_reserve(1)),
     ("reserve_pairs", 4, 0, 2, |map| map.try_reserve_pairs(100)),
     ("reserve_pairs that have room", 4, 0, 0, |map| map.try_reserve_pairs(1)),
+    ("reserve_insertions", 4, 0, 3, |map| map.try_reserve_insertions(100)),
+    ("reserve_insertions in the slots", 4, 0, 1, |map| map.try_reserve_insertions(3)),
+    ("reserve_insertions of none", 4, 0, 0, |map| map.try_reserve_insertions(0)),
     ("shrink_to_fit as before", 4, 0, 0, |map| map.try_shrink_to_fit()),
     ("set_load_factor", 4, 0, 2, |map| map.try_set_load_factor(0.1)),
     ("set_load_factor as before", 4, 0, 0, |map| map.try_set_load_factor(0.909)),
@@ -40,7 +43,7 @@ const MAP_CALLS: &[(&str, u64, u32, u64, MapCall)] = &[
     ("collisions", 4, 0, 2, |map| map.try_collisions().map(drop)),
     ("new", 0, 0, 2, |_| IntMap::<u64, u64>::try_new().map(drop)),
     ("with_capacity", 0, 0, 2, |_| IntMap::<u64, u64>::try_with_capacity(100).map(drop)),
-    ("with_room_for", 0, 0, 2, |_| IntMap::<u64, u64>::try_with_room_for(100).map(drop)),
+    ("with_room_for", 0, 0, 4, |_| IntMap::<u64, u64>::try_with_room_for(100).map(drop)),
     ("from_iter", 0, 0, 2, |_| IntMap::try_from_iter((0..3_u64).map(|it| (it, it))).map(drop)),
     ("or_insert", 4, 0, 1, |map| Ok(map.entry(9).try_or_insert(1).map(drop)?)),
     ("or_insert and grow", 14, 0, 2, |map| Ok(map.entry(15).try_or_insert(1).map(drop)?)),
@@ -67,7 +70,7 @@ const MAP_CALLS: &[(&str, u64, u32, u64, MapCall)] = &[
 ];
 
 /// Makes the call with each of its requests failing in turn. Returns how many there were.
-fn failures<M, S: PartialEq + std::fmt::Debug>(
+pub fn failures<M, S: PartialEq + std::fmt::Debug>(
     name: &str,
     make: impl Fn() -> M,
     state: impl Fn(&M) -> S,
@@ -90,7 +93,7 @@ fn failures<M, S: PartialEq + std::fmt::Debug>(
 }
 
 /// All that a map shows of itself.
-fn state_of(map: &IntMap<u64, u64>) -> (String, usize, usize, usize) {
+pub fn state_of(map: &IntMap<u64, u64>) -> (String, usize, usize, usize) {
     (format!("{map:?}"), map.capacity(), map.load_factor_thousandths(), map.len())
 }
 
@@ -223,6 +226,8 @@ const CALLS_OF_FORMS: &[(&str, u64, [u64; 3], MapCall)] = &[
         Ok(map.try_insert(44, 1).map(drop)?)
     }),
     ("reserve", 13, [2, 2, 3], |map| map.try_reserve(100)),
+    ("reserve_insertions", 13, [3, 3, 3], |map| map.try_reserve_insertions(100)),
+    ("reserve_insertions in the slots", 13, [1, 0, 0], |map| map.try_reserve_insertions(1)),
     ("set_load_factor", 13, [2, 2, 3], |map| map.try_set_load_factor(0.1)),
     ("clone", 13, [2, 2, 3], |map| map.try_clone().map(drop)),
 ];
@@ -249,9 +254,12 @@ const SET_CALLS: &[(&str, u64, SetCall)] = &[
     ("extend", 1, |set| Ok(set.try_extend([9])?)),
     ("reserve", 2, |set| set.try_reserve(100)),
     ("reserve_members", 2, |set| set.try_reserve_members(100)),
+    ("reserve_members that have room", 0, |set| set.try_reserve_members(1)),
+    ("reserve_insertions", 3, |set| set.try_reserve_insertions(100)),
+    ("reserve_insertions in the slots", 1, |set| set.try_reserve_insertions(3)),
     ("set_load_factor", 2, |set| set.try_set_load_factor(0.1)),
     ("set_load_factor as before", 0, |set| set.try_set_load_factor(0.909)),
-    ("with_room_for", 2, |_| IntSet::<u64>::try_with_room_for(100).map(drop)),
+    ("with_room_for", 4, |_| IntSet::<u64>::try_with_room_for(100).map(drop)),
     ("shrink_to_fit as before", 0, |set| set.try_shrink_to_fit()),
     ("clone", 2, |set| set.try_clone().map(drop)),
     ("new", 2, |_| IntSet::<u64>::try_new().map(drop)),

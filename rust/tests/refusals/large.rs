@@ -41,6 +41,10 @@ const MAP_CALLS: &[Row] = &[
     ("collisions", with_room, 4, 4, MAP_SLOT, 0, |map| map.try_collisions().map(drop)),
     ("reserve", with_room, 4, 4096, MAP_SLOT, 0, |map| map.try_reserve(4000)),
     ("reserve, grown", grown, 14, 4096, MAP_SLOT, 0, |map| map.try_reserve(4000)),
+    ("reserve_pairs", with_room, 4, 4096, MAP_SLOT, 0, |map| map.try_reserve_pairs(3000)),
+    ("reserve_insertions", with_room, 4, 4096, MAP_SLOT, 3000 * NODE, |map| {
+        map.try_reserve_insertions(3000)
+    }),
     ("set_load_factor", with_room, 4, 2048, MAP_SLOT, 0, |map| {
         map.try_set_load_factor_thousandths(1)
     }),

@@ -10,3 +10,4 @@ mod mended;
 mod random;
 mod random_calls;
 mod returned;
+mod room;

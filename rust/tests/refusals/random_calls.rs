@@ -67,6 +67,7 @@ impl Call {
             12 => drop(Map::try_with_capacity(more)?),
             13 => map.try_shrink_to(more / 8)?,
             14 => map.try_reserve_pairs(more)?,
+            15 => map.try_reserve_insertions(more)?,
             _ => drop(map.remove(key)),
         }
         Ok(())
@@ -108,7 +109,7 @@ fn round(random: &mut Random, live: &Rc<Cell<usize>>) -> u64 {
             false => random.below(keys) + random.below(9) / 8 * 512,
         };
         let call = Call {
-            call: match random.below(if counts_up { 7 } else { 17 }) {
+            call: match random.below(if counts_up { 7 } else { 18 }) {
                 6 if counts_up => 13,
                 call => call,
             },

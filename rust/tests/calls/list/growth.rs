@@ -1,5 +1,5 @@
 //! Growth of a plain list, and what it reads. This is the way of the code, which no contract says.
-use super::{List, slot_among, slots_for};
+use super::{List, slot_among};
 use crate::told::Key;
 use std::collections::BTreeMap;
 
@@ -61,7 +61,7 @@ impl List {
 
     /// Room for so many more keys at the load factor.
     pub fn reserve_pairs(&mut self, more: usize) {
-        self.grow(slots_for(self.pairs.len() + more, self.factor).next_power_of_two());
+        self.grow(self.least(self.pairs.len() + more, self.factor));
     }
 
     /// Growth to so many slots, if these are more: for each pair, for its slot.

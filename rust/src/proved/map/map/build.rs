@@ -22,7 +22,7 @@ impl<K: IntKey, V, A: Allocator + Copy> IntMap<K, V, A> {
     /// An empty map of 4 slots, with a load factor of 909 thousandths. It allocates the slots and
     /// their bits. It fails only if an allocation fails, with [`Cause::Memory`].
     pub fn new(alloc: A) -> Result<IntMap<K, V, A>, Cause> {
-        IntMap::with_slots(alloc, FIRST_CAPACITY)
+        IntMap::of_slots(alloc, FIRST_CAPACITY)
     }
 
     /// An empty map with a load factor of 909 thousandths. Its number of slots is the least power
@@ -33,11 +33,11 @@ impl<K: IntKey, V, A: Allocator + Copy> IntMap<K, V, A> {
         if capacity > GREATEST_CAPACITY {
             return Err(Cause::TooLarge);
         }
-        IntMap::with_slots(alloc, capacity.max(LEAST_CAPACITY).next_power_of_two())
+        IntMap::of_slots(alloc, capacity.max(LEAST_CAPACITY).next_power_of_two())
     }
 
     /// An empty map of `slots` slots. It fails only if an allocation fails.
-    fn with_slots(alloc: A, slots: usize) -> Result<IntMap<K, V, A>, Cause> {
+    fn of_slots(alloc: A, slots: usize) -> Result<IntMap<K, V, A>, Cause> {
         match Table::new(alloc, slots) {
             Ok(table) => Ok(IntMap {
                 table,

@@ -47,4 +47,34 @@ impl<K: IntKey, A: Allocator + Copy> IntSet<K, A> {
     pub fn reserve(&mut self, additional: usize) -> Result<(), Cause> {
         self.map.reserve(additional)
     }
+
+    /// Makes room for `additional` members more: at once, whatever the length is, the capacity
+    /// becomes the least of itself and its doublings at which as many members more meet the load
+    /// factor. The next `additional` insertions of new keys then leave the capacity.
+    ///
+    /// Keys that follow one another, such as ids, are then inserted without failure: each has a slot
+    /// of its own, as long as they and the members lie within as many numbers in a row as there are
+    /// slots. The insertion of a key whose slot holds a member may allocate, and fail:
+    /// [`reserve_insertions`](IntSet::reserve_insertions) makes room for such keys too.
+    ///
+    /// It fails with [`Cause::TooLarge`] if and only if there would be more than 2^64 - 1 members,
+    /// or no capacity up to 2^63 meets the load factor, and otherwise with [`Cause::Memory`] if an
+    /// allocation fails. It never fails if the present capacity meets the load factor. A failed
+    /// call leaves the set as it was. Both counts stay.
+    pub fn reserve_members(&mut self, additional: usize) -> Result<(), Cause> {
+        self.map.reserve_pairs(additional)
+    }
+
+    /// Makes room for `additional` insertions of any keys: the slots that
+    /// [`reserve_members`](IntSet::reserve_members) makes, and memory for as many members that share a
+    /// slot with another. The next `additional` insertions of new keys then allocate nothing, so none
+    /// of them fails, as long as no call but insertions, removals and look-ups changes the set.
+    ///
+    /// It fails as [`reserve_members`](IntSet::reserve_members) does, and also, with
+    /// [`Cause::Memory`], if the memory for members that share a slot is refused. A failed call
+    /// leaves the set as it was. That the insertions don't fail is tested, not proved: contracts
+    /// don't see this memory.
+    pub fn reserve_insertions(&mut self, additional: usize) -> Result<(), Cause> {
+        self.map.reserve_insertions(additional)
+    }
 }

@@ -99,6 +99,20 @@ impl<P, A: Allocator> Pool<P, A> {
 }
 
 impl<P, A: Allocator> Pool<P, A> {
+    /// Makes room for `additional` more pairs.
+    pub(in crate::proved::table) fn reserve(&mut self, additional: usize) -> Result<(), AllocError> {
+        if additional <= self.spare {
+            return Ok(());
+        }
+        let new = additional - self.spare;
+        if new > NODE_LIMIT - self.nodes.len() {
+            return Err(AllocError);
+        }
+        self.nodes.reserve_exact(new)
+    }
+}
+
+impl<P, A: Allocator> Pool<P, A> {
     /// Nodes with room for as many pairs, none of which is there yet.
     pub(in crate::proved::table) fn with_room(alloc: A, room: usize) -> Result<Pool<P, A>, AllocError> {
         let nodes = Vec::with_capacity(alloc, room)?;

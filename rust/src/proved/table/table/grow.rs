@@ -34,11 +34,12 @@ impl<K: IntKey, X, A: Allocator + Copy> Table<K, X, A> {
     }
 
     /// Moves all pairs, in the order of the walk, to their slots among `capacity` slots. If the
-    /// table has that many already, it does nothing. If an allocation fails, nothing changes.
-    pub fn grow_to(&mut self, capacity: usize) -> Result<(), AllocError> {
+    /// table has that many already, no pair moves. The next `additional` pairs that share a slot with
+    /// another then need no allocation. If an allocation fails, nothing changes.
+    pub fn grow_to(&mut self, capacity: usize, additional: usize) -> Result<(), AllocError> {
         if capacity == self.slots.len() {
-            return Ok(());
+            return self.slots.reserve(additional);
         }
-        self.slots.grow(capacity, &mut Steps::new())
+        self.slots.grow(capacity, additional, &mut Steps::new())
     }
 }

@@ -118,8 +118,9 @@ impl<K: IntKey, X, A: Allocator> Slots<K, X, A> {
 
 /// Adds `count` slots without a pair, for which there is room.
 fn add_empty<P, A: Allocator>(slots: &mut Vec<Slot<P>, A>, count: usize) {
-    for added in 0..count {
-        slots.push_reserved(Slot::empty());
+    let make = || -> Slot<P> { Slot::empty() };
+    if slots.resize_with(count, make).is_err() {
+        unreachable!();
     }
 }
 

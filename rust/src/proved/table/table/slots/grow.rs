@@ -96,7 +96,7 @@ impl<K: IntKey, X, A: Allocator> Slots<K, X, A> {
         self.pool.held()
     }
 
-    /// Moves all pairs, slot after slot, to new slots.
+    /// Moves all pairs, slot after slot, to new slots, and leaves none.
     fn move_all(&mut self, new: &mut Slots<K, X, A>, placed: &mut Steps) {
         move_rows(&self.bits, &mut self.slots, &mut self.pool, new, placed);
         self.bits.clear_all();
@@ -114,10 +114,23 @@ impl<K: IntKey, X, A: Allocator> Slots<K, X, A> {
 }
 
 impl<K: IntKey, X, A: Allocator + Copy> Slots<K, X, A> {
-    /// Moves all pairs, in the order of the walk, to their slots among `capacity` slots. If an
-    /// allocation fails, no pair moves.
-    pub(in crate::proved::table) fn grow(&mut self, capacity: usize, placed: &mut Steps) -> Result<(), AllocError> {
-        let Ok(mut new) = Slots::new(self.allocator(), capacity, self.further()) else {
+    /// Makes room for `additional` more pairs that share a slot. If an allocation fails, no pair moves.
+    pub(in crate::proved::table) fn reserve(&mut self, additional: usize) -> Result<(), AllocError> {
+        self.pool.reserve(additional)
+    }
+
+    /// Moves all pairs, in the order of the walk, to their slots among `capacity` slots, and makes room
+    /// for `additional` more pairs that share a slot. If an allocation fails, no pair moves.
+    pub(in crate::proved::table) fn grow(
+        &mut self,
+        capacity: usize,
+        additional: usize,
+        placed: &mut Steps,
+    ) -> Result<(), AllocError> {
+        let Some(room) = self.further().checked_add(additional) else {
+            return Err(AllocError);
+        };
+        let Ok(mut new) = Slots::new(self.allocator(), capacity, room) else {
             return Err(AllocError);
         };
         super::mending::moving(self, &mut new, |old, new| old.move_all(new, placed));
