@@ -19,7 +19,7 @@
 //     grep -v '^// Compilers: ' intmap.c | sha256sum
 //
 // Compilers: rattle-kit-13f logic dac8208d650f15bf; clang version 22.1.8
-// Sources: 2515cd2d369c952cb5cf1a9bb8b723459af975cbbac57621867fcdf55c0baa24
+// Sources: 31ed8d87fe01441ccd9902d2c00be87fe3852dded5fcfe0ed49acbd44245758b
 //
 // SPDX-License-Identifier: MIT
 //
@@ -542,6 +542,7 @@ enum {
 #define TOO_LARGE 4294967294u
 #define GREATEST_CAPACITY UINT64_C(9223372036854775808)
 #define NOWHERE_LOW 4294967295u
+#define MOST_FIRST_PAIRS UINT64_C(8393268553537845985)
 
 static ALWAYS_INLINE uint64_t chain_seek(char *pool, uint64_t from, uint64_t place);
 static ALWAYS_INLINE struct byte_address intmap_get_counted(char *map, uint64_t key);
@@ -551,7 +552,7 @@ static ALWAYS_INLINE void slots_clone(char *result, char *map);
 static ALWAYS_INLINE void pool_append(char *result, char *nodes_at, uint64_t link, uint64_t a3, uint64_t a4);
 static COLD bool vec_grow_amortized(char *nodes_at);
 static ALIGNED uint32_t make_keep(char *handle, char *made);
-static ALIGNED void intmap_with_slots(char *result, uint64_t slots);
+static ALIGNED void intmap_of_slots(char *result, uint64_t slots);
 static ALIGNED void slots_new(char *result, uint64_t capacity, uint64_t room);
 static ALIGNED NOINLINE struct byte_address handle_make_first(void);
 static ALIGNED NOINLINE void intmap_add_growing(char *result, char *map, uint64_t len, uint64_t slot, uint64_t key, uint64_t value);
@@ -560,7 +561,7 @@ static ALIGNED NOINLINE struct word_word row_take_first_of_several_2(char *slot,
 static ALIGNED NOINLINE void row_put_behind_first(char *slot, char *pool, uint64_t a2, uint64_t a3);
 static ALWAYS_INLINE uint64_t chain_last_in(char *pool, uint64_t from);
 static ALWAYS_INLINE struct word_word chain_last_in_2(char *pool, uint64_t from);
-static ALIGNED uint8_t table_grow_to(char *map, uint64_t capacity);
+static ALIGNED uint8_t table_grow_to(char *map, uint64_t capacity, uint64_t additional);
 static ALWAYS_INLINE void do_intmap_place(char *word, uint64_t key, char *at);
 static ALWAYS_INLINE uint32_t do_intmap_version(void);
 static ALWAYS_INLINE uint64_t do_intmap_capacity(char *word);
@@ -578,10 +579,12 @@ static ALWAYS_INLINE void do_intmap_free(char *handle);
 static ALWAYS_INLINE struct word_word do_intmap_remove(char *handle, uint64_t key);
 static ALWAYS_INLINE struct word_word do_intmap_replace(char *handle, uint64_t key, uint64_t value);
 static ALWAYS_INLINE uint32_t do_intmap_clone(char *word, char *to);
-static ALWAYS_INLINE uint32_t do_intmap_with_capacity(char *handle, uint64_t capacity);
+static ALWAYS_INLINE uint32_t do_intmap_with_slots(char *handle, uint64_t slots);
 static ALWAYS_INLINE struct word_word do_intmap_add_or_insert(char *handle, uint64_t key, uint64_t more);
 static ALWAYS_INLINE uint32_t do_intmap_find_or_insert(char *handle, uint64_t key, uint64_t value);
 static ALWAYS_INLINE struct word_word do_intmap_insert(char *handle, uint64_t key, uint64_t value);
+static ALWAYS_INLINE uint32_t do_intmap_reserve(char *handle, uint64_t more);
+static ALWAYS_INLINE uint32_t do_intmap_reserve_insertions(char *handle, uint64_t more);
 static ALWAYS_INLINE uint32_t do_intmap_reserve_slots(char *handle, uint64_t additional);
 static ALWAYS_INLINE uint32_t do_intmap_set_load_factor(char *handle, uint64_t thousandths);
 
@@ -1041,10 +1044,10 @@ static ALIGNED uint32_t make_keep(char *handle, char *made) {
 }
 
 // An empty map of `slots` slots.
-// intmap::map::IntMap::with_slots, in crates/intmap/src/map/build.rt
-static ALIGNED void intmap_with_slots(char *result, uint64_t slots) {
+// intmap::map::IntMap::of_slots, in crates/intmap/src/map/build.rt
+static ALIGNED void intmap_of_slots(char *result, uint64_t slots) {
     uint64_t r15, r4_0, r4_2, r4_4, r4_5, slots_2, r4_7, r4_8, r4_9;
-    char *r15_2, *r12_452_0_ph207, *r4_3, *r4_6, *dangling_2;
+    char *r15_2, *r12_452_0_ph197, *r4_3, *r4_6, *dangling_2;
     uint8_t r3_2;
     u128 r17;
     char *dangling = (char *)no_bytes;
@@ -1054,7 +1057,7 @@ static ALIGNED void intmap_with_slots(char *result, uint64_t slots) {
     if (slots == 0) {
         r15 = 0;
         r15_2 = dangling;
-        r12_452_0_ph207 = dangling;
+        r12_452_0_ph197 = dangling;
         r4_0 = 0;
     } else {
         uint64_t r3;
@@ -1118,7 +1121,7 @@ static ALIGNED void intmap_with_slots(char *result, uint64_t slots) {
         memset(r8, 0, r19);
         r15 = r3 + 1;
         r15_2 = r8_2;
-        r12_452_0_ph207 = r8;
+        r12_452_0_ph197 = r8;
         r4_0 = r4_0_2;
     }
     r17 = u128_less_one(u128_mul(u128_of(slots), u128_of(910u)));
@@ -1128,7 +1131,7 @@ static ALIGNED void intmap_with_slots(char *result, uint64_t slots) {
     r4_3 = r15_2;
     r4_4 = r15;
     r4_5 = r4_0;
-    r4_6 = r12_452_0_ph207;
+    r4_6 = r12_452_0_ph197;
     slots_2 = slots;
     dangling_2 = dangling;
     r4_7 = NOWHERE;
@@ -1156,7 +1159,7 @@ join_4:;
 // intmap_table::table::slots::Slots::new, in crates/intmap_table/src/table/slots.rt
 static ALIGNED void slots_new(char *result, uint64_t capacity, uint64_t room) {
     uint64_t r4_0, r15_2;
-    char *r12_452_0_ph207, *r15, *r18;
+    char *r12_452_0_ph197, *r15, *r18;
     char *dangling = (char *)no_bytes;
     bool r12 = capacity == 0;
     if (!r12) {
@@ -1183,7 +1186,7 @@ static ALIGNED void slots_new(char *result, uint64_t capacity, uint64_t room) {
                 }
                 store64(r8_2 + (r3 << 3), 0);
                 r4_0 = r4_0_2;
-                r12_452_0_ph207 = r8;
+                r12_452_0_ph197 = r8;
                 r15 = r8_2;
                 r15_2 = r3 + 1;
                 goto arm_5;
@@ -1194,7 +1197,7 @@ static ALIGNED void slots_new(char *result, uint64_t capacity, uint64_t room) {
         return;
     }
     r4_0 = 0;
-    r12_452_0_ph207 = dangling;
+    r12_452_0_ph197 = dangling;
     r15 = dangling;
     r15_2 = 0;
 arm_5:;
@@ -1212,7 +1215,7 @@ arm_5:;
         }
         if (!r12) {
             rattle_dealloc(r15);
-            rattle_dealloc(r12_452_0_ph207);
+            rattle_dealloc(r12_452_0_ph197);
         }
         store8(result + MADE_SLOTS_HAS_FAILED, 1);
         memset(result + MADE_SLOTS_MASK, 0, SLOTS_SIZE);
@@ -1221,14 +1224,14 @@ arm_5:;
     r18 = dangling;
 arm_8:;
     if (!r12) {
-        memset(r12_452_0_ph207, 0, capacity * 24);
+        memset(r12_452_0_ph197, 0, capacity * 24);
     }
     store8(result + MADE_SLOTS_HAS_FAILED, 0);
     store64(result + MADE_SLOTS_MASK, capacity - 1);
     store_address(result + MADE_SLOTS_WORDS, r15);
     store64(result + MADE_SLOTS_WORDS_LEN, r15_2);
     store64(result + MADE_SLOTS_WORDS_ROOM, r4_0);
-    store_address(result + MADE_SLOTS_SLOTS, r12_452_0_ph207);
+    store_address(result + MADE_SLOTS_SLOTS, r12_452_0_ph197);
     store64(result + MADE_SLOTS_SLOTS_LEN, capacity);
     store64(result + MADE_SLOTS_SLOTS_ROOM, capacity);
     store_address(result + MADE_SLOTS_NODES, r18);
@@ -1505,7 +1508,7 @@ after_Slots_needed:;
     store64(result + 24, r17_4);
 }
 
-// Moves all pairs, slot after slot, to new slots.
+// Moves all pairs, slot after slot, to new slots, and leaves none.
 // intmap_table::table::slots::Slots::move_all, in crates/intmap_table/src/table/slots/grow.rt
 static ALIGNED void slots_move_all(char *map, char *new_) {
     uint64_t bits;
@@ -1761,107 +1764,153 @@ static ALWAYS_INLINE struct word_word chain_last_in_2(char *pool, uint64_t from)
 
 // Moves all pairs, in the order of the walk, to their slots among `capacity` slots.
 // intmap_table::table::Table::grow_to, in crates/intmap_table/src/table/grow.rt
-static ALIGNED uint8_t table_grow_to(char *map, uint64_t capacity) {
+static ALIGNED uint8_t table_grow_to(char *map, uint64_t capacity, uint64_t additional) {
+    uint8_t r0_2;
     uint64_t mask_at_room[12];
     char *mask_at = (char *)mask_at_room;
     uint64_t has_failed_at_room[13];
     char *has_failed_at = (char *)has_failed_at_room;
     if (capacity == load64(map + INT_MAP_SLOTS_LEN)) {
+        struct word_word r0;
+        uint64_t spare = load64(map + INT_MAP_SPARE);
+        if (additional <= spare) {
+            return 0;
+        }
+        uint64_t r19 = additional - spare;
+        uint64_t nodes_len = load64(map + INT_MAP_NODES_LEN);
+        if ((NODE_LIMIT - nodes_len) < r19) {
+            return 1;
+        }
+        uint64_t nodes_room = load64(map + INT_MAP_NODES_ROOM);
+        if (r19 <= (nodes_room - nodes_len)) {
+            return 0;
+        }
+        if (r19 > (~nodes_len)) {
+            return 1;
+        }
+        uint64_t r33 = nodes_len + r19;
+        if (r33 >= TOO_MANY(24)) {
+            return 1;
+        }
+        if (nodes_room == 0) {
+            struct word_word block = rattle_alloc(r33 * 24, 8);
+            if ((block.first & 1) == 0) {
+                return 1;
+            }
+            r0 = block;
+        } else {
+            struct word_word block_2 = rattle_realloc(load_address(map + INT_MAP_NODES), nodes_len * 24, r33 * 24, 8);
+            if ((block_2.first & 1) == 0) {
+                return 1;
+            }
+            r0 = block_2;
+        }
+        store_address(map + INT_MAP_NODES, (char *)(uintptr_t)r0.second);
+        store64(map + INT_MAP_NODES_ROOM, r33);
         return 0;
     }
     memset(has_failed_at, 0, MADE_SLOTS_SIZE);
-    slots_new(has_failed_at, capacity, load64(map + INT_MAP_NODES_LEN) - load64(map + INT_MAP_SPARE));
-    uint8_t has_failed = load8(has_failed_at + MADE_SLOTS_HAS_FAILED);
-    if (has_failed == 0) {
-        memcpy(mask_at, has_failed_at + MADE_SLOTS_MASK, SLOTS_SIZE);
-        slots_move_all(map, mask_at);
-        if (load64(mask_at + SLOTS_NODES_LEN) != load64(mask_at + SLOTS_SPARE)) {
-            uint64_t bits;
-            uint64_t words_len = load64(mask_at + SLOTS_WORDS_LEN);
-            char *words = load_address(mask_at + SLOTS_WORDS);
-            if (words_len == 0) {
-                bits = 0;
-            } else {
-                bits = load64(words);
-            }
-            char *slots = load_address(mask_at + SLOTS_SLOTS);
-            char *nodes = load_address(mask_at + SLOTS_NODES);
-            uint64_t r1 = 0;
-            uint64_t r1_2 = bits;
-            for (;;) {
-                uint64_t r1_4, r1_5;
-                if (r1_2 == 0) {
-                    uint64_t r1_3 = r1;
-                    for (;;) {
-                        uint64_t r26 = r1_3 + 1;
-                        if (words_len <= r26) {
-                            goto after_Slots_turn_each;
-                        }
-                        uint64_t bits_2 = load64(words + (r26 << 3));
-                        if (bits_2 != 0) {
-                            r1_4 = r26;
-                            r1_5 = bits_2;
-                            break;
-                        }
-                        r1_3 = r26;
-                    }
+    uint64_t r10 = load64(map + INT_MAP_NODES_LEN) - load64(map + INT_MAP_SPARE);
+    if (r10 > (~additional)) {
+        r0_2 = 1;
+    } else {
+        slots_new(has_failed_at, capacity, r10 + additional);
+        if (load8(has_failed_at + MADE_SLOTS_HAS_FAILED) == 0) {
+            memcpy(mask_at, has_failed_at + MADE_SLOTS_MASK, SLOTS_SIZE);
+            slots_move_all(map, mask_at);
+            if (load64(mask_at + SLOTS_NODES_LEN) != load64(mask_at + SLOTS_SPARE)) {
+                uint64_t bits;
+                uint64_t words_len = load64(mask_at + SLOTS_WORDS_LEN);
+                char *words = load_address(mask_at + SLOTS_WORDS);
+                if (words_len == 0) {
+                    bits = 0;
                 } else {
-                    r1_4 = r1;
-                    r1_5 = r1_2;
+                    bits = load64(words);
                 }
-                uint64_t r49 = place_of_lowest_1(r1_5);
-                uint64_t r64 = (r1_5 - 1) & r1_5;
-                char *slot = slots + ((r49 | (r1_4 << 6)) * SLOT_SIZE);
-                if (load8(slot + SLOT_HAS_PAIR) == 1) {
-                    uint16_t high = load16(slot + SLOT_HIGH);
-                    if (high != NOWHERE_HIGH) {
-                        uint64_t at = NOWHERE;
-                        uint64_t at_2 = link_of(high, load32(slot + SLOT_LOW));
+                char *slots = load_address(mask_at + SLOTS_SLOTS);
+                char *nodes = load_address(mask_at + SLOTS_NODES);
+                uint64_t r1 = 0;
+                uint64_t r1_2 = bits;
+                for (;;) {
+                    uint64_t r1_4, r1_5;
+                    if (r1_2 == 0) {
+                        uint64_t r1_3 = r1;
                         for (;;) {
-                            char *node = nodes + (at_2 * NODE_SIZE);
-                            if (load8(node + NODE_HAS_PAIR) != 1) {
-                                abort(); // The proof excludes this.
+                            uint64_t r26 = r1_3 + 1;
+                            if (words_len <= r26) {
+                                goto after_Slots_turn_each;
                             }
-                            uint16_t high_2 = load16(node + NODE_HIGH);
-                            uint64_t link = link_of(high_2, load32(node + NODE_LOW));
-                            store16(node + NODE_HIGH, (uint16_t)(at >> 32));
-                            store32(node + NODE_LOW, (uint32_t)at);
-                            if (high_2 == NOWHERE_HIGH) {
-                                if (load8(slot + SLOT_HAS_PAIR) != 1) {
-                                    abort(); // The proof excludes this.
-                                }
-                                store16(slot + SLOT_HIGH, (uint16_t)(at_2 >> 32));
-                                store32(slot + SLOT_LOW, (uint32_t)at_2);
+                            uint64_t bits_2 = load64(words + (r26 << 3));
+                            if (bits_2 != 0) {
+                                r1_4 = r26;
+                                r1_5 = bits_2;
                                 break;
                             }
-                            at = at_2;
-                            at_2 = link;
+                            r1_3 = r26;
+                        }
+                    } else {
+                        r1_4 = r1;
+                        r1_5 = r1_2;
+                    }
+                    uint64_t r49 = place_of_lowest_1(r1_5);
+                    uint64_t r64 = (r1_5 - 1) & r1_5;
+                    char *slot = slots + ((r49 | (r1_4 << 6)) * SLOT_SIZE);
+                    if (load8(slot + SLOT_HAS_PAIR) == 1) {
+                        uint16_t high = load16(slot + SLOT_HIGH);
+                        if (high != NOWHERE_HIGH) {
+                            uint64_t at = NOWHERE;
+                            uint64_t at_2 = link_of(high, load32(slot + SLOT_LOW));
+                            for (;;) {
+                                char *node = nodes + (at_2 * NODE_SIZE);
+                                if (load8(node + NODE_HAS_PAIR) != 1) {
+                                    abort(); // The proof excludes this.
+                                }
+                                uint16_t high_2 = load16(node + NODE_HIGH);
+                                uint64_t link = link_of(high_2, load32(node + NODE_LOW));
+                                store16(node + NODE_HIGH, (uint16_t)(at >> 32));
+                                store32(node + NODE_LOW, (uint32_t)at);
+                                if (high_2 == NOWHERE_HIGH) {
+                                    if (load8(slot + SLOT_HAS_PAIR) != 1) {
+                                        abort(); // The proof excludes this.
+                                    }
+                                    store16(slot + SLOT_HIGH, (uint16_t)(at_2 >> 32));
+                                    store32(slot + SLOT_LOW, (uint32_t)at_2);
+                                    break;
+                                }
+                                at = at_2;
+                                at_2 = link;
+                            }
                         }
                     }
+                    r1 = r1_4;
+                    r1_2 = r64;
                 }
-                r1 = r1_4;
-                r1_2 = r64;
             }
-        }
-    after_Slots_turn_each:;
-        char *words_2 = load_address(map + INT_MAP_WORDS);
-        char *slots_2 = load_address(map + INT_MAP_SLOTS);
-        uint64_t slots_room = load64(map + INT_MAP_SLOTS_ROOM);
-        char *nodes_2 = load_address(map + INT_MAP_NODES);
-        uint64_t nodes_room = load64(map + INT_MAP_NODES_ROOM);
-        uint64_t words_room = load64(map + INT_MAP_WORDS_ROOM);
-        memcpy(map, mask_at, TABLE_SIZE);
-        if (words_room != 0) {
-            rattle_dealloc(words_2);
-        }
-        if (slots_room != 0) {
-            rattle_dealloc(slots_2);
-        }
-        if (nodes_room != 0) {
-            rattle_dealloc(nodes_2);
+        after_Slots_turn_each:;
+            char *words_2 = load_address(map + INT_MAP_WORDS);
+            char *slots_2 = load_address(map + INT_MAP_SLOTS);
+            uint64_t slots_room = load64(map + INT_MAP_SLOTS_ROOM);
+            char *nodes_2 = load_address(map + INT_MAP_NODES);
+            uint64_t nodes_room_2 = load64(map + INT_MAP_NODES_ROOM);
+            uint64_t words_room = load64(map + INT_MAP_WORDS_ROOM);
+            memcpy(map, mask_at, TABLE_SIZE);
+            if (words_room != 0) {
+                rattle_dealloc(words_2);
+            }
+            if (slots_room != 0) {
+                rattle_dealloc(slots_2);
+            }
+            if (nodes_room_2 == 0) {
+                r0_2 = 0;
+            } else {
+                rattle_dealloc(nodes_2);
+                r0_2 = 0;
+            }
+        } else {
+            r0_2 = 1;
         }
     }
-    return has_failed;
+    return r0_2;
 }
 
 // Writes the address of the value of the key, or null if the key is absent.
@@ -2968,8 +3017,8 @@ static ALWAYS_INLINE uint32_t do_intmap_clone(char *word, char *to) {
 }
 
 // Makes an empty map, with a load factor of 909 thousandths, and returns `OK`.
-// intmap_with_capacity, in crates/intmap_c/src/make.rt
-static ALWAYS_INLINE uint32_t do_intmap_with_capacity(char *handle, uint64_t capacity) {
+// intmap_with_slots, in crates/intmap_c/src/make.rt
+static ALWAYS_INLINE uint32_t do_intmap_with_slots(char *handle, uint64_t slots) {
     uint8_t has_failed, cause;
     uint64_t has_failed_at_room[16];
     char *has_failed_at = (char *)has_failed_at_room;
@@ -2977,14 +3026,14 @@ static ALWAYS_INLINE uint32_t do_intmap_with_capacity(char *handle, uint64_t cap
     char *has_failed_at_2 = (char *)has_failed_at_2_room;
     memset(has_failed_at_2, 0, MADE_INT_MAP_SIZE);
     memset(has_failed_at, 0, MADE_INT_MAP_SIZE);
-    if (capacity > GREATEST_CAPACITY) {
+    if (slots > GREATEST_CAPACITY) {
         memset(has_failed_at_2 + MADE_INT_MAP_MASK, 0, INT_MAP_SIZE);
         has_failed = 1;
         cause = 1;
     } else {
-        uint64_t a0_a1 = greater(capacity, 2);
+        uint64_t a0_a1 = greater(slots, 2);
         uint64_t r13 = high_zeros(a0_a1 - 1);
-        intmap_with_slots(has_failed_at, (uint64_t)1 << ((uint64_t)64 - r13));
+        intmap_of_slots(has_failed_at, (uint64_t)1 << ((uint64_t)64 - r13));
         uint8_t has_failed_2 = load8(has_failed_at + MADE_INT_MAP_HAS_FAILED);
         uint8_t cause_2 = load8(has_failed_at + MADE_INT_MAP_CAUSE);
         memcpy(has_failed_at_2 + MADE_INT_MAP_MASK, has_failed_at + MADE_INT_MAP_MASK, INT_MAP_SIZE);
@@ -3588,6 +3637,122 @@ after_pairs_insert:;
     return made_word_word(r5, spec_select1);
 }
 
+// Doubles the slots until their number meets the load factor with `more` pairs more, and returns `OK`.
+// intmap_reserve, in crates/intmap_c/src/figures.rt
+static ALWAYS_INLINE uint32_t do_intmap_reserve(char *handle, uint64_t more) {
+    char *map;
+    uint32_t r4_0;
+    uint64_t map_address = load64(handle);
+    store64(handle, 0);
+    if (map_address == 0) {
+        struct byte_address r15 = handle_make_first();
+        if (r15.first == 0) {
+            return (more > MOST_FIRST_PAIRS) ? TOO_LARGE : NO_MEMORY;
+        }
+        map = r15.second;
+    } else {
+        map = (char *)(uintptr_t)map_address;
+    }
+    uint64_t map_address_2 = (uint64_t)(uintptr_t)map;
+    uint64_t len = load64(map + INT_MAP_LEN);
+    if (len > (~more)) {
+        r4_0 = TOO_LARGE;
+    } else {
+        uint64_t r0;
+        uint64_t factor = load64(map + INT_MAP_FACTOR);
+        uint64_t slots_len = load64(map + INT_MAP_SLOTS_LEN);
+        u128 r10 = u128_mul(u128_of(len + more), u128_of(1000u));
+        u128 r13 = u128_add(u128_of(factor), u128_of(1u));
+        if (u128_above(u128_mul(r13, u128_of(slots_len)), r10)) {
+            r0 = slots_len;
+        } else {
+            uint64_t r3_09 = slots_len;
+            for (;;) {
+                if (r3_09 == GREATEST_CAPACITY) {
+                    r4_0 = TOO_LARGE;
+                    goto after_figures_reserve;
+                }
+                uint64_t r31 = r3_09 << 1;
+                if (u128_above(u128_mul(r13, u128_of(r31)), r10)) {
+                    r0 = r31;
+                    break;
+                }
+                r3_09 = r31;
+            }
+        }
+        uint8_t r26 = table_grow_to(map, r0, 0);
+        if ((r26 & 1) != 0) {
+            r4_0 = NO_MEMORY;
+        } else {
+            store64(map + INT_MAP_FACTOR, factor);
+            u128 r17 = u128_less_one(u128_mul(r13, u128_of(r0)));
+            store64(map + INT_MAP_THRESHOLD, u128_above(r17, u128_two(999, UINT64_MAX)) ? UINT64_MAX : u128_low(u128_div(r17, u128_of(1000u))));
+            r4_0 = 0;
+        }
+    }
+after_figures_reserve:;
+    store64(handle, map_address_2);
+    return r4_0;
+}
+
+// Does what `intmap_reserve` does, and allocates memory for `more` pairs that share a slot with another.
+// intmap_reserve_insertions, in crates/intmap_c/src/figures.rt
+static ALWAYS_INLINE uint32_t do_intmap_reserve_insertions(char *handle, uint64_t more) {
+    char *map;
+    uint32_t r4_0;
+    uint64_t map_address = load64(handle);
+    store64(handle, 0);
+    if (map_address == 0) {
+        struct byte_address r15 = handle_make_first();
+        if (r15.first == 0) {
+            return (more > MOST_FIRST_PAIRS) ? TOO_LARGE : NO_MEMORY;
+        }
+        map = r15.second;
+    } else {
+        map = (char *)(uintptr_t)map_address;
+    }
+    uint64_t map_address_2 = (uint64_t)(uintptr_t)map;
+    uint64_t len = load64(map + INT_MAP_LEN);
+    if (len > (~more)) {
+        r4_0 = TOO_LARGE;
+    } else {
+        uint64_t r0;
+        uint64_t factor = load64(map + INT_MAP_FACTOR);
+        uint64_t slots_len = load64(map + INT_MAP_SLOTS_LEN);
+        u128 r10 = u128_mul(u128_of(len + more), u128_of(1000u));
+        u128 r13 = u128_add(u128_of(factor), u128_of(1u));
+        if (u128_above(u128_mul(r13, u128_of(slots_len)), r10)) {
+            r0 = slots_len;
+        } else {
+            uint64_t r3_09 = slots_len;
+            for (;;) {
+                if (r3_09 == GREATEST_CAPACITY) {
+                    r4_0 = TOO_LARGE;
+                    goto after_figures_reserve_insertions;
+                }
+                uint64_t r31 = r3_09 << 1;
+                if (u128_above(u128_mul(r13, u128_of(r31)), r10)) {
+                    r0 = r31;
+                    break;
+                }
+                r3_09 = r31;
+            }
+        }
+        uint8_t r26 = table_grow_to(map, r0, more);
+        if ((r26 & 1) != 0) {
+            r4_0 = NO_MEMORY;
+        } else {
+            store64(map + INT_MAP_FACTOR, factor);
+            u128 r17 = u128_less_one(u128_mul(r13, u128_of(r0)));
+            store64(map + INT_MAP_THRESHOLD, u128_above(r17, u128_two(999, UINT64_MAX)) ? UINT64_MAX : u128_low(u128_div(r17, u128_of(1000u))));
+            r4_0 = 0;
+        }
+    }
+after_figures_reserve_insertions:;
+    store64(handle, map_address_2);
+    return r4_0;
+}
+
 // Makes slots for the pairs and `additional` more, and returns `OK`.
 // intmap_reserve_slots, in crates/intmap_c/src/figures.rt
 static ALWAYS_INLINE uint32_t do_intmap_reserve_slots(char *handle, uint64_t additional) {
@@ -3618,7 +3783,7 @@ static ALWAYS_INLINE uint32_t do_intmap_reserve_slots(char *handle, uint64_t add
             r2_0 = (uint64_t)1 << ((uint64_t)64 - r13);
         }
         uint64_t a0_a1 = greater(load64(map + INT_MAP_SLOTS_LEN), r2_0);
-        uint8_t r50 = table_grow_to(map, a0_a1);
+        uint8_t r50 = table_grow_to(map, a0_a1, 0);
         if ((r50 & 1) != 0) {
             r4_0 = NO_MEMORY;
         } else {
@@ -3637,7 +3802,7 @@ static ALWAYS_INLINE uint32_t do_intmap_set_load_factor(char *handle, uint64_t t
     char *map;
     uint64_t r0;
     uint32_t r4_0;
-    uint8_t r30;
+    uint8_t r26;
     uint64_t map_address = load64(handle);
     store64(handle, 0);
     if (map_address == 0) {
@@ -3670,8 +3835,8 @@ static ALWAYS_INLINE uint32_t do_intmap_set_load_factor(char *handle, uint64_t t
             r3_09 = r31;
         }
     }
-    r30 = table_grow_to(map, r0);
-    if ((r30 & 1) != 0) {
+    r26 = table_grow_to(map, r0, 0);
+    if ((r26 & 1) != 0) {
         r4_0 = NO_MEMORY;
     } else {
         store64(map + INT_MAP_FACTOR, thousandths);
@@ -3711,8 +3876,8 @@ uint32_t intmap_version(void) INTMAP_CALL {
     return do_intmap_version();
 }
 
-intmap_status intmap_with_capacity(intmap *map, size_t capacity) INTMAP_CALL {
-    return STATUS(do_intmap_with_capacity(BYTES(map), capacity));
+intmap_status intmap_with_slots(intmap *map, size_t slots) INTMAP_CALL {
+    return STATUS(do_intmap_with_slots(BYTES(map), slots));
 }
 
 intmap_status intmap_clone(const intmap *map, intmap *to) INTMAP_CALL {
@@ -3786,6 +3951,14 @@ size_t intmap_filled_slots(const intmap *map) INTMAP_CALL {
 
 intmap_status intmap_reserve_slots(intmap *map, size_t additional) INTMAP_CALL {
     return STATUS(do_intmap_reserve_slots(BYTES(map), additional));
+}
+
+intmap_status intmap_reserve(intmap *map, size_t more) INTMAP_CALL {
+    return STATUS(do_intmap_reserve(BYTES(map), more));
+}
+
+intmap_status intmap_reserve_insertions(intmap *map, size_t more) INTMAP_CALL {
+    return STATUS(do_intmap_reserve_insertions(BYTES(map), more));
 }
 
 intmap_status intmap_set_load_factor(intmap *map, size_t thousandths) INTMAP_CALL {

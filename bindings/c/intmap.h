@@ -23,8 +23,9 @@
 //
 // SLOTS. The number of slots is a power of two. The low bits of a key choose its slot, and a slot
 // holds any number of pairs. The walk is the order of the pairs: slot after slot, and each slot
-// from front to back. It depends only on the calls that succeeded. intmap_reserve makes room for
-// pairs; intmap_with_capacity and intmap_reserve_slots count slots.
+// from front to back. It depends only on the calls that succeeded. intmap_with_slots and
+// intmap_reserve_slots count slots; intmap_with_room, intmap_reserve and intmap_reserve_insertions
+// count pairs.
 //
 // WHAT THE CALLER OWES. Nothing checks these rules. If a program breaks one, anything may happen.
 //
@@ -62,7 +63,7 @@
 //
 // THE FIRST CALL. INTMAP_INIT is a map of 4 slots without pairs, with a load factor of 909
 // thousandths. It has no memory yet. The first call that inserts a key, makes room or sets the load
-// factor requests that memory, and fails if it is refused. intmap_with_capacity requests it in
+// factor requests that memory, and fails if it is refused. intmap_with_slots requests it in
 // advance.
 //
 // KEYS AND VALUES. Each 64-bit number is a key, and each is a value. intmap_from_pointer makes a
@@ -80,9 +81,9 @@
 // pairs of the slot, and a walk takes time in the square of the pairs of a crowded slot.
 //
 // An insertion that adds slots moves all pairs. Spread over all insertions, this takes constant
-// time for each pair, and for each slot that was made in advance. If intmap_reserve,
-// intmap_reserve_slots or intmap_set_load_factor adds slots, it takes time in the pairs, slots and
-// nodes, and otherwise constant time.
+// time for each pair, and for each slot that was made in advance. If a call that makes room or sets
+// the load factor adds slots, it takes time in the pairs, slots and nodes. Otherwise it takes
+// constant time, but intmap_reserve_insertions may copy all nodes.
 //
 // MEMORY. Only a call that may return INTMAP_NO_MEMORY requests memory, from malloc or realloc. A
 // slot takes 24 bytes and a bit, and holds one pair. Each further pair of a slot is in a node of 24
@@ -162,7 +163,7 @@ extern "C" {
 
 // DEBUGGING, above, says what these names are for.
 #ifdef INTMAP_DEBUG
-#define intmap_with_capacity intmap_debug_with_capacity
+#define intmap_with_slots intmap_debug_with_slots
 #define intmap_clone intmap_debug_clone
 #define intmap_free intmap_debug_free
 #define intmap_get intmap_debug_get
@@ -180,6 +181,8 @@ extern "C" {
 #define intmap_load_factor intmap_debug_load_factor
 #define intmap_filled_slots intmap_debug_filled_slots
 #define intmap_reserve_slots intmap_debug_reserve_slots
+#define intmap_reserve intmap_debug_reserve
+#define intmap_reserve_insertions intmap_debug_reserve_insertions
 #define intmap_set_load_factor intmap_debug_set_load_factor
 #define intmap_step intmap_debug_step
 #define intmap_cut intmap_debug_cut
@@ -258,12 +261,19 @@ typedef struct intmap_found_pair {
 uint32_t intmap_version(void) INTMAP_CALL;
 
 // Makes an empty map, with a load factor of 909 thousandths, in a word that is INTMAP_INIT or has a
-// map, which is freed. The number of slots is the least power of two that is at least `capacity`,
-// and at least 2. To insert n pairs without growth, ask for n + n / 10 + 1 slots. The call returns
-// INTMAP_OK; INTMAP_TOO_LARGE if and only if `capacity` is above 2^63; or INTMAP_NO_MEMORY. If it
-// fails, it leaves the word as it was.
-INTMAP_NONNULL INTMAP_MUST_USE intmap_status intmap_with_capacity(intmap *map, size_t capacity)
+// map, which is freed. The number of slots is the least power of two that is at least `slots`, and
+// at least 2. To make room for pairs, call intmap_with_room, below. The call returns INTMAP_OK;
+// INTMAP_TOO_LARGE if and only if `slots` is above 2^63; or INTMAP_NO_MEMORY. If it fails, it leaves
+// the word as it was.
+INTMAP_NONNULL INTMAP_MUST_USE intmap_status intmap_with_slots(intmap *map, size_t slots)
     INTMAP_CALL;
+
+// The same as intmap_with_slots, under its name of 1.0.0.
+INTMAP_NONNULL INTMAP_MUST_USE static inline intmap_status intmap_with_capacity(intmap *map,
+                                                                                size_t capacity)
+    INTMAP_CALL {
+    return intmap_with_slots(map, capacity);
+}
 
 // Copies the map into `to`, another word that is INTMAP_INIT or has a map, which is freed. The copy
 // has the same pairs in the same order, as many slots and the same load factor. The copy of
@@ -414,34 +424,39 @@ INTMAP_NONNULL INTMAP_MUST_USE intmap_status intmap_set_load_factor(intmap *map,
 // stays. But the insertion of a key whose slot holds a pair may request memory, and fail.
 //
 // Insertions of ids that follow one another can't fail then: as long as all keys of the map lie
-// within as many numbers in a row as there are slots, each has a slot of its own. A law of the
-// sources, keys_in_a_row_have_room, proves it of a map with enough slots, and tests show that this
-// call makes enough.
+// within as many numbers in a row as there are slots, each has a slot of its own.
 //
-// A load factor above 10^16 counts as 10^16. The call returns INTMAP_OK; INTMAP_TOO_LARGE if and
-// only if that takes more than 2^63 slots, or there would be more than 2^64 - 1 pairs; or
-// INTMAP_NO_MEMORY, but never if the map has memory and slots enough.
-INTMAP_NONNULL INTMAP_MUST_USE static inline intmap_status intmap_reserve(intmap *map, size_t more)
+// The call returns INTMAP_OK; INTMAP_TOO_LARGE if and only if that takes more than 2^63 slots, or
+// there would be more than 2^64 - 1 pairs; or INTMAP_NO_MEMORY, but never if the map has memory and
+// slots enough.
+INTMAP_NONNULL INTMAP_MUST_USE intmap_status intmap_reserve(intmap *map, size_t more) INTMAP_CALL;
+
+// Makes room for `more` insertions of any keys: does what intmap_reserve does, and requests memory
+// for as many nodes. The next insertions of as many new keys then request no memory, so they can't
+// fail. Look-ups and removals between them change nothing of that. After a call that makes room or
+// sets the load factor, or that puts another map into the word, it holds no longer. That these
+// insertions request no memory is tested, and not proved.
+//
+// The nodes take 24 bytes for each of the `more` pairs. The call returns what intmap_reserve returns,
+// and INTMAP_NO_MEMORY also if the nodes are refused.
+INTMAP_NONNULL INTMAP_MUST_USE intmap_status intmap_reserve_insertions(intmap *map, size_t more)
+    INTMAP_CALL;
+
+// Makes an empty map with room for so many pairs, as intmap_reserve makes it, in a word that is
+// INTMAP_INIT or has a map, which is freed. The load factor is 909 thousandths. The call returns
+// what intmap_reserve returns. If it fails, it leaves the word as it was.
+INTMAP_NONNULL INTMAP_MUST_USE static inline intmap_status intmap_with_room(intmap *map,
+                                                                            size_t pairs)
     INTMAP_CALL {
-    const size_t most = (size_t)10000000000000000u;
-    size_t len = intmap_len(map), factor = intmap_load_factor(map), pairs = len + more;
-    // Slots meet the factor if 1000 * pairs < bound * slots. No sum or product overflows below.
-    size_t bound = (factor < most ? factor : most) + 1;
-    if (pairs < more || pairs / bound >= SIZE_MAX / 1000) {
-        return intmap_reserve_slots(map, SIZE_MAX);
+    intmap made = INTMAP_INIT;
+    intmap_status status = intmap_reserve(&made, pairs);
+    if (intmap_failed(status)) {
+        intmap_free(&made);
+        return status;
     }
-    size_t least = pairs / bound * 1000 + pairs % bound * 1000 / bound + 1;
-    if (least > len) {
-        return intmap_reserve_slots(map, least - len);
-    }
-    // A slot for each pair is too many. So for a moment the factor is one that these slots are the
-    // first to meet.
-    size_t slots = intmap_capacity(map);
-    while (slots < least) {
-        slots *= 2;
-    }
-    intmap_status status = intmap_set_load_factor(map, len / slots * 1000 + 999);
-    return intmap_failed(status) ? status : intmap_set_load_factor(map, factor);
+    intmap_free(map);
+    *map = made;
+    return INTMAP_OK;
 }
 
 // Returns INTMAP_PRESENT with the first pair of the walk from the cursor on, and moves the cursor

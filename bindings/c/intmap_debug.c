@@ -201,10 +201,10 @@ static intmap_status end_making(intmap *word, debug_record *old, debug_record *o
 extern "C" {
 #endif
 
-intmap_status intmap_debug_with_capacity(intmap *map, size_t capacity) {
-    debug_record *old = begin_changing("intmap_with_capacity", map), *one = new_record();
+intmap_status intmap_debug_with_slots(intmap *map, size_t slots) {
+    debug_record *old = begin_changing("intmap_with_slots", map), *one = new_record();
     return end_making(map, old, one,
-                      one == NULL ? INTMAP_NO_MEMORY : intmap_with_capacity(&one->map, capacity));
+                      one == NULL ? INTMAP_NO_MEMORY : intmap_with_slots(&one->map, slots));
 }
 
 intmap_status intmap_debug_clone(const intmap *map, intmap *to) {
@@ -290,6 +290,9 @@ FIRST_CALL(intmap_status, find_or_insert, (intmap *map, uint64_t key, uint64_t v
 FIRST_CALL(intmap_found_value, add_or_insert, (intmap *map, uint64_t key, uint64_t more),
            (&one->map, key, more), NO_VALUE)
 FIRST_CALL(intmap_status, reserve_slots, (intmap *map, size_t additional), (&one->map, additional),
+           INTMAP_NO_MEMORY)
+FIRST_CALL(intmap_status, reserve, (intmap *map, size_t more), (&one->map, more), INTMAP_NO_MEMORY)
+FIRST_CALL(intmap_status, reserve_insertions, (intmap *map, size_t more), (&one->map, more),
            INTMAP_NO_MEMORY)
 FIRST_CALL(intmap_status, set_load_factor, (intmap *map, size_t thousandths),
            (&one->map, thousandths), INTMAP_NO_MEMORY)

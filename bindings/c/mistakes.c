@@ -41,7 +41,7 @@ static void need(bool is_so) {
 }
 
 static void make(intmap *word) {
-    need(intmap_with_capacity(word, 4) == INTMAP_OK);
+    need(intmap_with_slots(word, 4) == INTMAP_OK);
     need(intmap_insert(word, 1, 2).status == INTMAP_ABSENT);
 }
 
@@ -88,7 +88,7 @@ static void free_copy(void) {
 
 static void replace_copy(void) {
     free_map();
-    need(intmap_with_capacity(&copy, 4) == INTMAP_OK);
+    need(intmap_with_slots(&copy, 4) == INTMAP_OK);
 }
 
 static void clone_copy(void) {
@@ -127,7 +127,7 @@ static void get_behind_next_map(void) {
 static void len_behind_with_capacity(void) {
     make(&map);
     copy = map;
-    need(intmap_with_capacity(&map, 9) == INTMAP_OK);
+    need(intmap_with_slots(&map, 9) == INTMAP_OK);
     intmap_len(&copy);
 }
 
@@ -282,10 +282,10 @@ static void replace_in_handler(void) {
     clone_with(signal_now);
 }
 
-static void get_within_with_capacity(void) {
+static void get_within_with_slots(void) {
     make(&map);
     within = get_now;
-    need(intmap_with_capacity(&map, 4) == INTMAP_OK);
+    need(intmap_with_slots(&map, 4) == INTMAP_OK);
 }
 
 // What is no mistake.
@@ -334,7 +334,7 @@ static const struct {
     MISTAKE(insert_into_copy, "intmap_insert", COPY),
     MISTAKE(clear_copy, "intmap_clear", COPY),
     MISTAKE(free_copy, "intmap_free", COPY),
-    MISTAKE(replace_copy, "intmap_with_capacity", COPY),
+    MISTAKE(replace_copy, "intmap_with_slots", COPY),
     MISTAKE(clone_copy, "intmap_clone", COPY),
     MISTAKE(clone_to_copy, "intmap_clone", COPY),
     MISTAKE(compare_copy, "intmap_equal", COPY),
@@ -358,7 +358,7 @@ static const struct {
     MISTAKE(free_within_clone, "intmap_free", READING),
     MISTAKE(get_behind_jump, "intmap_get", CHANGING),
     MISTAKE(replace_in_handler, "intmap_replace", READING),
-    MISTAKE(get_within_with_capacity, "intmap_get", CHANGING),
+    MISTAKE(get_within_with_slots, "intmap_get", CHANGING),
     MISTAKE(move_and_read, NULL, NULL),
     MISTAKE(make_many, NULL, NULL),
 };

@@ -474,6 +474,17 @@ static void call_reserve(size_t more) {
     }
 }
 
+static void call_reserve_insertions(size_t more) {
+    model *plain = &it->plain;
+    size_t slots = enough_slots(plain->len + more, plain->capacity, plain->factor);
+    begin();
+    intmap_status status = intmap_reserve_insertions(&it->map, more);
+    if (!fails(status, it)) {
+        EXPECT(status == INTMAP_OK);
+        set_slots(plain, slots);
+    }
+}
+
 static void call_set_load_factor(size_t thousandths) {
     size_t slots = enough_slots(it->plain.len, it->plain.capacity, thousandths);
     begin();
@@ -563,10 +574,19 @@ static void call_clear(void) {
 // Another map in place of this one, which is freed.
 static void call_make(size_t capacity) {
     begin();
-    intmap_status status = intmap_with_capacity(&it->map, capacity);
+    intmap_status status = intmap_with_slots(&it->map, capacity);
     if (!fails(status, it)) {
         EXPECT(status == INTMAP_OK);
         make_plain(&it->plain, least_power(capacity, 2));
+    }
+}
+
+static void call_make_room(size_t pairs) {
+    begin();
+    intmap_status status = intmap_with_room(&it->map, pairs);
+    if (!fails(status, it)) {
+        EXPECT(status == INTMAP_OK);
+        make_plain(&it->plain, enough_slots(pairs, 4, 909));
     }
 }
 
@@ -830,6 +850,42 @@ static void test_room_for(size_t factor, size_t len, size_t more) {
     end_test();
 }
 
+// Room for so many insertions of keys that are `step` apart, and share slots if that is a power of
+// two. They request nothing, whatever is removed between them.
+static void test_room_for_any(size_t factor, size_t len, size_t more, uint64_t step) {
+    call_make(4);
+    call_set_load_factor(factor);
+    insert_some(len, step);
+    while (refuse_in_turn()) {
+        call_reserve_insertions(more);
+    }
+    size_t slots = intmap_capacity(&it->map), before = requests;
+    for (size_t at = len; at < len + more; at++) {
+        call_insertion(at % INSERTIONS, at * step, at);
+        if (at % 5 == 2) {
+            call_remove(at * step);
+            call_insertion(at % INSERTIONS, at * step, at);
+        }
+    }
+    EXPECT(requests == before && intmap_capacity(&it->map) == slots);
+    check(it);
+    end_test();
+}
+
+// New maps with room. The keys come into it, and add no slots.
+static void test_made_room(void) {
+    for (size_t pairs = 0; pairs < 300; pairs += 1 + pairs / 9) {
+        while (refuse_in_turn()) {
+            call_make_room(pairs);
+        }
+        size_t slots = intmap_capacity(&it->map);
+        insert_some(pairs, 1);
+        EXPECT(intmap_capacity(&it->map) == slots);
+        check(it);
+    }
+    end_test();
+}
+
 static void test_room(void) {
     const size_t factors[] = {0,    1,    100,  500,   909,        999,
                               1000, 1001, 2500, 40000, 4000000000, SIZE_MAX};
@@ -839,10 +895,12 @@ static void test_room(void) {
         for (size_t first = 0; first < sizeof lens / sizeof lens[0]; first++) {
             for (size_t next = 0; next < sizeof mores / sizeof mores[0]; next++) {
                 test_room_for(factors[at], lens[first], mores[next]);
+                test_room_for_any(factors[at], lens[first], mores[next], 1 + next * 4095);
             }
         }
     }
     test_room_for(4000, 2047, 50);
+    test_made_room();
 }
 
 // Room for more pairs than a machine can have.
@@ -873,10 +931,25 @@ static void test_limits_of_room(void) {
         EXPECT(intmap_reserve(&it->map, SIZE_MAX) == INTMAP_TOO_LARGE);
         check(it);
         EXPECT(intmap_reserve(&it->map, rooms[at].pairs - 3) == rooms[at].status);
-        set_slots(&it->plain, rooms[at].status == INTMAP_OK ? 1024 : it->plain.capacity);
+        EXPECT(intmap_reserve_insertions(&it->map, rooms[at].pairs - 3)
+               == (intmap_failed(rooms[at].status) ? rooms[at].status : INTMAP_NO_MEMORY));
         check(it);
         end_test();
     }
+    // the pairs that 2^63 slots hold where no map can be made
+    const size_t most = 8393268553537845985u;
+    largest_request = 0;
+    call_free(it);
+    EXPECT(intmap_reserve(&it->map, most) == INTMAP_NO_MEMORY);
+    EXPECT(intmap_reserve(&it->map, most + 1) == INTMAP_TOO_LARGE);
+    EXPECT(intmap_reserve_insertions(&it->map, most) == INTMAP_NO_MEMORY);
+    EXPECT(intmap_reserve_insertions(&it->map, most + 1) == INTMAP_TOO_LARGE);
+    largest_request = LARGEST_REQUEST;
+    EXPECT(it->map.at == NULL && intmap_reserve(&it->map, most) == INTMAP_NO_MEMORY);
+    EXPECT(intmap_reserve(&it->map, most + 1) == INTMAP_TOO_LARGE);
+    call_make(4);
+    check(it);
+    end_test();
 }
 
 // The bytes of a slot.
@@ -955,7 +1028,7 @@ static void test_too_many_slots(void) {
     call_make(4);
     largest_request = (size_t)1 << 30;
     begin();
-    EXPECT(intmap_with_capacity(&it->map, slots) == INTMAP_NO_MEMORY && was_refused_at_once());
+    EXPECT(intmap_with_slots(&it->map, slots) == INTMAP_NO_MEMORY && was_refused_at_once());
     begin();
     EXPECT(intmap_reserve_slots(&it->map, slots) == INTMAP_NO_MEMORY && was_refused_at_once());
     largest_request = LARGEST_REQUEST;
@@ -966,15 +1039,16 @@ static void test_too_many_slots(void) {
 // Numbers that don't fit into 32 bits, or lie at a limit.
 static void test_limits(void) {
     const size_t half = (size_t)1 << 63, above_32_bits = (size_t)1 << 32;
-    EXPECT(intmap_with_capacity(&it->map, half + 1) == INTMAP_TOO_LARGE && it->map.at == NULL);
+    EXPECT(intmap_with_slots(&it->map, half + 1) == INTMAP_TOO_LARGE && it->map.at == NULL);
     for (size_t capacity = 0; capacity < 70; capacity++) {
         call_make(capacity);
         check_figures(it);
     }
     insert_some(3, UINT64_MAX);
-    EXPECT(intmap_with_capacity(&it->map, SIZE_MAX) == INTMAP_TOO_LARGE);
+    EXPECT(intmap_with_slots(&it->map, SIZE_MAX) == INTMAP_TOO_LARGE);
     EXPECT(intmap_with_capacity(&it->map, half) == INTMAP_NO_MEMORY);
-    EXPECT(intmap_with_capacity(&it->map, above_32_bits) == INTMAP_NO_MEMORY);
+    EXPECT(intmap_with_slots(&it->map, half) == INTMAP_NO_MEMORY);
+    EXPECT(intmap_with_slots(&it->map, above_32_bits) == INTMAP_NO_MEMORY);
     EXPECT(intmap_reserve_slots(&it->map, SIZE_MAX) == INTMAP_TOO_LARGE);
     EXPECT(intmap_reserve_slots(&it->map, half - 2) == INTMAP_TOO_LARGE);
     EXPECT(intmap_reserve_slots(&it->map, half - 3) == INTMAP_NO_MEMORY);
@@ -1235,7 +1309,7 @@ static bool is_even(intmap_pair pair, void *argument) {
 
 static void test_addresses(void) {
     intmap map = INTMAP_INIT;
-    EXPECT(intmap_with_capacity(&map, 4) == INTMAP_OK);
+    EXPECT(intmap_with_slots(&map, 4) == INTMAP_OK);
     uint64_t blocks = live_blocks;
     for (uint64_t key = 0; key < 100; key++) {
         EXPECT(!intmap_failed(intmap_insert(&map, key, intmap_from_pointer(malloc(1))).status));
@@ -1311,6 +1385,7 @@ static void test_each(void) {
     RUN(test_first(call_add_or_insert));
     RUN(test_first(call_reserve_slots));
     RUN(test_first(call_reserve));
+    RUN(test_first(call_reserve_insertions));
     RUN(test_first(call_set_load_factor));
     RUN(test_first_too_large());
     RUN(test_one_without_memory());
@@ -1382,8 +1457,10 @@ static void call_on_all(uint64_t value, unsigned which) {
         check_walk(it, 1 + value % LARGEST_ROOM);
     } else if (which < 55) {
         call_reserve_slots(value % 100);
-    } else if (which < 60) {
+    } else if (which < 58) {
         call_reserve(value % 300);
+    } else if (which < 60) {
+        call_reserve_insertions(value % 60);
     } else if (which < 70) {
         call_set_load_factor(200 + value % 3000);
     } else if (which < 80) {

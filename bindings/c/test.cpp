@@ -12,6 +12,8 @@ static bool is(intmap_found_value answer, intmap_status status, uint64_t value) 
 
 static bool makes_and_reads(intmap *map) {
     return intmap_version() == INTMAP_VERSION && intmap_len(map) == 0
+           && intmap_with_room(map, 20) == INTMAP_OK
+           && intmap_with_slots(map, 9) == INTMAP_OK && intmap_capacity(map) == 16
            && intmap_with_capacity(map, 20) == INTMAP_OK && intmap_capacity(map) == 32
            && is(intmap_insert(map, 21, 7), INTMAP_ABSENT, 0)
            && intmap_find_or_insert(map, 21, 8) == INTMAP_PRESENT
@@ -27,6 +29,7 @@ static bool changes(intmap *map) {
            && is(intmap_remove(map, 6), INTMAP_ABSENT, 0)
            && intmap_reserve_slots(map, 100) == INTMAP_OK
            && intmap_reserve(map, 100) == INTMAP_OK
+           && intmap_reserve_insertions(map, 100) == INTMAP_OK
            && intmap_set_load_factor(map, 500) == INTMAP_OK;
 }
 

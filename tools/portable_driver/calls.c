@@ -25,8 +25,8 @@ uint32_t intmap_version(void) INTMAP_CALL {
     return do_intmap_version();
 }
 
-intmap_status intmap_with_capacity(intmap *map, size_t capacity) INTMAP_CALL {
-    return STATUS(do_intmap_with_capacity(BYTES(map), capacity));
+intmap_status intmap_with_slots(intmap *map, size_t slots) INTMAP_CALL {
+    return STATUS(do_intmap_with_slots(BYTES(map), slots));
 }
 
 intmap_status intmap_clone(const intmap *map, intmap *to) INTMAP_CALL {
@@ -100,6 +100,14 @@ size_t intmap_filled_slots(const intmap *map) INTMAP_CALL {
 
 intmap_status intmap_reserve_slots(intmap *map, size_t additional) INTMAP_CALL {
     return STATUS(do_intmap_reserve_slots(BYTES(map), additional));
+}
+
+intmap_status intmap_reserve(intmap *map, size_t more) INTMAP_CALL {
+    return STATUS(do_intmap_reserve(BYTES(map), more));
+}
+
+intmap_status intmap_reserve_insertions(intmap *map, size_t more) INTMAP_CALL {
+    return STATUS(do_intmap_reserve_insertions(BYTES(map), more));
 }
 
 intmap_status intmap_set_load_factor(intmap *map, size_t thousandths) INTMAP_CALL {

@@ -2,11 +2,13 @@
 use Rattle.std.specs.Prelude.{◌≡◌, ◌↔◌, ◌⊎◌, ℕ, ℤ, ◌+◌, ◌^◌, ◌<◌, ◌≤◌, ◌%◌, cond, Bool, true, length, Option, None, Some, is_some}
 use Rattle.intmap.specs.Bindings.{value_of, IsPresent, Updates}
 use Rattle.intmap.specs.Cloning.{IsClone}
-use Rattle.intmap.specs.Growing.{IsReservation, IsNewFactor, MayRefuseReserve, MayRefuseFactor}
+use Rattle.intmap.specs.Growing.{IsReservation, IsNewFactor, IsRoomMade, MayRefuseReserve, MayRefuseFactor, MayRefuseRoom, NeedsTooMuchRoom}
 use Rattle.intmap.specs.Insertions.{MapInserts}
-use Rattle.intmap.specs.Map.{MapState, empty_map, first_capacity, after_search, after_remove, written}
+use Rattle.intmap.specs.Map.{MapState, empty_map, first_capacity, first_factor, after_search, after_remove, written}
 use Rattle.intmap.specs.PlainLists.{RefusalIsDue, list_of}
+use Rattle.intmap.specs.Room.{HasRoomInRow}
 use Rattle.intmap_table.specs.Figures.{load_of}
+use Rattle.intmap.specs.declared.refusal.Cause.TheVariants.{TooLarge}
 use Rattle.intmap_c.specs.Statuses.{ok_status, present_status, absent_status, no_memory_status, too_large_status}
 use Rattle.intmap_c.specs.declared.answer.FoundValue.{FoundValue}
 use Rattle.intmap_c.specs.Answers.{value_found, no_value, Fails}
@@ -116,6 +118,30 @@ abbrev pub Reserves : State → State → ℕ → ℤ → Type 0
 Reserves m n additional status =
     ((status ≡ ok_status) × IsReservation itself m additional n × BindSame m n)
     ⊎ Fails (MayRefuseReserve m.capacity (length m.walk + additional)) m n status
+
+-- there was no memory for a first map, which was to have room for this number of pairs, or these would be too many
+abbrev pub MakesNoneWithRoom : ℕ → ℤ → Type 0
+MakesNoneWithRoom more status =
+    ((status ≡ too_large_status) × NeedsTooMuchRoom first_capacity more first_factor)
+    ⊎ ((status ≡ no_memory_status) × (NeedsTooMuchRoom first_capacity more first_factor → ⊥))
+
+-- there is room for this number of pairs more, which ids that follow one another find without a failure
+pub record GainsRoom (m n : State) (more : ℕ) : Type 0 where
+  pub made : IsRoomMade itself m more n
+  pub same : BindSame m n
+  pub room : HasRoomInRow itself n.walk n.capacity n.factor more
+
+-- there is this room; or the call failed
+abbrev pub MakesRoom : State → State → ℕ → ℤ → Type 0
+MakesRoom m n more status =
+    ((status ≡ ok_status) × GainsRoom m n more)
+    ⊎ Fails (MayRefuseRoom m.capacity (length m.walk + more) m.factor) m n status
+
+-- the same of a call that also requests memory for pairs that share a slot, which contracts don't see
+abbrev pub MakesRoomToShare : State → State → ℕ → ℤ → Type 0
+MakesRoomToShare m n more status =
+    ((status ≡ ok_status) × GainsRoom m n more)
+    ⊎ Fails (λ cause. (cause ≡ TooLarge) ↔ NeedsTooMuchRoom m.capacity (length m.walk + more) m.factor) m n status
 
 -- the load factor is F, and met; or the call failed
 abbrev pub SetsFactor : State → State → ℕ → ℤ → Type 0

@@ -34,18 +34,18 @@ pub(crate) fn keep(alloc: Global, handle: &mut Handle, made: Result<IntMap<u64, 
 }
 
 /// Makes an empty map, with a load factor of 909 thousandths, and returns `OK`. Its number of slots
-/// is the least power of two that is at least `capacity`, and at least 2. If the handle had a map,
-/// that map is freed. It fails with `TOO_LARGE` if and only if `capacity` is above 2^63, and
-/// otherwise with `NO_MEMORY` if an allocation fails. A failed call leaves the handle.
+/// is the least power of two that is at least `slots`, and at least 2. If the handle had a map, that
+/// map is freed. It fails with `TOO_LARGE` if and only if `slots` is above 2^63, and otherwise with
+/// `NO_MEMORY` if an allocation fails. A failed call leaves the handle.
 #[unsafe(no_mangle)]
-pub extern "C" fn intmap_with_capacity(alloc: Global, handle: &mut Handle, capacity: usize) -> i32
+pub extern "C" fn intmap_with_slots(alloc: Global, handle: &mut Handle, slots: usize) -> i32
     ensures outcome { ((result ≡ ok_status)
-        × ((D : ℕ) × IsLeastPower (max capacity least_capacity) D
+        × ((D : ℕ) × IsLeastPower (max slots least_capacity) D
         × (handle.new.value ≡ Some (empty_map D))))
         ⊎ (IsFailed result × (handle.new.value ≡ handle.old.value)) }
-    ensures too_large { (result ≡ too_large_status) ↔ (2 ^ 63 < capacity) }
+    ensures too_large { (result ≡ too_large_status) ↔ (2 ^ 63 < slots) }
 {
-    keep(alloc, handle, IntMap::with_capacity(alloc, capacity))
+    keep(alloc, handle, IntMap::with_capacity(alloc, slots))
 }
 
 /// Frees the map of the handle, which then has none.

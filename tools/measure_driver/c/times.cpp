@@ -47,7 +47,7 @@ struct of_intmap {
     intmap map = INTMAP_INIT;
     // room at the load factor of 909 thousandths
     explicit of_intmap(size_t room) {
-        require(room == 0 || !intmap_failed(intmap_with_capacity(&map, room + room / 10 + 1)));
+        require(room == 0 || !intmap_failed(intmap_with_slots(&map, room + room / 10 + 1)));
     }
     ~of_intmap() { intmap_free(&map); }
     uint64_t put(uint64_t key, uint64_t value) {
