@@ -17,5 +17,4 @@ pub mod BindingLemmas
 pub mod BindSameLemmas
 pub mod Tables
 pub mod Nodes
-pub mod Rows
 pub mod Lending

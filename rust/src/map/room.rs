@@ -63,7 +63,7 @@ impl<K: IntKey, V> IntMap<K, V> {
     /// # Errors
     /// [`Cause::TooLarge`] if there would be more than 2^64 - 1 pairs or more than 2^63 slots are
     /// needed, and otherwise [`Cause::Memory`] if an allocation fails. The map then stays as it was.
-    /// It never fails if the capacity stays.
+    /// If the capacity stays, it allocates nothing.
     ///
     /// Proved of `IntMap::reserve_pairs`: `reserved`, `room`, `err`, `refused`, `updates`, `len`.
     pub fn try_reserve_pairs(&mut self, additional: usize) -> Result<(), Cause> {

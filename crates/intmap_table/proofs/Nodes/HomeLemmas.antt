@@ -1,16 +1,37 @@
--- What closures leave of a row is at home where the row was.
-use Rattle.std.proofs.Common.{◌≡◌, ℕ, Bool, true, false, cond, List, [], ◌∷◌, Option, take, drop, sym, ap, ◌∙◌, subst}
+-- Which pairs are at home in a row, and that what closures leave of it is.
+use Rattle.std.proofs.Common.{◌≡◌, ℕ, ◌<◌, Bool, true, false, cond, List, [], ◌∷◌, length, get_or, Option, take, drop, sym, ap, ◌∙◌, subst, arith}
+use Rattle.std.specs.Prelude.{All}
 use Rattle.std.specs.Fn.{Mut}
 use Rattle.std.specs.Borrow.{MutBor}
 use Rattle.std.specs.List.Retain.{ExtractsNext}
-use Rattle.std.proofs.lemmas.List.{take-append-drop}
+use Rattle.std.proofs.lemmas.List.{take-append-drop, get_or-map, length-map}
+use Rattle.std.proofs.lemmas.List.Elements.{All-nil, All-cons}
 use Rattle.intmap_table.specs.Classes.{slot_number}
 use Rattle.intmap_table.specs.Picking.{ExtractsBehind, PicksAt}
 use Rattle.intmap_table.specs.Retaining.{Retains}
 use Rattle.intmap_table.specs.Writes.{Writes}
-use Rattle.intmap_table.specs.Tables.Nodes.{AreHome}
+use Rattle.intmap_table.specs.Tables.Nodes.{Slot, Empty, Pool, AreHome, AreLinked, row_in, rows_in}
+use Rattle.intmap_table.specs.Tables.Rows.{AreRows}
 use Rattle.intmap_table.proofs.ExtractLemmas.{ExtractsNext-induct}
 use Rattle.intmap_table.proofs.Nodes.LinkedLemmas.{home_take, home_drop, home-join}
+
+module _ {P : Type 0} (home : P → ℕ) where
+  All-home : (i : ℕ) (ps : List P) → AreHome home i ps → All (λ p. home p ≡ i) ps
+  All-home i [] own = All-nil (λ p. home p ≡ i)
+  All-home i (p ∷ ps) own = All-cons (λ p. home p ≡ i) p ps own.0 (All-home i ps own.1)
+
+  -- each row has pairs that are at home there
+  pub Linked-own : (slots : List (Slot P)) (a : Pool P) → AreLinked home slots a → (i : ℕ) → i < length slots → All (λ p. home p ≡ i) (get_or (rows_in slots a.nodes) i [])
+  Linked-own slots a linked i below =
+      subst (λ row. All (λ p. home p ≡ i) row) (sym (get_or-map (row_in a.nodes) slots i Empty [] below)) (All-home i (row_in a.nodes (get_or slots i Empty)) (linked.own i below))
+
+-- as contracts see the rows
+pub Rows-own : {K X : Type 0} (number : K → ℕ) (slots : List (Slot (K × X))) (a : Pool (K × X)) (marks : List Bool) (mask : ℕ) → AreRows number slots a marks mask
+    → (i : ℕ) → i < length (rows_in slots a.nodes) → All (λ p. slot_number number p.0 (length (rows_in slots a.nodes)) ≡ i) (get_or (rows_in slots a.nodes) i [])
+Rows-own number slots a marks mask are i below =
+    let long = length-map slots (row_in a.nodes) in
+    subst (λ n. All (λ p. slot_number number p.0 n ≡ i) (get_or (rows_in slots a.nodes) i [])) (sym long)
+    (Linked-own (λ p. slot_number number p.0 (length slots)) slots a are.linked i (omega (arith, long, below)))
 
 module _ {F P : Type 0} (home : P → ℕ) (i : ℕ) (R : F → P → Bool → F → Type 0) where
   one_kept : (b : Bool) (p : P) (ps : List P) → home p ≡ i → AreHome home i ps → AreHome home i (cond b (p ∷ ps) ps)

@@ -6,7 +6,6 @@ use Rattle.intmap_table.specs.Tables.Nodes.{Held, Slot, Empty, Filled, Pool, nod
 use Rattle.intmap_table.specs.Tables.Rows.{Contents, write_rows, AreRows}
 use Rattle.intmap_table.specs.Tables.Slots.{write_at}
 use Rattle.intmap_table.proofs.Tables.FilledLemmas.{row-within}
-use Rattle.intmap_table.proofs.Tables.RowLemmas.{length-write_at}
 use Rattle.intmap_table.proofs.Nodes.ChainLemmas.{Reached-value}
 use Rattle.intmap_table.proofs.Nodes.LinkedLemmas.{HaveRows, IsRow, Row-of, Row-kept}
 use Rattle.intmap_table.proofs.Nodes.PathLemmas.{Reached-some}
@@ -14,6 +13,12 @@ use Rattle.intmap_table.proofs.Nodes.SlotLemmas.{get_or-behind}
 use Rattle.intmap_table.proofs.Nodes.WrittenLemmas.{Written-first, Written-behind, AreHome-write_at}
 
 module _ {K X : Type 0} where
+  -- a write removes no pair
+  pub length-write_at : (ps : List (K × X)) (i : ℕ) (v : X) → length (write_at ps i v) ≡ length ps
+  length-write_at [] i v = refl
+  length-write_at (p ∷ ps) zero v = refl
+  length-write_at (p ∷ ps) (suc i) v = ap suc (length-write_at ps i v)
+
   -- the rows with a value written are the rows with that row changed
   set-write_rows : (R : List (List (K × X))) (i j : ℕ) (v : X) → set R i (write_at (get_or R i []) j v) ≡ write_rows R i j v
   set-write_rows [] i j v = refl

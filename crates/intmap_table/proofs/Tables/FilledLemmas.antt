@@ -78,3 +78,7 @@ next-marked R marks are from i next =
       filled = some;
       between = λ j le lt. row-none (get_or R j []) (sym (are.own j) ∙ next.between j le lt);
     }
+
+-- if no row holds a pair from the first one on that wasn't passed, there is none
+pub joined-passed : {P : Type 0} (R : List (List P)) (from : ℕ) → ((j : ℕ) → j < from → get_or R j [] ≡ []) → ((j : ℕ) → from ≤ j → get_or R j [] ≡ []) → joined R ≡ []
+joined-passed R from passed none = joined-emptied R (λ j. let before = passed j in let behind = none j in grind (arith, before, behind))

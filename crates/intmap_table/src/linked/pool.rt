@@ -164,12 +164,13 @@ impl<P, A: Allocator> Pool<P, A> {
 }
 
 impl<P, A: Allocator> Pool<P, A> {
-    /// Makes room for `additional` more pairs.
+    /// Makes room for `additional` more pairs. If an allocation fails, nothing changes.
     pub(crate) fn reserve(&mut self, additional: usize) -> Result<(), AllocError>
         ensures nodes { self.new.nodes ≡ self.old.nodes }
         ensures held { self.new.held ≡ self.old.held }
         ensures room { OnOk result (additional ≤ self.new.room) }
         ensures none { OnErr result (self.old.room < additional) }
+        ensures err { OnErr result (self.new ≡ self.old) }
     {
         if additional <= self.spare {
             return Ok(());

@@ -16,7 +16,7 @@ impl<K: IntKey, X: Drop, A: Allocator + Copy> Table<K, X, A> {
     /// Puts the pair of an absent key behind the pairs of its slot, moves all pairs, in the order
     /// of the walk, to their slots among `capacity` slots, and returns where the new pair is. If an
     /// allocation fails, the value is returned and nothing changes.
-    pub fn grow_with(
+    pub fn grow_and_add(
         &mut self,
         capacity: usize,
         slot: usize,
@@ -42,7 +42,10 @@ impl<K: IntKey, X: Drop, A: Allocator + Copy> Table<K, X, A> {
     {
         let target = index_of(&key, capacity);
         let pair = (Stored::new(key), value);
-        if let Err((_, value)) = self.slots.grow_with(capacity, slot, target, pair, placed) {
+        if let Err((_, value)) = self
+            .slots
+            .grow_and_push(capacity, slot, target, pair, placed)
+        {
             return Err(value);
         }
         let place = self.slots.last_place(target);

@@ -1,5 +1,5 @@
 //! Growth in one jump. All memory is allocated before the first pair moves.
-ghost use Rattle.std.specs.Prelude.{◌≡◌, ◌+◌, ◌<◌, ◌≤◌, ℕ, All, cond, nat_lt, [], ◌∷◌, ◌++◌, false, List, length, slice_index_or, IfErr, OnErr, OnOk};
+ghost use Rattle.std.specs.Prelude.{◌≡◌, ◌+◌, ◌%◌, ◌<◌, ◌≤◌, ℕ, cond, nat_lt, [], ◌∷◌, ◌++◌, false, List, length, slice_index_or, IfErr, OnErr, OnOk};
 ghost use Rattle.intmap_table.specs.Classes.{IsCapacity, slot_number};
 ghost use Rattle.intmap_table.specs.Walk.{slot_of};
 ghost use Rattle.intmap_table.specs.Tables.Nodes.{chain_of, further, node_limit, is_empty, row_in, rows_in, Node, AreLinked, IsChain, IsSlot, IsSlotSet};
@@ -120,9 +120,6 @@ fn move_rows<K: IntKey, X, A: Allocator>(
     requires marks { AreMarked (rows_in slots.old.items pool.old.nodes) bits.now }
     requires linked { AreLinked (λ p. slot_number K.number_of p.0 (length slots.old.items))
         slots.old.items pool.old }
-    requires own { (i : ℕ) → i < length slots.old.items
-        → All (λ p. slot_number K.number_of p.0 (length slots.old.items) ≡ i)
-        (slice_index_or (rows_in slots.old.items pool.old.nodes) i []) }
     requires grown { IsGrown (length slots.old.items) (length new.old.rows) }
     requires none { (j : ℕ) → row_at new.old j ≡ [] }
     requires room { further (rows_in slots.old.items pool.old.nodes) ≤ new.old.room }
@@ -159,9 +156,6 @@ impl<K: IntKey, X, A: Allocator> Slots<K, X, A> {
     /// Moves all pairs, slot after slot, to new slots, and leaves none.
     fn move_all(&mut self, new: &mut Slots<K, X, A>, placed: &mut Steps)
         requires grown { IsGrown (length self.old.rows) (length new.old.rows) }
-        requires own { (i : ℕ) → i < length self.old.rows
-            → All (λ p. slot_number K.number_of p.0 (length self.old.rows) ≡ i)
-            (row_at self.old i) }
         requires none { (j : ℕ) → row_at new.old j ≡ [] }
         requires room { further self.old.rows ≤ new.old.room }
         ensures placed { IsPlaced K.number_of (length new.old.rows) (joined self.old.rows)
@@ -175,13 +169,14 @@ impl<K: IntKey, X, A: Allocator> Slots<K, X, A> {
         self.bits.clear_all();
     }
 
-    /// For how many pairs behind the first ones of their slots there must be room, if a pair comes to
-    /// this slot and goes on to slot `target` among `capacity`.
+    /// For how many pairs behind the first ones of their slots there must be room, if all pairs move to
+    /// `capacity` slots and one more comes to slot `target` of them. Pairs go there from slot `index`
+    /// alone.
     fn needed(&self, index: usize, capacity: usize, target: usize) -> usize
-        requires within { index < length self.now.rows }
-        requires capacity { IsCapacity capacity }
+        requires grown { IsGrown (length self.now.rows) capacity }
+        requires part { target % length self.now.rows ≡ index }
         ensures { result ≡ further self.now.rows + cond (nat_lt 0
-            (length (slot_of K.number_of (row_at self.now index) capacity target))) 1 0 }
+            (length (slot_of K.number_of (joined self.now.rows) capacity target))) 1 0 }
     {
         let further = self.further();
         if goes_to(&self.slots[index], &self.pool, capacity - 1, target) {
@@ -192,11 +187,12 @@ impl<K: IntKey, X, A: Allocator> Slots<K, X, A> {
 }
 
 impl<K: IntKey, X: Drop, A: Allocator + Copy> Slots<K, X, A> {
-    /// Makes room for `additional` more pairs that share a slot. If an allocation fails, no pair moves.
+    /// Makes room for `additional` more pairs that share a slot. If an allocation fails, nothing changes.
     pub(crate) fn reserve(&mut self, additional: usize) -> Result<(), AllocError>
         ensures rows { self.new.rows ≡ self.old.rows }
         ensures room { OnOk result (additional ≤ self.new.room) }
         ensures none { OnErr result (self.old.room < additional) }
+        ensures err { OnErr result (self.new ≡ self.old) }
     {
         self.pool.reserve(additional)
     }
@@ -210,9 +206,6 @@ impl<K: IntKey, X: Drop, A: Allocator + Copy> Slots<K, X, A> {
         placed: &mut Steps,
     ) -> Result<(), AllocError>
         requires grown { IsGrown (length self.old.rows) capacity }
-        requires own { (i : ℕ) → i < length self.old.rows
-            → All (λ p. slot_number K.number_of p.0 (length self.old.rows) ≡ i)
-            (row_at self.old i) }
         ensures len { OnOk result (length self.new.rows ≡ capacity) }
         ensures rows { OnOk result ((j : ℕ) → j < capacity
             → row_at self.new j ≡ slot_of K.number_of (joined self.old.rows) capacity j) }
@@ -236,7 +229,7 @@ impl<K: IntKey, X: Drop, A: Allocator + Copy> Slots<K, X, A> {
     /// Puts a new pair behind the pairs of its slot, and moves all pairs, in the order of the walk,
     /// to their slots among `capacity` slots. If an allocation fails, the pair is returned, and no
     /// pair moves.
-    pub(crate) fn grow_with(
+    pub(crate) fn grow_and_push(
         &mut self,
         capacity: usize,
         slot: usize,
@@ -245,9 +238,6 @@ impl<K: IntKey, X: Drop, A: Allocator + Copy> Slots<K, X, A> {
         placed: &mut Steps,
     ) -> Result<(), (Stored<K>, X)>
         requires grown { IsGrown (length self.old.rows) capacity }
-        requires own { (i : ℕ) → i < length self.old.rows
-            → All (λ p. slot_number K.number_of p.0 (length self.old.rows) ≡ i)
-            (row_at self.old i) }
         requires slot { slot ≡ slot_number K.number_of pair.0 (length self.old.rows) }
         requires target { target ≡ slot_number K.number_of pair.0 capacity }
         ensures len { OnOk result (length self.new.rows ≡ capacity) }

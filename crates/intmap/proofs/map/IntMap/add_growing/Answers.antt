@@ -7,7 +7,7 @@ use Rattle.intmap.proofs.RefusalLemmas.{RefusalIsDue-too_large, RefusalIsDue-mem
 use Rattle.intmap.proofs.LoadFactorLemmas.{IsNext-changes, IsNext-unique}
 use Rattle.intmap.proofs.MapLemmas.{MapState-same, IsConsistent-grown_with}
 use Rattle.intmap.proofs.map.IntMap.add_growing.Goals as goal
-use Rattle.intmap.proofs.map.IntMap.add_growing.Goals.{After-capacity, After-grow_with}
+use Rattle.intmap.proofs.map.IntMap.add_growing.Goals.{After-capacity, After-grow_and_add}
 
 module _ (g : _) (c : After-capacity g) where
   long : c.args.len ≡ length c.self.inside.table.walk + 1
@@ -19,7 +19,7 @@ module _ (g : _) (c : After-capacity g) where
   missing : value_of g.K.IntKey.number_of c.self.inside.table.walk c.args.key ≡ None
   missing = rw (← c.self.view_is) at c.requires.missing
 
-module _ (g : _) (c : After-grow_with g) (long : c.args.len ≡ length c.self.inside.table.walk + 1) where
+module _ (g : _) (c : After-grow_and_add g) (long : c.args.len ≡ length c.self.inside.table.walk + 1) where
   -- the capacity that is wanted is the next
   next : IsNext c.self.inside.table.capacity (length c.self.inside.table.walk + 1) c.self.inside.factor c.in-Some.capacity
   next = rw (rw long at c.requires.due) (rw (c.capacity.ensures.value, long) at c.in-Some.ensures.wanted)
@@ -30,8 +30,8 @@ module _ (g : _) (c : After-grow_with g) (long : c.args.len ≡ length c.self.in
       let over : c.self.inside.factor < (length c.self.inside.table.walk + 1) * 1000 / c.self.inside.table.capacity = rw (← c.self.view_is) at (rw long at c.requires.exceeds) in
       IsNext-changes c.self.inside.table.capacity (length c.self.inside.table.walk + 1) c.self.inside.factor c.in-Some.capacity over (rw long at c.in-Some.ensures.wanted.meets)
 
-pub grow_with-requires-clause-missing : goal.grow_with-requires-clause-missing
-grow_with-requires-clause-missing g c = missing g (goal.at.grow_with-requires-clause-missing g c).After-capacity
+pub grow_and_add-requires-clause-missing : goal.grow_and_add-requires-clause-missing
+grow_and_add-requires-clause-missing g c = missing g (goal.at.grow_and_add-requires-clause-missing g c).After-capacity
 
 pub returns-in_default : goal.returns-in_default
 returns-in_default g c =
@@ -51,7 +51,7 @@ returns-in_default g c =
 
 pub returns-in-Err : goal.returns-in-Err
 returns-in-Err g c =
-    let at = (goal.at.returns-in-Err g c).After-capacity in let w = (goal.at.returns-in-Err g c).After-grow_with in
+    let at = (goal.at.returns-in-Err g c).After-capacity in let w = (goal.at.returns-in-Err g c).After-grow_and_add in
     rw (← c.self.view_is, c.in-Err.ensures.err, c.in-Err.ensures.none_placed) record {
       key = tt;
       at = tt;
@@ -70,12 +70,12 @@ invariant_of-self g c =
     let at = (goal.at.invariant_of-self g c).After-capacity in let told = c.in-Ok.ensures in
     let e : c.args.len ≡ c.self.inside.len + 1 = long g at ∙ ap (λ n. n + 1) (sym c.self.invariant.count) in
     let fits = c.ranges.len.fits in
-    rw e (IsConsistent-grown_with _ _ _ _ _ _ _ _ c.self.invariant c.in-Some.capacity c.grow_with.new.self.capacity c.threshold_of-threshold.result c.args.key c.new.result
+    rw e (IsConsistent-grown_with _ _ _ _ _ _ _ _ c.self.invariant c.in-Some.capacity c.grow_and_add.new.self.capacity c.threshold_of-threshold.result c.args.key c.new.result
     told.capacity c.in-Some.ensures.capacity told.known (missing g at) (omega (arith, e, fits)) (rw e at c.in-Some.ensures.wanted.meets) c.threshold_of-threshold.ensures told.walk)
 
 pub returns-in-Ok : goal.returns-in-Ok
 returns-in-Ok g c =
-    let at = (goal.at.returns-in-Ok g c).After-capacity in let w = (goal.at.returns-in-Ok g c).After-grow_with in let told = c.in-Ok.ensures in let after = (invariant_of-self g c).map in
+    let at = (goal.at.returns-in-Ok g c).After-capacity in let w = (goal.at.returns-in-Ok g c).After-grow_and_add in let told = c.in-Ok.ensures in let after = (invariant_of-self g c).map in
     rw (← c.self.view_is) record {
       key = told.key;
       at = told.at;

@@ -2,8 +2,8 @@ use Rattle.std.proofs.Common.{◌≡◌, ◌∙◌, [], ◌∷◌, ◌++◌, Non
 use Rattle.intmap_table.specs.Bindings.{value_of}
 use Rattle.intmap_table.specs.Classes.{slot_number}
 use Rattle.intmap_table.specs.Tables.Slots.{Grid, joined}
-use Rattle.intmap_table.proofs.Rows.LocationLemmas.{IsAt-added, IsTable-added}
-use Rattle.intmap_table.proofs.Rows.TableLemmas.{IsSlot, walk-added, class_size-here}
+use Rattle.intmap_table.proofs.Tables.LocationLemmas.{IsAt-added, IsTable-added}
+use Rattle.intmap_table.proofs.Tables.TableLemmas.{IsSlot, walk-added, class_size-here}
 use Rattle.intmap_table.proofs.table.Table.add.Goals as goal
 use Rattle.intmap_table.proofs.table.Table.add.Goals.{After-push, In-Ok}
 

@@ -1,5 +1,5 @@
 use Rattle.intmap_table.proofs.Tables.FilledLemmas.{joined-emptied}
-use Rattle.intmap_table.proofs.Rows.TableLemmas.{IsTable-empty}
+use Rattle.intmap_table.proofs.Tables.TableLemmas.{IsTable-empty}
 use Rattle.intmap_table.proofs.table.Table.clear.Goals as goal
 
 pub invariant_of-self : goal.invariant_of-self

@@ -1,8 +1,8 @@
 use Rattle.std.proofs.Common.{subst}
 use Rattle.intmap_table.specs.Tables.Slots.{Grid, joined}
 use Rattle.intmap_table.proofs.Tables.CloneLemmas.{AreClones}
-use Rattle.intmap_table.proofs.Rows.MovedLemmas.{AreClones-joined, IsTable-clones, length-clones}
-use Rattle.intmap_table.proofs.Rows.TableLemmas.{walk_of-joined}
+use Rattle.intmap_table.proofs.Tables.MovedLemmas.{AreClones-joined, IsTable-clones, length-clones}
+use Rattle.intmap_table.proofs.Tables.TableLemmas.{walk_of-joined}
 use Rattle.intmap_table.proofs.table.Table.clone.Goals as goal
 
 pub invariant_of-result : goal.invariant_of-result

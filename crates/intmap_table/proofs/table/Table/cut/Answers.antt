@@ -4,8 +4,8 @@ use Rattle.intmap_table.specs.Tables.Slots.{joined, count_before}
 use Rattle.intmap_table.specs.Tables.Rows.{IsTable}
 use Rattle.intmap_table.specs.declared.table.walk.Cursor.{Cursor}
 use Rattle.intmap_table.proofs.SlotNumberLemmas.{capacity-greatest}
-use Rattle.intmap_table.proofs.Rows.CursorLemmas.{IsTable-cut, before-cut, drop-cut, position-before, take-cut}
-use Rattle.intmap_table.proofs.Rows.TableLemmas.{walk_of-joined}
+use Rattle.intmap_table.proofs.Tables.CursorLemmas.{IsTable-cut, before-cut, drop-cut, position-before, take-cut}
+use Rattle.intmap_table.proofs.Tables.TableLemmas.{walk_of-joined}
 use Rattle.intmap_table.proofs.table.Table.cut.Goals as goal
 use Rattle.intmap_table.proofs.table.Table.cut.Goals.{After-seek, After-remove_at-key}
 

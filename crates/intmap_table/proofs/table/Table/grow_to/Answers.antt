@@ -5,8 +5,8 @@ use Rattle.intmap_table.specs.Tables.Slots.{joined}
 use Rattle.intmap_table.specs.Tables.Rows.{HasMoved, IsTable}
 use Rattle.intmap_table.proofs.Tables.GrownLemmas.{IsGrown-from}
 use Rattle.intmap_table.proofs.Tables.MemoryLemmas.{OnOk-always, OnOk-or, OnOk-both}
-use Rattle.intmap_table.proofs.Rows.MovedLemmas.{joined-moved, IsTable-moved}
-use Rattle.intmap_table.proofs.Rows.TableLemmas.{walk_of-joined}
+use Rattle.intmap_table.proofs.Tables.MovedLemmas.{joined-moved, IsTable-moved}
+use Rattle.intmap_table.proofs.Tables.TableLemmas.{walk_of-joined}
 use Rattle.intmap_table.proofs.table.Table.grow_to.Goals as goal
 use Rattle.intmap_table.proofs.table.Table.grow_to.Goals.{After-grow}
 
@@ -20,8 +20,8 @@ returns-then-capacity-len-clause-walk g c =
     let own : c.args.capacity ≡ length c.self.inside.slots.rows = c.if-capacity-len.true ∙ c.len.ensures in
     rw (← c.self.view_is, c.reserve.ensures.rows, own) (OnOk-always c.reserve.result (sym (walk_of-joined g.K.IntKey.number_of c.self.inside.slots.rows c.self.invariant)))
 
-pub grow-requires-clause-grown : goal.grow-requires-clause-grown
-grow-requires-clause-grown g c = IsGrown-from _ _ c.self.invariant.capacity c.requires.capacity (rw (← c.self.view_is) at c.requires.larger)
+pub grow-requires : goal.grow-requires
+grow-requires g c = record { grown = IsGrown-from _ _ c.self.invariant.capacity c.requires.capacity (rw (← c.self.view_is) at c.requires.larger) }
 
 pub invariant_of-self-2 : goal.invariant_of-self-2
 invariant_of-self-2 g c =

@@ -1,5 +1,5 @@
 use Rattle.std.proofs.Common.{◌∙◌}
-use Rattle.intmap_table.proofs.Rows.LocationLemmas.{place-found, key_at-here}
+use Rattle.intmap_table.proofs.Tables.LocationLemmas.{place-found, key_at-here}
 use Rattle.intmap_table.proofs.table.Table.key_at.Goals as goal
 
 pub key_at-requires : goal.key_at-requires

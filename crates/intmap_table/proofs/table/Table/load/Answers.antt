@@ -1,5 +1,5 @@
 use Rattle.std.proofs.Common.{sym, ◌∙◌}
-use Rattle.intmap_table.proofs.Rows.TableLemmas.{load_of-joined}
+use Rattle.intmap_table.proofs.Tables.TableLemmas.{load_of-joined}
 use Rattle.intmap_table.proofs.table.Table.load.Goals as goal
 
 pub returns : goal.returns

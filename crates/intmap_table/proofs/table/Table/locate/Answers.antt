@@ -4,7 +4,7 @@ use Rattle.intmap_table.specs.Classes.{slot_number, same_key}
 use Rattle.intmap_table.specs.Reach.{reach}
 use Rattle.intmap_table.specs.Tables.Slots.{Grid}
 use Rattle.intmap_table.proofs.PositionLemmas.{first_value-none}
-use Rattle.intmap_table.proofs.Rows.TableLemmas.{IsSlot, reach-here, value_of-here, slot_of-here}
+use Rattle.intmap_table.proofs.Tables.TableLemmas.{IsSlot, reach-here, value_of-here, slot_of-here}
 use Rattle.intmap_table.proofs.table.Table.locate.Goals as goal
 use Rattle.intmap_table.proofs.table.Table.locate.Goals.{After-find}
 

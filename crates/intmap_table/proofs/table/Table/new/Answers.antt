@@ -2,7 +2,7 @@ use Rattle.std.proofs.Common.{◌≡◌, ℕ, ◌∙◌, [], length, get_or, ap}
 use Rattle.std.proofs.lemmas.List.{length-replicate}
 use Rattle.intmap_table.proofs.Tables.FilledLemmas.{joined-emptied}
 use Rattle.intmap_table.proofs.Tables.MarkedLemmas.{get_or-of_default}
-use Rattle.intmap_table.proofs.Rows.TableLemmas.{IsTable-empty}
+use Rattle.intmap_table.proofs.Tables.TableLemmas.{IsTable-empty}
 use Rattle.intmap_table.proofs.table.Table.new.Goals as goal
 use Rattle.intmap_table.proofs.table.Table.new.Goals.{In_ok-slots}
 

@@ -1,8 +1,8 @@
 use Rattle.std.proofs.Common.{◌≡◌, ◌∙◌, [], ◌∷◌, ◌++◌, length, length-set, set, ap}
 use Rattle.intmap_table.specs.Locations.{IsAt}
 use Rattle.intmap_table.specs.Tables.Slots.{joined}
-use Rattle.intmap_table.proofs.Rows.LocationLemmas.{slot-at, place-within, value_of-pair, swap_out-at}
-use Rattle.intmap_table.proofs.Rows.TableLemmas.{IsSlot, row_without, walk-put, Belong-taken, Belong-push, IsTable-set}
+use Rattle.intmap_table.proofs.Tables.LocationLemmas.{slot-at, place-within, value_of-pair, swap_out-at}
+use Rattle.intmap_table.proofs.Tables.TableLemmas.{IsSlot, row_without, walk-put, Belong-taken, Belong-push, IsTable-set}
 use Rattle.intmap_table.proofs.table.Table.replace_at.Goals as goal
 use Rattle.intmap_table.proofs.table.Table.replace_at.Goals.{After-replace_at-old}
 

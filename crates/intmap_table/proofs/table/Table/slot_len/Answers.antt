@@ -1,5 +1,5 @@
 use Rattle.std.proofs.Common.{length, sym, ap, ◌∙◌}
-use Rattle.intmap_table.proofs.Rows.TableLemmas.{slot_of-joined}
+use Rattle.intmap_table.proofs.Tables.TableLemmas.{slot_of-joined}
 use Rattle.intmap_table.proofs.table.Table.slot_len.Goals as goal
 
 pub returns : goal.returns

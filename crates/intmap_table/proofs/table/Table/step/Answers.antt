@@ -4,8 +4,7 @@ use Rattle.intmap_table.specs.Tables.Slots.{Grid, joined, count_before}
 use Rattle.intmap_table.specs.declared.table.walk.Cursor.{Cursor}
 use Rattle.intmap_table.proofs.Tables.AroundLemmas.{length-around}
 use Rattle.intmap_table.proofs.SlotNumberLemmas.{capacity-greatest}
-use Rattle.intmap_table.proofs.Tables.CursorLemmas.{before-here, drop-here}
-use Rattle.intmap_table.proofs.Rows.CursorLemmas.{position-before}
+use Rattle.intmap_table.proofs.Tables.CursorLemmas.{before-here, drop-here, position-before}
 use Rattle.intmap_table.proofs.table.Table.step.Goals as goal
 use Rattle.intmap_table.proofs.table.Table.step.Goals.{After-seek}
 

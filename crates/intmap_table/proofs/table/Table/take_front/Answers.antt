@@ -2,9 +2,9 @@ use Rattle.std.proofs.Common.{◌≡◌, ◌<◌, ◌∙◌, [], ◌∷◌, get_
 use Rattle.std.specs.Prelude.{All}
 use Rattle.std.proofs.lemmas.List.Elements.{All-head}
 use Rattle.intmap_table.specs.Classes.{slot_number}
-use Rattle.intmap_table.proofs.Tables.FrontLemmas.{joined-passed}
-use Rattle.intmap_table.proofs.Rows.FrontLemmas.{rows-passed, joined-front, IsTable-front, ArePassed-front}
-use Rattle.intmap_table.proofs.Rows.TableLemmas.{walk_of-joined}
+use Rattle.intmap_table.proofs.Tables.FilledLemmas.{joined-passed}
+use Rattle.intmap_table.proofs.Tables.FrontLemmas.{rows-passed, joined-front, IsTable-front, ArePassed-front}
+use Rattle.intmap_table.proofs.Tables.TableLemmas.{walk_of-joined}
 use Rattle.intmap_table.proofs.table.Table.take_front.Goals as goal
 use Rattle.intmap_table.proofs.table.Table.take_front.Goals.{In_ok-index}
 

@@ -1,4 +1,4 @@
-use Rattle.intmap_table.proofs.Rows.LocationLemmas.{place-within, value_of-at}
+use Rattle.intmap_table.proofs.Tables.LocationLemmas.{place-within, value_of-at}
 use Rattle.intmap_table.proofs.table.Table.value_at.Goals as goal
 
 pub value_at-requires : goal.value_at-requires

@@ -1,5 +1,5 @@
 use Rattle.std.proofs.Common.{refl}
-use Rattle.intmap_table.proofs.Rows.LocationLemmas.{place-within, value_of-at, Grid-written, IsTable-written}
+use Rattle.intmap_table.proofs.Tables.LocationLemmas.{place-within, value_of-at, Grid-written, IsTable-written}
 use Rattle.intmap_table.proofs.table.Table.value_mut_at.Goals as goal
 
 pub value_mut_at-requires : goal.value_mut_at-requires

@@ -6,10 +6,9 @@ use Rattle.intmap_table.specs.Tables.Rows.{IsTable}
 use Rattle.intmap_table.proofs.ExtractLemmas.{All-ExtractsBehind, ExtractsBehind-end}
 use Rattle.intmap_table.proofs.SlotNumberLemmas.{capacity-greatest}
 use Rattle.intmap_table.proofs.TakingLemmas.{TakesEach-front}
-use Rattle.intmap_table.proofs.Tables.CursorLemmas.{IsInRows-next, drop-none, drop-reached, row-few}
-use Rattle.intmap_table.proofs.Rows.CursorLemmas.{IsInRows-reached, IsReached-at}
-use Rattle.intmap_table.proofs.Rows.ExtractLemmas.{IsAsked, ExtractsBehind-slot, IsInRows-left, IsInRows-step, StepsFrom-slot, TakesEach-slot, joined-few, place-on}
-use Rattle.intmap_table.proofs.Rows.TableLemmas.{IsTable-set_at}
+use Rattle.intmap_table.proofs.Tables.CursorLemmas.{IsInRows-next, drop-none, drop-reached, row-few, IsInRows-reached, IsReached-at}
+use Rattle.intmap_table.proofs.Tables.ExtractLemmas.{IsAsked, ExtractsBehind-slot, IsInRows-left, IsInRows-step, StepsFrom-slot, TakesEach-slot, joined-few, place-on}
+use Rattle.intmap_table.proofs.Tables.TableLemmas.{IsTable-set_at}
 use Rattle.intmap_table.proofs.table.closures.extract_slots.Goals as goal
 use Rattle.intmap_table.proofs.table.closures.extract_slots.Goals.{After-extract_at-found}
 

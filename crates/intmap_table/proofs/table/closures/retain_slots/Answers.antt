@@ -5,9 +5,8 @@ use Rattle.intmap_table.specs.Tables.Slots.{joined}
 use Rattle.intmap_table.proofs.SlotNumberLemmas.{capacity-greatest}
 use Rattle.intmap_table.proofs.RetainLemmas.{FoldsTo-Retains, All-Retains, Retains-append, length-Retains}
 use Rattle.intmap_table.proofs.TakingLemmas.{TakesEach-front}
-use Rattle.intmap_table.proofs.Tables.AroundLemmas.{joined-before, next-left, Leads-all}
-use Rattle.intmap_table.proofs.Rows.AroundLemmas.{IsRowWord-set, row-left, row-taken, Leads-row, TakesEach-row}
-use Rattle.intmap_table.proofs.Rows.TableLemmas.{IsTable-set_at}
+use Rattle.intmap_table.proofs.Tables.AroundLemmas.{joined-before, next-left, Leads-all, IsRowWord-set, row-left, row-taken, Leads-row, TakesEach-row}
+use Rattle.intmap_table.proofs.Tables.TableLemmas.{IsTable-set_at}
 use Rattle.intmap_table.proofs.table.closures.retain_slots.Goals as goal
 use Rattle.intmap_table.proofs.table.closures.retain_slots.Goals.{In-Some}
 

@@ -4,10 +4,9 @@ use Rattle.intmap_table.specs.Writes.{TakesPairMut, Writes, WritesAt}
 use Rattle.intmap_table.proofs.SlotNumberLemmas.{capacity-greatest}
 use Rattle.intmap_table.proofs.TakingLemmas.{TakesEach-front}
 use Rattle.intmap_table.proofs.WritesLemmas.{FoldsTo-Writes, Writes-append, keys_of-Writes}
-use Rattle.intmap_table.proofs.Tables.AroundLemmas.{next-left, Leads-all}
+use Rattle.intmap_table.proofs.Tables.AroundLemmas.{next-left, Leads-all, IsRowWord-set, Leads-row, TakesEach-row}
 use Rattle.intmap_table.proofs.Tables.SameKeysLemmas.{All-same_keys}
-use Rattle.intmap_table.proofs.Rows.AroundLemmas.{IsRowWord-set, Leads-row, TakesEach-row}
-use Rattle.intmap_table.proofs.Rows.TableLemmas.{IsTable-set_at}
+use Rattle.intmap_table.proofs.Tables.TableLemmas.{IsTable-set_at}
 use Rattle.intmap_table.proofs.table.closures.write_slots.Goals as goal
 
 pub loop-index-init : goal.loop-index-init

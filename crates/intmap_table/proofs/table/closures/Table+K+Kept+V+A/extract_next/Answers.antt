@@ -1,4 +1,4 @@
-use Rattle.intmap_table.proofs.Rows.TableLemmas.{walk_of-joined}
+use Rattle.intmap_table.proofs.Tables.TableLemmas.{walk_of-joined}
 use Rattle.intmap_table.proofs.table.closures.Table+K+Kept+V+A.extract_next.Goals as goal
 
 pub returns-in_default-clause-own : goal.returns-in_default-clause-own

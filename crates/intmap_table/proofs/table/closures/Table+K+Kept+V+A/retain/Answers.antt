@@ -1,6 +1,6 @@
 use Rattle.std.proofs.Common.{◌^◌, ◌<◌, length, sym, subst}
 use Rattle.intmap_table.specs.Tables.Slots.{Grid}
-use Rattle.intmap_table.proofs.Rows.TableLemmas.{walk_of-joined}
+use Rattle.intmap_table.proofs.Tables.TableLemmas.{walk_of-joined}
 use Rattle.intmap_table.proofs.table.closures.Table+K+Kept+V+A.retain.Goals as goal
 
 pub returns-clause-own : goal.returns-clause-own

@@ -1,4 +1,4 @@
-use Rattle.intmap_table.proofs.Rows.TableLemmas.{walk_of-joined}
+use Rattle.intmap_table.proofs.Tables.TableLemmas.{walk_of-joined}
 use Rattle.intmap_table.proofs.table.closures.Table+K+Kept+V+A.write_each.Goals as goal
 
 pub returns-clause-own : goal.returns-clause-own

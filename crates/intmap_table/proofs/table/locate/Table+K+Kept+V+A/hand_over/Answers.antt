@@ -4,8 +4,8 @@ use Rattle.intmap_table.specs.Bindings.{value_of}
 use Rattle.intmap_table.specs.Classes.{slot_number}
 use Rattle.intmap_table.specs.Locations.{IsAt}
 use Rattle.intmap_table.specs.Tables.Slots.{joined}
-use Rattle.intmap_table.proofs.Rows.LocationLemmas.{slot-at, place-within, value_of-pair, swap_out-at}
-use Rattle.intmap_table.proofs.Rows.TableLemmas.{IsSlot, row_without, within, walk-taken, walk-put, Belong-taken, Belong-push, IsTable-set}
+use Rattle.intmap_table.proofs.Tables.LocationLemmas.{slot-at, place-within, value_of-pair, swap_out-at}
+use Rattle.intmap_table.proofs.Tables.TableLemmas.{IsSlot, row_without, within, walk-taken, walk-put, Belong-taken, Belong-push, IsTable-set}
 use Rattle.intmap_table.proofs.table.locate.Table+K+Kept+V+A.hand_over.Goals as goal
 use Rattle.intmap_table.proofs.table.locate.Table+K+Kept+V+A.hand_over.Goals.{After-take_at-kept, After-put_back}
 

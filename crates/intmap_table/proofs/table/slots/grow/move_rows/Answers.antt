@@ -10,6 +10,7 @@ use Rattle.intmap_table.proofs.Tables.AroundLemmas.{joined-taken, joined-before,
 use Rattle.intmap_table.proofs.Tables.FilledLemmas.{next-marked}
 use Rattle.intmap_table.proofs.Tables.GrownLemmas.{part-of}
 use Rattle.intmap_table.proofs.Tables.MarkedLemmas.{row-none}
+use Rattle.intmap_table.proofs.Nodes.HomeLemmas.{Linked-own}
 use Rattle.intmap_table.proofs.Nodes.LinkedLemmas.{AreSet, Linked-set, same_or_not}
 use Rattle.intmap_table.proofs.Nodes.NodeLemmas.{below_or_not}
 use Rattle.intmap_table.proofs.Nodes.PlacedLemmas.{further-taken, further-some, further-fewer, none-before, Placed-none}
@@ -62,12 +63,13 @@ move_row-requires-clause-free g c =
     let n = next g at.In-Some in
     let long = length-map c.args.slots.now.items (row_in c.args.pool.now.nodes) in
     let row = same g at.After-index_mut (below g at.In-Some) n.behind in
+    let own = Linked-own (λ p. slot_number number p.0 C) c.args.slots.now.items c.args.pool.now c.requires.linked in
     λ j some.
     let some' : 0 < length (slot_of number (get_or R i []) D j) =
     subst (λ ps. 0 < length (slot_of number ps D j)) row (subst (λ k. 0 < length (slot_of number (row_in c.loop-index.pool.nodes c.index_mut.result.now) k j)) loop.len some) in
-    let part = part-of number C D c.requires.grown (get_or R i []) i j (c.requires.own i (let w = n.within in omega (arith, w, long))) some' in
+    let part = part-of number C D c.requires.grown (get_or R i []) i j (own i (let w = n.within in omega (arith, w, long))) some' in
     let none = none-before number C D c.requires.grown R c.loop-index.from j
-    (λ k under. c.requires.own k (let w = n.within in let b = n.behind in omega (arith, under, w, b, long))) (let b = n.behind in omega (arith, part, b)) in
+    (λ k under. own k (let w = n.within in let b = n.behind in omega (arith, under, w, b, long))) (let b = n.behind in omega (arith, part, b)) in
     ⊎_elim (λ under. loop.placed.rows j under ∙ ap turned none)
     (λ past. get_or_past c.loop-index.new.rows j [] (let len = loop.len in omega (arith, len, past))) (below_or_not j D)
 

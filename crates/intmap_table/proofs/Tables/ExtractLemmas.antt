@@ -6,8 +6,7 @@ use Rattle.intmap_table.specs.Picking.{ExtractsBehind}
 use Rattle.intmap_table.specs.Tables.Slots.{joined}
 use Rattle.intmap_table.proofs.ExtractLemmas.{ExtractsBehind-part, ExtractsNext-end, StepsFrom, StepsFrom-part, Takes, TakesEach-step, length-ExtractsBehind}
 use Rattle.intmap_table.proofs.Tables.CursorLemmas.{IsInRows, IsInRows-past, drop-reached}
-use Rattle.intmap_table.proofs.Tables.AroundLemmas.{joined-around, length-around}
-use Rattle.intmap_table.proofs.Rows.AroundLemmas.{left-same, taken-same}
+use Rattle.intmap_table.proofs.Tables.AroundLemmas.{joined-around, length-around, left-same, taken-same}
 
 -- the pairs of row i from place j on were asked about, with n passed before. `row` is left of the row, with place k reached and m passed
 pub record IsAsked {P F : Type 0} (Q : F → P → Bool → F → P → Type 0) (R : List (List P)) (row : List P)

@@ -17,9 +17,8 @@ use Rattle.intmap_table.proofs.LocationLemmas.{All-write_at, count_by-filter-le,
 use Rattle.intmap_table.proofs.SlotNumberLemmas.{slot_number-below}
 use Rattle.intmap_table.proofs.WalkLemmas.{value_of-slot_of}
 use Rattle.intmap_table.proofs.Tables.FoundLemmas.{key_at-get_or}
-use Rattle.intmap_table.proofs.Tables.TableLemmas.{Grid-same}
-use Rattle.intmap_table.proofs.Rows.MovedLemmas.{IsTable-moved}
-use Rattle.intmap_table.proofs.Rows.TableLemmas.{IsSlot, row_without, slot_of-here, value_of-here, walk_of-joined, slot_of-joined, joined-set, within, IsTable-set, Belong-here, Belong-push}
+use Rattle.intmap_table.proofs.Tables.TableLemmas.{Grid-same, IsSlot, row_without, slot_of-here, value_of-here, walk_of-joined, slot_of-joined, joined-set, within, IsTable-set, Belong-here, Belong-push}
+use Rattle.intmap_table.proofs.Tables.MovedLemmas.{IsTable-moved}
 
 module _ {K X : Type 0} where
   -- the rows with a value written are those with that row changed

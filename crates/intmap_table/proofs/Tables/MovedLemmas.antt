@@ -11,7 +11,7 @@ use Rattle.intmap_table.specs.Tables.Slots.{joined}
 use Rattle.intmap_table.specs.Tables.Rows.{IsTable, HasMoved}
 use Rattle.intmap_table.proofs.Tables.CloneLemmas.{AllZip-append, AreClones, keys_of-AreClones}
 use Rattle.intmap_table.proofs.Tables.SameKeysLemmas.{All-same_keys}
-use Rattle.intmap_table.proofs.Rows.TableLemmas.{walk_of-rows}
+use Rattle.intmap_table.proofs.Tables.TableLemmas.{walk_of-rows}
 
 module _ {K X : Type 0} (number : K → ℕ) (L : List (K × X)) (C : ℕ) (T : List (List (K × X))) (moved : HasMoved number L C T) where
   -- once all are moved, the rows, joined, are the walk of the pairs
