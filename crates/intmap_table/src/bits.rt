@@ -1,7 +1,7 @@
 //! One bit for each index.
 ghost use Rattle.std.specs.Prelude.{◌≡◌, ℕ, List, Bool, ◌+◌, ◌*◌, ◌/◌, ◌^◌, ◌<◌, ◌≤◌, true, false, length, replicate, slice_set, IfOk, IfSome, IfNone, ⊤};
 ghost use Rattle.std.specs.Iterator.{YieldsFirstBy, item_count};
-ghost use Rattle.intmap_table.specs.Tables.Bits.{marked, marked_indices, IsHeldWord, IsNextMark, IsWordOf};
+ghost use Rattle.intmap_table.specs.Tables.Bits.{marked, marked_indices, IsWordFrom, IsNextMark};
 
 use std::alloc::{AllocError, Allocator};
 use std::marker::Model;
@@ -30,50 +30,20 @@ impl<A: Allocator> Model for Bits<A> {
 /// The marks of one word that a walk hasn't passed yet, and the place of this word. The walk reads the
 /// next word only once this one has no mark left.
 #[derive(Drop)]
-pub(crate) struct HeldWord {
+pub(crate) struct MarksLeft {
     pub(crate) at: usize,
     pub(crate) word: u64,
 }
 
-/// A word without the bit of an index.
-#[inline(always)]
-pub(crate) fn without(word: u64, index: usize) -> u64
-    ensures { (marks : List Bool) → index < length marks → IsWordOf marks index word
-        → IsWordOf (slice_set marks index false) index result }
-{
-    word & !(1 << (index % BITS))
-}
-
 impl<A: Allocator> Bits<A> {
-    /// Marks an index, and returns whether it was marked before. No other index changes.
+    /// Marks an index. No other index changes.
     #[inline(always)]
-    pub(crate) fn set(&mut self, index: usize) -> bool
+    pub(crate) fn set(&mut self, index: usize)
         requires { index < length self.old }
-        ensures before { result ≡ marked self.old index }
-        ensures marks { self.new ≡ slice_set self.old index true }
+        ensures { self.new ≡ slice_set self.old index true }
     {
-        let word = self.words[index / BITS];
-        self.words[index / BITS] = word | 1 << (index % BITS);
-        (word >> (index % BITS)) & 1 == 1
-    }
-
-    /// The word that an index has its bit in.
-    #[inline(always)]
-    pub(crate) fn word(&self, index: usize) -> u64
-        requires { index < length self.now }
-        ensures { IsWordOf self.now index result }
-    {
-        self.words[index / BITS]
-    }
-
-    /// Clears the mark of an index in its word, which was read before. No other index changes.
-    #[inline(always)]
-    pub(crate) fn clear_in(&mut self, word: u64, index: usize)
-        requires within { index < length self.old }
-        requires word { IsWordOf self.old index word }
-        ensures { self.new ≡ slice_set self.old index false }
-    {
-        self.words[index / BITS] = without(word, index);
+        let word = &mut self.words[index / BITS];
+        *word = *word | 1 << (index % BITS);
     }
 
     /// Clears the mark of an index. No other index changes.
@@ -82,7 +52,8 @@ impl<A: Allocator> Bits<A> {
         requires { index < length self.old }
         ensures { self.new ≡ slice_set self.old index false }
     {
-        self.clear_in(self.word(index), index);
+        let word = &mut self.words[index / BITS];
+        *word = *word & !(1 << (index % BITS));
     }
 
     /// Clears all marks.
@@ -124,38 +95,38 @@ impl<A: Allocator> Bits<A> {
 
     /// The marks from an index on that stand in the word of this index.
     #[inline(always)]
-    pub(crate) fn hold(&self, from: usize) -> HeldWord
-        ensures { IsHeldWord (marked self.now) from result.at result.word }
+    pub(crate) fn marks_from(&self, from: usize) -> MarksLeft
+        ensures { IsWordFrom (marked self.now) from result.at result.word }
     {
         let at = from / BITS;
         if at >= self.words.len() {
-            return HeldWord { at, word: 0 };
+            return MarksLeft { at, word: 0 };
         }
         let word = self.words[at] & (u64::MAX << (from % BITS));
-        HeldWord { at, word }
+        MarksLeft { at, word }
     }
 
-    /// The first marked index from `_from` on, for which a word is held. Afterwards the marks behind
-    /// that index are held. Only the contract reads `_from`: the held word has no mark before it.
+    /// The first marked index from `_from` on. Before the call the marks from there on are left of a
+    /// word, and afterwards those behind the index that is returned. Only the contract reads `_from`.
     #[inline(always)]
-    pub(crate) fn next_in(&self, held: &mut HeldWord, _from: usize) -> Option<usize>
-        requires { IsHeldWord (marked self.now) _from held.old.at held.old.word }
+    pub(crate) fn next_in(&self, left: &mut MarksLeft, _from: usize) -> Option<usize>
+        requires { IsWordFrom (marked self.now) _from left.old.at left.old.word }
         ensures some { IfSome result (IsNextMark self.now _from) }
-        ensures held { IfSome result (λ i.
-            IsHeldWord (marked self.now) (i + 1) held.new.at held.new.word) }
+        ensures left { IfSome result (λ i.
+            IsWordFrom (marked self.now) (i + 1) left.new.at left.new.word) }
         ensures none { IfNone result ((j : ℕ) → _from ≤ j → marked self.now j ≡ false) }
-        ensures stays { IfNone result (IsHeldWord (marked self.now) _from held.new.at held.new.word) }
+        ensures stays { IfNone result (IsWordFrom (marked self.now) _from left.new.at left.new.word) }
     {
-        while held.word == 0 {
-            let at = held.at + 1;
+        while left.word == 0 {
+            let at = left.at + 1;
             if at >= self.words.len() {
                 return None;
             }
-            held.word = self.words[at];
-            held.at = at;
+            left.word = self.words[at];
+            left.at = at;
         }
-        let index = held.at * BITS + held.word.trailing_zeros() as usize;
-        held.word &= held.word - 1;
+        let index = left.at * BITS + left.word.trailing_zeros() as usize;
+        left.word &= left.word - 1;
         Some(index)
     }
 }

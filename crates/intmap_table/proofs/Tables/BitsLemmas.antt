@@ -13,7 +13,7 @@ use Rattle.std.proofs.lemmas.List.Sums.{sum_by-cons}
 use Rattle.std.proofs.lemmas.Nat.{ones_cat}
 use Rattle.std.proofs.lemmas.Nat.Bits.{bit_at-zero, bit_at-suc, bit_at_lowest, bit_at_and, bit_at-trailing_zeros}
 use Rattle.std.proofs.Math.Nat.{pow-suc}
-use Rattle.intmap_table.specs.Tables.Bits.{marked, marked_indices, has_bit, marks_of, indices_from, with_word, IsWordOf}
+use Rattle.intmap_table.specs.Tables.Bits.{marked, marked_indices, has_bit, marks_of, indices_from}
 use Rattle.intmap_table.proofs.Tables.MarkedLemmas.{range_with_len-add, filter-same, filter-none, filter-shift, filter-both}
 
 -- the indices of the bits of a word that are set, of its first n
@@ -123,6 +123,14 @@ pub marked-marks_of : (words : List ℕ) (i : ℕ) → i < 64 * length words →
 unfolding marks_of
 marked-marks_of words i below =
     get_or-map-range_with_len (λ i. has_bit (get_or words (i / 64) 0) (i % 64)) 0 (64 * length words) i i false below (zero-add i)
+
+-- a word that has, from its lowest bit up, the marks of the 64 indices around index i
+abbrev pub IsWordOf : List Bool → ℕ → ℕ → Type 0
+IsWordOf marks i word = (j : ℕ) → j < 64 → has_bit word j ≡ marked marks (64 * (i / 64) + j)
+
+-- the marks, with the bits of a word in place of the marks of the 64 indices around index i
+abbrev pub with_word : List Bool → ℕ → ℕ → List Bool
+with_word marks i word = map (λ j. cond (j / 64 == i / 64) (has_bit word (j % 64)) (marked marks j)) (range_with_len 0 (length marks))
 
 -- a word has the marks of the indices around each of its own
 pub IsWordOf-marks_of : (words : List ℕ) (i : ℕ) → i < 64 * length words → IsWordOf (marks_of words) i (get_or words (i / 64) 0)

@@ -5,7 +5,7 @@ use Rattle.std.specs.Int.{bit_at, trailing_zeros}
 use Rattle.std.proofs.lemmas.Bool.{cases_eq, cases_lt, eq-eqb, ne_eqb}
 use Rattle.std.proofs.lemmas.List.{get_or_past}
 use Rattle.std.proofs.lemmas.Nat.Bits.{ones_shl, bit_at-zero, bit_at_and, bit_at_mask_below, bit_at_mask_inside, bit_at-lt, bit_at-trailing_zeros}
-use Rattle.intmap_table.specs.Tables.Bits.{marked, IsHeldWord, IsNextMark, has_bit, marks_of}
+use Rattle.intmap_table.specs.Tables.Bits.{marked, IsWordFrom, IsNextMark, has_bit, marks_of}
 use Rattle.intmap_table.proofs.Tables.BitsLemmas.{IsLowest, without_lowest, has_bit-without_lowest, has_bit-without_lowest_other, length-marks_of, marked-marks_of}
 
 -- the word without its bits below r
@@ -35,8 +35,8 @@ module _ (words : List ℕ) (from : ℕ) where
   own : (at : ℕ) → at < length words → (j : ℕ) → j / 64 ≡ at → marked (marks_of words) j ≡ has_bit (get_or words at 0) (j % 64)
   own at within j is = marked-marks_of words j (omega (arith, within, is)) ∙ ap (λ q. has_bit (get_or words q 0) (j % 64)) is
 
-  pub IsHeldWord-start : from < 2 ^ 64 → from / 64 < length words → IsHeldWord (marked (marks_of words)) from (from / 64) (bits_from (get_or words (from / 64) 0) (from % 64))
-  IsHeldWord-start fits within = record {
+  pub IsWordFrom-start : from < 2 ^ 64 → from / 64 < length words → IsWordFrom (marked (marks_of words)) from (from / 64) (bits_from (get_or words (from / 64) 0) (from % 64))
+  IsWordFrom-start fits within = record {
     fits = omega (arith, fits);
     reached = omega arith;
     before = λ j le lt. absurd (omega (arith, le, lt));
@@ -47,8 +47,8 @@ module _ (words : List ℕ) (from : ℕ) where
   }
 
   -- behind the last word nothing is marked
-  pub IsHeldWord-past : from < 2 ^ 64 → length words ≤ from / 64 → IsHeldWord (marked (marks_of words)) from (from / 64) 0
-  IsHeldWord-past fits past = record {
+  pub IsWordFrom-past : from < 2 ^ 64 → length words ≤ from / 64 → IsWordFrom (marked (marks_of words)) from (from / 64) 0
+  IsWordFrom-past fits past = record {
     fits = omega (arith, fits);
     reached = omega arith;
     before = λ j le lt. absurd (omega (arith, le, lt));
@@ -56,7 +56,7 @@ module _ (words : List ℕ) (from : ℕ) where
     none = λ j is lt. has_bit-zero (j % 64);
   }
 
-  module _ (at : ℕ) (here : IsHeldWord (marked (marks_of words)) from at 0) where
+  module _ (at : ℕ) (here : IsWordFrom (marked (marks_of words)) from at 0) where
     -- a word that is zero marks none of its indices
     pub none-before : (j : ℕ) → from ≤ j → j < 64 * suc at → marked (marks_of words) j ≡ false
     none-before j le lt = elim (cases_lt j (64 * at)) as (λ _. marked (marks_of words) j ≡ false) [
@@ -64,8 +64,8 @@ module _ (words : List ℕ) (from : ℕ) where
       | inr behind ↦ here.bit j (omega (arith, behind, lt)) le ∙ has_bit-zero (j % 64)
     ]
 
-    pub IsHeldWord-next : at + 1 < 2 ^ 58 → at + 1 < length words → IsHeldWord (marked (marks_of words)) from (at + 1) (get_or words (at + 1) 0)
-    IsHeldWord-next fits within = record {
+    pub IsWordFrom-next : at + 1 < 2 ^ 58 → at + 1 < length words → IsWordFrom (marked (marks_of words)) from (at + 1) (get_or words (at + 1) 0)
+    IsWordFrom-next fits within = record {
       fits = fits;
       reached = (let r = here.reached in omega (arith, r));
       before = λ j le lt. none-before j le (omega (arith, lt));
@@ -79,7 +79,7 @@ module _ (words : List ℕ) (from : ℕ) where
         let before = none-before j le in let past = get_or_past (marks_of words) j false in let n = length-marks_of words in grind (arith, last, before, past, n)
 
 -- the lowest bit of the word that is held is that of the next mark
-module _ (marks : List Bool) (from at word low : ℕ) (here : IsHeldWord (marked marks) from at word) (small : low < 64) (lowest : IsLowest word low) where
+module _ (marks : List Bool) (from at word low : ℕ) (here : IsWordFrom (marked marks) from at word) (small : low < 64) (lowest : IsLowest word low) where
   IsNextMark-lowest : IsNextMark marks from (at * 64 + low)
   IsNextMark-lowest =
       let i : ℕ = at * 64 + low in
@@ -99,8 +99,8 @@ module _ (marks : List Bool) (from at word low : ℕ) (here : IsHeldWord (marked
       }
 
   -- and the others are held from behind it on
-  IsHeldWord-lowest : IsHeldWord (marked marks) (at * 64 + low + 1) at (without_lowest word)
-  IsHeldWord-lowest =
+  IsWordFrom-lowest : IsWordFrom (marked marks) (at * 64 + low + 1) at (without_lowest word)
+  IsWordFrom-lowest =
       let behind = IsNextMark-lowest.behind in
       record {
         fits = here.fits;
@@ -117,12 +117,12 @@ module _ (marks : List Bool) (from at word low : ℕ) (here : IsHeldWord (marked
         ];
       }
 
-module _ (marks : List Bool) (from at word : ℕ) (here : IsHeldWord (marked marks) from at word) (some : 0 < word) (fits : word < 2 ^ 64) where
+module _ (marks : List Bool) (from at word : ℕ) (here : IsWordFrom (marked marks) from at word) (some : 0 < word) (fits : word < 2 ^ 64) where
   lowest : IsLowest word (trailing_zeros w64 word)
   lowest = let t = bit_at-trailing_zeros w64 word some fits in record { one = t.1; below = t.2 }
 
   pub IsNextMark-word : IsNextMark marks from (at * 64 + trailing_zeros w64 word)
   IsNextMark-word = IsNextMark-lowest marks from at word _ here (bit_at-trailing_zeros w64 word some fits).0 lowest
 
-  pub IsHeldWord-rest : IsHeldWord (marked marks) (at * 64 + trailing_zeros w64 word + 1) at (bit_and word (word - 1))
-  IsHeldWord-rest = IsHeldWord-lowest marks from at word _ here (bit_at-trailing_zeros w64 word some fits).0 lowest
+  pub IsWordFrom-rest : IsWordFrom (marked marks) (at * 64 + trailing_zeros w64 word + 1) at (bit_and word (word - 1))
+  IsWordFrom-rest = IsWordFrom-lowest marks from at word _ here (bit_at-trailing_zeros w64 word some fits).0 lowest

@@ -1,5 +1,5 @@
 -- Indices that are marked or not, as bits of words. No public clause cites this module.
-use Rattle.std.specs.Prelude.{ℕ, suc, Bool, true, false, ◌*◌, ◌/◌, ◌%◌, ◌^◌, ◌+◌, ◌<◌, ◌≤◌, ◌==◌, ◌≡◌, List, cond, length, map, filter, slice_index, slice_index_or}
+use Rattle.std.specs.Prelude.{ℕ, suc, Bool, true, false, ◌*◌, ◌/◌, ◌%◌, ◌^◌, ◌+◌, ◌<◌, ◌≤◌, ◌==◌, ◌≡◌, List, length, map, filter, slice_index, slice_index_or}
 use Rattle.std.specs.Int.{bit_at}
 use Rattle.std.specs.List.{range_with_len}
 
@@ -22,20 +22,12 @@ abbrev pub has_bit : ℕ → ℕ → Bool
 has_bit word i = bit_at word i == 1
 
 -- word `at` of the marks, without those before index `from`. From there up to this word nothing is marked
-pub record IsHeldWord (marks : ℕ → Bool) (from at word : ℕ) : Type 0 where
+pub record IsWordFrom (marks : ℕ → Bool) (from at word : ℕ) : Type 0 where
   pub fits : at < 2 ^ 58
   pub reached : from ≤ 64 * suc at
   pub before : (j : ℕ) → from ≤ j → j < 64 * at → marks j ≡ false
   pub bit : (j : ℕ) → j / 64 ≡ at → from ≤ j → marks j ≡ has_bit word (j % 64)
   pub none : (j : ℕ) → j / 64 ≡ at → j < from → has_bit word (j % 64) ≡ false
-
--- a word that has, from its lowest bit up, the marks of the 64 indices around index i
-abbrev pub IsWordOf : List Bool → ℕ → ℕ → Type 0
-IsWordOf marks i word = (j : ℕ) → j < 64 → has_bit word j ≡ marked marks (64 * (i / 64) + j)
-
--- the marks, with the bits of a word in place of the marks of the 64 indices around index i
-abbrev pub with_word : List Bool → ℕ → ℕ → List Bool
-with_word marks i word = map (λ j. cond (j / 64 == i / 64) (has_bit word (j % 64)) (marked marks j)) (range_with_len 0 (length marks))
 
 -- whether each index of these words is marked: a word has 64, from its lowest bit up
 unfoldable pub marks_of : List ℕ → List Bool

@@ -4,7 +4,7 @@ use Rattle.std.specs.List.{All, AllZip}
 use Rattle.intmap_table.specs.Classes.{IsCapacity, slot_number}
 use Rattle.intmap_table.specs.Cloning.{IsPairClone}
 use Rattle.intmap_table.specs.Walk.{slot_of}
-use Rattle.intmap_table.specs.Tables.Bits.{IsHeldWord}
+use Rattle.intmap_table.specs.Tables.Bits.{IsWordFrom}
 use Rattle.intmap_table.specs.Tables.Nodes.{Slot, Empty, Pool, nowhere, rows_in, AreLinked, IsChainSet, IsSlotSet}
 use Rattle.intmap_table.specs.Tables.Slots.{AreMarked, write_at}
 
@@ -35,7 +35,7 @@ write_rows (row ∷ R) (suc i) j v = row ∷ write_rows R i j v
 
 -- word `at` says which of its rows hold a pair, and is without those before row `from`. No row from `from` up to the first one of this word holds a pair
 abbrev pub IsRowWord : {P : Type 0} → List (List P) → ℕ → ℕ → ℕ → Type 0
-IsRowWord R from at word = IsHeldWord (λ i. nat_lt 0 (length (slice_index_or R i []))) from at word
+IsRowWord R from at word = IsWordFrom (λ i. nat_lt 0 (length (slice_index_or R i []))) from at word
 
 -- D slots in place of C, and no fewer
 pub record IsGrown (C D : ℕ) : Type 0 where

@@ -14,7 +14,7 @@ use crate::linked::chain::{seek, take_behind};
 use crate::linked::node::{NODE_LIMIT, NOWHERE};
 use crate::linked::pool::Pool;
 use crate::linked::slot::Slot;
-use crate::table::asked::keeps_pair;
+use crate::table::closure_calls::keeps_pair;
 use crate::table::stored::Stored;
 use std::alloc::Allocator;
 

@@ -6,7 +6,7 @@ ghost use Rattle.intmap_table.specs.Writes.{TakesPairMut, WritesAt};
 
 use crate::kept::Kept;
 use crate::key::IntKey;
-use crate::table::asked::{picks_pair, write_pair};
+use crate::table::closure_calls::{picks_pair, write_pair};
 use crate::table::stored::Stored;
 use std::marker::Model;
 use std::mem;

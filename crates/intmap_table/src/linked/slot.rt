@@ -7,7 +7,7 @@ ghost use Rattle.intmap_table.specs.Writes.{TakesPairMut, WritesAt};
 use crate::kept::Kept;
 use crate::key::IntKey;
 use crate::linked::node::{high_part, link_of, low_part};
-use crate::table::asked::{picks_pair, write_pair};
+use crate::table::closure_calls::{picks_pair, write_pair};
 use crate::table::stored::Stored;
 use std::marker::Model;
 use std::mem;

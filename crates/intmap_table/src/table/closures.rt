@@ -33,8 +33,8 @@ fn retain_slots<K: IntKey, V: Drop, A: Allocator, F: FnMut(K, &V) -> bool>(
 {
     let mut count = 0;
     let mut from = 0;
-    let mut held = slots.hold(from);
-    while let Some(index) = slots.next_in(&mut held, from) {
+    let mut left = slots.marks_from(from);
+    while let Some(index) = slots.next_in(&mut left, from) {
         count += slots.retain_at(index, f);
         from = index + 1;
     }
@@ -55,8 +55,8 @@ fn write_slots<K: IntKey, V, A: Allocator, F: FnMut(K, &mut V)>(
     ensures len { length slots.new.rows ≡ length slots.old.rows }
 {
     let mut from = 0;
-    let mut held = slots.hold(from);
-    while let Some(index) = slots.next_in(&mut held, from) {
+    let mut left = slots.marks_from(from);
+    while let Some(index) = slots.next_in(&mut left, from) {
         slots.write_at(index, f);
         from = index + 1;
     }

@@ -11,7 +11,7 @@ use crate::kept::Kept;
 use crate::key::IntKey;
 use crate::steps::Steps;
 use crate::table::Table;
-use crate::table::asked::hand_value;
+use crate::table::closure_calls::hand_value;
 use crate::table::stored::Stored;
 use std::alloc::Allocator;
 

@@ -4,25 +4,25 @@
 //!
 //! `pairs` has the calls on a pair of one slot, `closures` those with a closure, `writing` that which
 //! lends a value and that which drops all pairs, `walk` has the pairs by reference, and `clone` copies
-//! the slots. Of growth, `place` puts a pair into its new slot, and `grow` goes over the old ones.
+//! the slots. Of growth, `grow` goes over the old slots, and `refill` puts pairs into the new ones.
 
 mod clone;
 mod closures;
 mod grow;
 mod pairs;
-mod place;
+mod refill;
 pub mod walk;
 mod writing;
 
 ghost use Rattle.std.specs.Prelude.{◌≡◌, ◌+◌, ◌^◌, ◌<◌, ◌≤◌, ℕ, [], count_by, length, nat_lt, position, replicate, IfNone, IfOk, IfSome, slice_index_or, vec_capacity};
 ghost use Rattle.intmap_table.specs.Classes.{IsCapacity, same_key};
 ghost use Rattle.intmap_table.specs.Reach.{through_first};
-ghost use Rattle.intmap_table.specs.Tables.Bits.{IsHeldWord};
+ghost use Rattle.intmap_table.specs.Tables.Bits.{IsWordFrom};
 ghost use Rattle.intmap_table.specs.Tables.Nodes.{Empty};
 ghost use Rattle.intmap_table.specs.Tables.Rows.{row_at};
 ghost use Rattle.intmap_table.specs.Tables.Slots.{joined, IsNextRow};
 
-use crate::bits::{Bits, HeldWord};
+use crate::bits::{Bits, MarksLeft};
 use crate::key::IntKey;
 use crate::linked::node::NOWHERE;
 use crate::linked::pool::Pool;
@@ -140,27 +140,28 @@ impl<K: IntKey, X, A: Allocator> Slots<K, X, A> {
 
     /// Which slots from an index on hold a pair, as far as the word of this index says.
     #[inline(always)]
-    pub(crate) fn hold(&self, from: usize) -> HeldWord
-        ensures { IsHeldWord (λ i. nat_lt 0 (length (row_at self.now i))) from result.at
+    pub(crate) fn marks_from(&self, from: usize) -> MarksLeft
+        ensures { IsWordFrom (λ i. nat_lt 0 (length (row_at self.now i))) from result.at
             result.word }
     {
-        self.bits.hold(from)
+        self.bits.marks_from(from)
     }
 
-    /// The first slot from an index on that holds a pair, for which a word is held. Slots before the
-    /// index may change between two calls.
+    /// The first slot from an index on that holds a pair. Before the call the marks from there on are
+    /// left of a word, and afterwards those behind that slot. Slots before the index may change between
+    /// two calls.
     #[inline(always)]
-    pub(crate) fn next_in(&self, held: &mut HeldWord, from: usize) -> Option<usize>
-        requires { IsHeldWord (λ i. nat_lt 0 (length (row_at self.now i))) from held.old.at
-            held.old.word }
+    pub(crate) fn next_in(&self, left: &mut MarksLeft, from: usize) -> Option<usize>
+        requires { IsWordFrom (λ i. nat_lt 0 (length (row_at self.now i))) from left.old.at
+            left.old.word }
         ensures some { IfSome result (IsNextRow self.now.rows from) }
-        ensures held { IfSome result (λ i. IsHeldWord (λ j. nat_lt 0 (length (row_at self.now j)))
-            (i + 1) held.new.at held.new.word) }
+        ensures left { IfSome result (λ i. IsWordFrom (λ j. nat_lt 0 (length (row_at self.now j)))
+            (i + 1) left.new.at left.new.word) }
         ensures none { IfNone result ((j : ℕ) → from ≤ j → row_at self.now j ≡ []) }
-        ensures stays { IfNone result (IsHeldWord (λ i. nat_lt 0 (length (row_at self.now i))) from
-            held.new.at held.new.word) }
+        ensures stays { IfNone result (IsWordFrom (λ i. nat_lt 0 (length (row_at self.now i))) from
+            left.new.at left.new.word) }
     {
-        self.bits.next_in(held, from)
+        self.bits.next_in(left, from)
     }
 
     /// The first slot from an index on that holds a pair.
@@ -169,8 +170,8 @@ impl<K: IntKey, X, A: Allocator> Slots<K, X, A> {
         ensures some { IfSome result (IsNextRow self.now.rows from) }
         ensures none { IfNone result ((j : ℕ) → from ≤ j → row_at self.now j ≡ []) }
     {
-        let mut held = self.hold(from);
-        self.next_in(&mut held, from)
+        let mut left = self.marks_from(from);
+        self.next_in(&mut left, from)
     }
 
     /// The pairs, slot after slot.

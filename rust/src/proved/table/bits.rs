@@ -13,42 +13,24 @@ pub(in crate::proved::table) struct Bits<A: Allocator> {
 
 /// The marks of one word that a walk hasn't passed yet, and the place of this word. The walk reads the
 /// next word only once this one has no mark left.
-pub(in crate::proved::table) struct HeldWord {
+pub(in crate::proved::table) struct MarksLeft {
     pub(in crate::proved::table) at: usize,
     pub(in crate::proved::table) word: u64,
 }
 
-/// A word without the bit of an index.
-#[inline(always)]
-pub(in crate::proved::table) fn without(word: u64, index: usize) -> u64 {
-    word & !(1 << (index % BITS))
-}
-
 impl<A: Allocator> Bits<A> {
-    /// Marks an index, and returns whether it was marked before. No other index changes.
+    /// Marks an index. No other index changes.
     #[inline(always)]
-    pub(in crate::proved::table) fn set(&mut self, index: usize) -> bool {
-        let word = self.words[index / BITS];
-        self.words[index / BITS] = word | 1 << (index % BITS);
-        (word >> (index % BITS)) & 1 == 1
-    }
-
-    /// The word that an index has its bit in.
-    #[inline(always)]
-    pub(in crate::proved::table) fn word(&self, index: usize) -> u64 {
-        self.words[index / BITS]
-    }
-
-    /// Clears the mark of an index in its word, which was read before. No other index changes.
-    #[inline(always)]
-    pub(in crate::proved::table) fn clear_in(&mut self, word: u64, index: usize) {
-        self.words[index / BITS] = without(word, index);
+    pub(in crate::proved::table) fn set(&mut self, index: usize) {
+        let word = &mut self.words[index / BITS];
+        *word = *word | 1 << (index % BITS);
     }
 
     /// Clears the mark of an index. No other index changes.
     #[inline(always)]
     pub(in crate::proved::table) fn clear(&mut self, index: usize) {
-        self.clear_in(self.word(index), index);
+        let word = &mut self.words[index / BITS];
+        *word = *word & !(1 << (index % BITS));
     }
 
     /// Clears all marks.
@@ -84,29 +66,29 @@ impl<A: Allocator> Bits<A> {
 
     /// The marks from an index on that stand in the word of this index.
     #[inline(always)]
-    pub(in crate::proved::table) fn hold(&self, from: usize) -> HeldWord {
+    pub(in crate::proved::table) fn marks_from(&self, from: usize) -> MarksLeft {
         let at = from / BITS;
         if at >= self.words.len() {
-            return HeldWord { at, word: 0 };
+            return MarksLeft { at, word: 0 };
         }
         let word = self.words[at] & (u64::MAX << (from % BITS));
-        HeldWord { at, word }
+        MarksLeft { at, word }
     }
 
-    /// The first marked index from `_from` on, for which a word is held. Afterwards the marks behind
-    /// that index are held. Only the contract reads `_from`: the held word has no mark before it.
+    /// The first marked index from `_from` on. Before the call the marks from there on are left of a
+    /// word, and afterwards those behind the index that is returned. Only the contract reads `_from`.
     #[inline(always)]
-    pub(in crate::proved::table) fn next_in(&self, held: &mut HeldWord, _from: usize) -> Option<usize> {
-        while held.word == 0 {
-            let at = held.at + 1;
+    pub(in crate::proved::table) fn next_in(&self, left: &mut MarksLeft, _from: usize) -> Option<usize> {
+        while left.word == 0 {
+            let at = left.at + 1;
             if at >= self.words.len() {
                 return None;
             }
-            held.word = self.words[at];
-            held.at = at;
+            left.word = self.words[at];
+            left.at = at;
         }
-        let index = held.at * BITS + held.word.trailing_zeros() as usize;
-        held.word &= held.word - 1;
+        let index = left.at * BITS + left.word.trailing_zeros() as usize;
+        left.word &= left.word - 1;
         Some(index)
     }
 }

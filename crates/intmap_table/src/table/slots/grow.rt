@@ -100,11 +100,11 @@ fn move_row<K: IntKey, X, A: Allocator>(
 {
     let target = target_of(slot, new.mask());
     let first = row::take_front(slot, pool);
-    new.place(target, first, placed);
+    new.put_second(target, first, placed);
     while !slot.is_empty() {
         let target = target_of(slot, new.mask());
         let pair = row::take_front(slot, pool);
-        new.place(target, pair, placed);
+        new.put_second(target, pair, placed);
     }
 }
 
@@ -137,8 +137,8 @@ fn move_rows<K: IntKey, X, A: Allocator>(
         ≡ placed.old + length (joined (rows_in slots.old.items pool.old.nodes)) }
 {
     let mut from = 0;
-    let mut held = bits.hold(from);
-    while let Some(index) = bits.next_in(&mut held, from) {
+    let mut left = bits.marks_from(from);
+    while let Some(index) = bits.next_in(&mut left, from) {
         move_row(&mut slots[index], pool, new, placed);
         from = index + 1;
     }
@@ -254,7 +254,7 @@ impl<K: IntKey, X: Drop, A: Allocator + Copy> Slots<K, X, A> {
             return Err(pair);
         };
         self.move_all(&mut new, placed);
-        new.place(target, pair, placed);
+        new.put_second(target, pair, placed);
         new.turn_each();
         *self = new;
         Ok(())

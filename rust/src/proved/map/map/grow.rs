@@ -40,8 +40,8 @@ impl<K: IntKey, V, A: Allocator + Copy> IntMap<K, V, A> {
     ///
     /// It fails with [`Cause::TooLarge`] if and only if there would be more than 2^64 - 1 pairs, or
     /// no capacity up to 2^63 meets the load factor, and otherwise with [`Cause::Memory`] if an
-    /// allocation fails. It never fails if the present capacity meets the load factor. A failed
-    /// call leaves the map as it was.
+    /// allocation fails. If the present capacity meets the load factor, it allocates nothing. A
+    /// failed call leaves the map as it was.
     pub fn reserve_pairs(&mut self, additional: usize) -> Result<(), Cause> {
         self.make_room(additional, 0)
     }

@@ -99,7 +99,7 @@ impl<K: IntKey, V, A: Allocator + Copy> IntMap<K, V, A> {
         let threshold = threshold_of(capacity, self.factor);
         match self
             .table
-            .grow_with(capacity, slot, key, Kept::new(value), &mut self.placed)
+            .grow_and_add(capacity, slot, key, Kept::new(value), &mut self.placed)
         {
             Ok(at) => {
                 self.len = len;

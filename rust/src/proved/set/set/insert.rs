@@ -59,8 +59,8 @@ impl<K: IntKey, A: Allocator + Copy> IntSet<K, A> {
     ///
     /// It fails with [`Cause::TooLarge`] if and only if there would be more than 2^64 - 1 members,
     /// or no capacity up to 2^63 meets the load factor, and otherwise with [`Cause::Memory`] if an
-    /// allocation fails. It never fails if the present capacity meets the load factor. A failed
-    /// call leaves the set as it was. Both counts stay.
+    /// allocation fails. If the present capacity meets the load factor, it allocates nothing. A
+    /// failed call leaves the set as it was. Both counts stay.
     pub fn reserve_members(&mut self, additional: usize) -> Result<(), Cause> {
         self.map.reserve_pairs(additional)
     }

@@ -7,7 +7,7 @@ use crate::proved::table::linked::chain::{seek, take_behind};
 use crate::proved::table::linked::node::{NODE_LIMIT, NOWHERE};
 use crate::proved::table::linked::pool::Pool;
 use crate::proved::table::linked::slot::Slot;
-use crate::proved::table::table::asked::keeps_pair;
+use crate::proved::table::table::closure_calls::keeps_pair;
 use crate::proved::table::table::stored::Stored;
 use crate::memory::alloc::Allocator;
 

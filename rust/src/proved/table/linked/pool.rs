@@ -99,7 +99,7 @@ impl<P, A: Allocator> Pool<P, A> {
 }
 
 impl<P, A: Allocator> Pool<P, A> {
-    /// Makes room for `additional` more pairs.
+    /// Makes room for `additional` more pairs. If an allocation fails, nothing changes.
     pub(in crate::proved::table) fn reserve(&mut self, additional: usize) -> Result<(), AllocError> {
         if additional <= self.spare {
             return Ok(());

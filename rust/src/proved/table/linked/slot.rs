@@ -4,7 +4,7 @@ use crate::memory::prelude::*;
 use crate::proved::table::kept::Kept;
 use crate::proved::table::key::IntKey;
 use crate::proved::table::linked::node::{high_part, link_of, low_part};
-use crate::proved::table::table::asked::{picks_pair, write_pair};
+use crate::proved::table::table::closure_calls::{picks_pair, write_pair};
 use crate::proved::table::table::stored::Stored;
 use core::mem;
 

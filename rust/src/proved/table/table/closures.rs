@@ -16,8 +16,8 @@ fn retain_slots<K: IntKey, V, A: Allocator, F: FnMut(K, &V) -> bool>(
 ) -> usize {
     let mut count = 0;
     let mut from = 0;
-    let mut held = slots.hold(from);
-    while let Some(index) = slots.next_in(&mut held, from) {
+    let mut left = slots.marks_from(from);
+    while let Some(index) = slots.next_in(&mut left, from) {
         count += slots.retain_at(index, f);
         from = index + 1;
     }
@@ -30,8 +30,8 @@ fn write_slots<K: IntKey, V, A: Allocator, F: FnMut(K, &mut V)>(
     f: &mut F,
 ) {
     let mut from = 0;
-    let mut held = slots.hold(from);
-    while let Some(index) = slots.next_in(&mut held, from) {
+    let mut left = slots.marks_from(from);
+    while let Some(index) = slots.next_in(&mut left, from) {
         slots.write_at(index, f);
         from = index + 1;
     }

@@ -12,7 +12,7 @@ impl<K: IntKey, X, A: Allocator + Copy> Table<K, X, A> {
     /// Puts the pair of an absent key behind the pairs of its slot, moves all pairs, in the order
     /// of the walk, to their slots among `capacity` slots, and returns where the new pair is. If an
     /// allocation fails, the value is returned and nothing changes.
-    pub fn grow_with(
+    pub fn grow_and_add(
         &mut self,
         capacity: usize,
         slot: usize,
@@ -22,7 +22,10 @@ impl<K: IntKey, X, A: Allocator + Copy> Table<K, X, A> {
     ) -> Result<Location<K>, X> {
         let target = index_of(&key, capacity);
         let pair = (Stored::new(key), value);
-        if let Err((_, value)) = self.slots.grow_with(capacity, slot, target, pair, placed) {
+        if let Err((_, value)) = self
+            .slots
+            .grow_and_push(capacity, slot, target, pair, placed)
+        {
             return Err(value);
         }
         let place = self.slots.last_place(target);

@@ -5,7 +5,7 @@ use crate::proved::table::kept::Kept;
 use crate::proved::table::key::IntKey;
 use crate::proved::table::steps::Steps;
 use crate::proved::table::table::Table;
-use crate::proved::table::table::asked::hand_value;
+use crate::proved::table::table::closure_calls::hand_value;
 use crate::proved::table::table::stored::Stored;
 use crate::memory::alloc::Allocator;
 

@@ -4,18 +4,18 @@
 //!
 //! `pairs` has the calls on a pair of one slot, `closures` those with a closure, `writing` that which
 //! lends a value and that which drops all pairs, `walk` has the pairs by reference, and `clone` copies
-//! the slots. Of growth, `place` puts a pair into its new slot, and `grow` goes over the old ones.
+//! the slots. Of growth, `grow` goes over the old slots, and `refill` puts pairs into the new ones.
 
 mod clone;
 mod closures;
 mod grow;
 mod pairs;
-mod place;
+mod refill;
 pub mod walk;
 mod writing;
 
 use crate::memory::prelude::*;
-use crate::proved::table::bits::{Bits, HeldWord};
+use crate::proved::table::bits::{Bits, MarksLeft};
 use crate::proved::table::key::IntKey;
 use crate::proved::table::linked::node::NOWHERE;
 use crate::proved::table::linked::pool::Pool;
@@ -86,22 +86,23 @@ impl<K: IntKey, X, A: Allocator> Slots<K, X, A> {
 
     /// Which slots from an index on hold a pair, as far as the word of this index says.
     #[inline(always)]
-    pub(in crate::proved::table) fn hold(&self, from: usize) -> HeldWord {
-        self.bits.hold(from)
+    pub(in crate::proved::table) fn marks_from(&self, from: usize) -> MarksLeft {
+        self.bits.marks_from(from)
     }
 
-    /// The first slot from an index on that holds a pair, for which a word is held. Slots before the
-    /// index may change between two calls.
+    /// The first slot from an index on that holds a pair. Before the call the marks from there on are
+    /// left of a word, and afterwards those behind that slot. Slots before the index may change between
+    /// two calls.
     #[inline(always)]
-    pub(in crate::proved::table) fn next_in(&self, held: &mut HeldWord, from: usize) -> Option<usize> {
-        self.bits.next_in(held, from)
+    pub(in crate::proved::table) fn next_in(&self, left: &mut MarksLeft, from: usize) -> Option<usize> {
+        self.bits.next_in(left, from)
     }
 
     /// The first slot from an index on that holds a pair.
     #[inline(always)]
     pub(in crate::proved::table) fn next_filled(&self, from: usize) -> Option<usize> {
-        let mut held = self.hold(from);
-        self.next_in(&mut held, from)
+        let mut left = self.marks_from(from);
+        self.next_in(&mut left, from)
     }
 
     /// The pairs, slot after slot.

@@ -17,7 +17,7 @@ loop-index-init g c = record {
   len = refl;
   few = omega (arith, c.requires.count);
   count = refl;
-  held = c.hold-held.ensures;
+  word = c.marks_from-left.ensures;
   leads = λ N last run. run;
 }
 
@@ -62,7 +62,7 @@ loop-index-preserved g c =
       len = length-set R index done.0 ∙ loop.len;
       few = omega (arith, left, fewer, done.3, loop.few);
       count = omega (arith, taken, done.3, loop.count);
-      held = IsRowWord-set R index done.0 _ _ c.in-Some.ensures.held;
+      word = IsRowWord-set R index done.0 _ _ c.in-Some.ensures.left;
       leads = Leads-row R from index done.0 next _ _ _ _ (Retains Q) (Retains-append Q) loop.leads done.2;
     })
 

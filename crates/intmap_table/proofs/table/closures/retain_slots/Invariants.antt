@@ -6,7 +6,7 @@ use Rattle.intmap_table.specs.Tables.Rows.{IsRowWord, IsTable}
 use Rattle.intmap_table.proofs.LeadsLemmas.{Leads}
 use Rattle.intmap_table.proofs.table.closures.retain_slots.Given as goal
 
--- the pairs that stay so far are in the slots before this one, in their order, the rows are a table, and the word that is held says which of those left hold a pair
+-- the pairs that stay so far are in the slots before this one, in their order, the rows are a table, and the word that is left says which of those left hold a pair
 abbrev pub invariant-loop-index : goal.invariant-loop-index
 invariant-loop-index g l = record {
   callable : TakesEach (KeepsAt g.F.FnMut) (TakesPair g.F.FnMut) l.f (joined (drop l.from l.slots.rows));
@@ -14,7 +14,7 @@ invariant-loop-index g l = record {
   len : length l.slots.rows ≡ length l.initial.slots.rows;
   few : l.count + length (joined (drop l.from l.slots.rows)) < 2 ^ 64;
   count : l.count ≡ length (joined (take l.from l.slots.rows));
-  held : IsRowWord l.slots.rows l.from l.held.at l.held.word;
+  word : IsRowWord l.slots.rows l.from l.left.at l.left.word;
   leads : Leads (Retains (KeepsAt g.F.FnMut)) l.initial.f (joined l.initial.slots.rows) l.f (joined (take l.from l.slots.rows)) (joined (drop l.from l.slots.rows));
 }
 

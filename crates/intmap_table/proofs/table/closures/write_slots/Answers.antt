@@ -14,7 +14,7 @@ loop-index-init g c = record {
   callable = c.requires.callable;
   table = c.requires.table;
   len = refl;
-  held = c.hold-held.ensures;
+  word = c.marks_from-left.ensures;
   leads = λ N last run. run;
 }
 
@@ -44,7 +44,7 @@ loop-index-preserved g c =
       table = IsTable-set_at _ R loop.table index done.0 next.within
           (All-same_keys (λ k. slot_number g.K.IntKey.number_of k (length R) ≡ index) _ done.0 (sym (keys_of-Writes Q _ _ _ _ done.2)) (loop.table.in_place index next.within));
       len = length-set R index done.0 ∙ loop.len;
-      held = IsRowWord-set R index done.0 _ _ c.in-Some.ensures.held;
+      word = IsRowWord-set R index done.0 _ _ c.in-Some.ensures.left;
       leads = Leads-row R from index done.0 next _ _ _ _ (Writes Q) (Writes-append Q) loop.leads done.2;
     })
 

@@ -6,13 +6,13 @@ use Rattle.intmap_table.specs.Tables.Rows.{IsRowWord, IsTable}
 use Rattle.intmap_table.proofs.LeadsLemmas.{Leads}
 use Rattle.intmap_table.proofs.table.closures.write_slots.Given as goal
 
--- the closure wrote the values in the slots before this one, the rows are a table, and the word that is held says which of those left hold a pair
+-- the closure wrote the values in the slots before this one, the rows are a table, and the word that is left says which of those left hold a pair
 abbrev pub invariant-loop-index : goal.invariant-loop-index
 invariant-loop-index g l = record {
   callable : TakesEach (WritesAt g.F.FnMut) (TakesPairMut g.F.FnMut) l.f (joined (drop l.from l.slots.rows));
   table : IsTable g.K.IntKey.number_of l.slots.rows;
   len : length l.slots.rows ≡ length l.initial.slots.rows;
-  held : IsRowWord l.slots.rows l.from l.held.at l.held.word;
+  word : IsRowWord l.slots.rows l.from l.left.at l.left.word;
   leads : Leads (Writes (WritesAt g.F.FnMut)) l.initial.f (joined l.initial.slots.rows) l.f (joined (take l.from l.slots.rows)) (joined (drop l.from l.slots.rows));
 }
 

@@ -65,11 +65,11 @@ fn move_row<K: IntKey, X, A: Allocator>(
 ) {
     let target = target_of(slot, new.mask());
     let first = row::take_front(slot, pool);
-    new.place(target, first, placed);
+    new.put_second(target, first, placed);
     while !slot.is_empty() {
         let target = target_of(slot, new.mask());
         let pair = row::take_front(slot, pool);
-        new.place(target, pair, placed);
+        new.put_second(target, pair, placed);
     }
 }
 
@@ -83,8 +83,8 @@ fn move_rows<K: IntKey, X, A: Allocator>(
     placed: &mut Steps,
 ) {
     let mut from = 0;
-    let mut held = bits.hold(from);
-    while let Some(index) = bits.next_in(&mut held, from) {
+    let mut left = bits.marks_from(from);
+    while let Some(index) = bits.next_in(&mut left, from) {
         move_row(&mut slots[index], pool, new, placed);
         from = index + 1;
     }
@@ -102,8 +102,9 @@ impl<K: IntKey, X, A: Allocator> Slots<K, X, A> {
         self.bits.clear_all();
     }
 
-    /// For how many pairs behind the first ones of their slots there must be room, if a pair comes to
-    /// this slot and goes on to slot `target` among `capacity`.
+    /// For how many pairs behind the first ones of their slots there must be room, if all pairs move to
+    /// `capacity` slots and one more comes to slot `target` of them. Pairs go there from slot `index`
+    /// alone.
     fn needed(&self, index: usize, capacity: usize, target: usize) -> usize {
         let further = self.further();
         if goes_to(&self.slots[index], &self.pool, capacity - 1, target) {
@@ -114,7 +115,7 @@ impl<K: IntKey, X, A: Allocator> Slots<K, X, A> {
 }
 
 impl<K: IntKey, X, A: Allocator + Copy> Slots<K, X, A> {
-    /// Makes room for `additional` more pairs that share a slot. If an allocation fails, no pair moves.
+    /// Makes room for `additional` more pairs that share a slot. If an allocation fails, nothing changes.
     pub(in crate::proved::table) fn reserve(&mut self, additional: usize) -> Result<(), AllocError> {
         self.pool.reserve(additional)
     }
@@ -142,7 +143,7 @@ impl<K: IntKey, X, A: Allocator + Copy> Slots<K, X, A> {
     /// Puts a new pair behind the pairs of its slot, and moves all pairs, in the order of the walk,
     /// to their slots among `capacity` slots. If an allocation fails, the pair is returned, and no
     /// pair moves.
-    pub(in crate::proved::table) fn grow_with(
+    pub(in crate::proved::table) fn grow_and_push(
         &mut self,
         capacity: usize,
         slot: usize,
@@ -155,7 +156,7 @@ impl<K: IntKey, X, A: Allocator + Copy> Slots<K, X, A> {
             return Err(pair);
         };
         super::mending::moving(self, &mut new, |old, new| old.move_all(new, placed));
-        new.place(target, pair, placed);
+        new.put_second(target, pair, placed);
         new.turn_each();
         *self = new;
         Ok(())

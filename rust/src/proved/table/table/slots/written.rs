@@ -180,14 +180,14 @@ impl<K: IntKey, X, A: Allocator> Slots<K, X, A> {
 
 impl<K: IntKey, V, A: Allocator> Slots<K, Kept<V>, A> {
     /// Keeps the pairs for which the closure returns true, slot after slot, and returns their number.
-    /// A word of marks is held as by the proved `retain`.
+    /// What is left of a word of marks is kept, as by the proved `retain`.
     pub(in crate::proved::table) fn retain_mut<F: FnMut(K, &mut V) -> bool>(
         &mut self,
         f: &mut F,
     ) -> usize {
         let (mut count, mut from) = (0, 0);
-        let mut held = self.hold(from);
-        while let Some(index) = self.next_in(&mut held, from) {
+        let mut left = self.marks_from(from);
+        while let Some(index) = self.next_in(&mut left, from) {
             from = index + 1;
             let slot = &mut self.slots[index];
             count += retain_mut(slot, &mut self.pool, f);

@@ -24,9 +24,9 @@ needed-room-requires-clause-part g c =
     let C = length c.args.self.now.rows in
     ap (λ n. n % C) c.requires.target ∙ slot_number-grown g.K.IntKey.number_of C c.args.capacity c.args.pair.0 c.requires.grown ∙ sym c.requires.slot
 
-pub place-requires-clause-ready : goal.place-requires-clause-ready
-place-requires-clause-ready g c =
-    let at = (goal.at.place-requires-clause-ready g c).After-move_all in
+pub put_second-requires-clause-ready : goal.put_second-requires-clause-ready
+put_second-requires-clause-ready g c =
+    let at = (goal.at.put_second-requires-clause-ready g c).After-move_all in
     let number = g.K.IntKey.number_of in
     let D = c.args.capacity in let j = c.args.target in
     let going = slot_of number (joined c.args.self.now.rows) D j in
@@ -46,5 +46,5 @@ returns-clause-rows g c =
     let at = (goal.at.returns-clause-rows g c).After-move_all in
     let number = g.K.IntKey.number_of in
     let L = joined c.args.self.now.rows in
-    let after = Placed-next number c.args.capacity L c.move_all.new.new.rows c.args.pair c.args.target c.place.new.self.rows (placed g at) (sym c.requires.target) c.place.ensures.rows in
-    Placed-turned number c.args.capacity c.args.capacity (L ++ c.args.pair ∷ []) c.place.new.self.rows c.turn_each.new.self.rows refl after c.turn_each.ensures.rows
+    let after = Placed-next number c.args.capacity L c.move_all.new.new.rows c.args.pair c.args.target c.put_second.new.self.rows (placed g at) (sym c.requires.target) c.put_second.ensures.rows in
+    Placed-turned number c.args.capacity c.args.capacity (L ++ c.args.pair ∷ []) c.put_second.new.self.rows c.turn_each.new.self.rows refl after c.turn_each.ensures.rows

@@ -14,7 +14,7 @@ done g c =
     c.self.invariant within c.index_mut-slot.ensures.value own c.in_ok-place.ensures.ok
 
 pub invariant_of-self-2 : goal.invariant_of-self-2
-invariant_of-self-2 g c = rw c.set.ensures.marks (done g (goal.at.invariant_of-self-2 g c).In_ok-place).are
+invariant_of-self-2 g c = rw c.set.ensures (done g (goal.at.invariant_of-self-2 g c).In_ok-place).are
 
 pub returns-clause-ok : goal.returns-clause-ok
 returns-clause-ok g c = rw (← c.self.view_is) (done g (goal.at.returns-clause-ok g c).In_ok-place).rows

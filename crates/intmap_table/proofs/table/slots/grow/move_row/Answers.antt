@@ -23,17 +23,17 @@ loop-slot-init g c =
     let j = c.target_of-target.result in
     let own : slot_number number p.0 C ≡ j = sym (ap (slot_number number p.0) c.mask.ensures) ∙ c.target_of-target.ensures.own c.args.pool.now.nodes p row.0 row.1 in
     let here : 0 < length (slot_of number all C j) = subst (λ ps. 0 < length (slot_of number ps C j)) (sym row.1) (first-there number p row.0 C j own) in
-    let same = c.place.ensures.alone (c.requires.free j here) in
+    let same = c.put_second.ensures.alone (c.requires.free j here) in
     let room = c.requires.room in
     record {
       left = Dropped-next c.args.pool.now c.args.slot.now c.args.pool.now c.args.slot.now p row.0 c.take_front-first.new.pool c.take_front-first.new.slot
           (Dropped-start c.args.pool.now c.args.slot.now c.requires.leads) row.1 row.2;
-      moving = subst (λ ps. Moving number C all ps c.args.new.now.rows c.place.new.self.rows) (sym left)
-          (Moving-first number C all row.0 c.args.new.now.rows c.place.new.self.rows p j row.1 own c.place.ensures.rows);
-      len = ap length c.place.ensures.rows ∙ length-set c.args.new.now.rows j _;
+      moving = subst (λ ps. Moving number C all ps c.args.new.now.rows c.put_second.new.self.rows) (sym left)
+          (Moving-first number C all row.0 c.args.new.now.rows c.put_second.new.self.rows p j row.1 own c.put_second.ensures.rows);
+      len = ap length c.put_second.ensures.rows ∙ length-set c.args.new.now.rows j _;
       ready = omega (arith, n, m, same, room);
       room = omega (arith, n, m, same);
-      counted = omega (arith, n, m, c.place.ensures.counted);
+      counted = omega (arith, n, m, c.put_second.ensures.counted);
     }
 
 pub loop-slot-smaller : goal.loop-slot-smaller
@@ -57,16 +57,16 @@ loop-slot-preserved g c =
     let own : slot_number number p.0 C ≡ j =
     sym (ap (slot_number number p.0) (c.mask-in-loop-slot.ensures ∙ loop.len)) ∙ c.target_of-target-in-loop-slot.ensures.own c.loop-slot.pool.nodes p row.0 row.1 in
     let ready = loop.ready in let room = loop.room in let counted = loop.counted in
-    let used = c.place-in-loop-slot.ensures.room in
+    let used = c.put_second-in-loop-slot.ensures.room in
     record {
       left = Dropped-next c.args.pool.now c.args.slot.now c.loop-slot.pool c.loop-slot.slot p row.0 c.take_front-pair.new.pool c.take_front-pair.new.slot loop.left row.1 row.2;
-      moving = subst (λ ps. Moving number C all ps c.args.new.now.rows c.place-in-loop-slot.new.self.rows) (sym left)
-          (Moving-next number C all (row_in c.loop-slot.pool.nodes c.loop-slot.slot) c.args.new.now.rows c.loop-slot.new.rows p row.0 j c.place-in-loop-slot.new.self.rows loop.moving row.1 own
-          c.place-in-loop-slot.ensures.rows);
-      len = ap length c.place-in-loop-slot.ensures.rows ∙ length-set c.loop-slot.new.rows j _ ∙ loop.len;
+      moving = subst (λ ps. Moving number C all ps c.args.new.now.rows c.put_second-in-loop-slot.new.self.rows) (sym left)
+          (Moving-next number C all (row_in c.loop-slot.pool.nodes c.loop-slot.slot) c.args.new.now.rows c.loop-slot.new.rows p row.0 j c.put_second-in-loop-slot.new.self.rows loop.moving row.1 own
+          c.put_second-in-loop-slot.ensures.rows);
+      len = ap length c.put_second-in-loop-slot.ensures.rows ∙ length-set c.loop-slot.new.rows j _ ∙ loop.len;
       ready = omega (arith, n, m, used, ready);
       room = omega (arith, n, m, used, room);
-      counted = omega (arith, n, m, c.place-in-loop-slot.ensures.counted, counted);
+      counted = omega (arith, n, m, c.put_second-in-loop-slot.ensures.counted, counted);
     }
 
 pub returns-clause-row : goal.returns-clause-row

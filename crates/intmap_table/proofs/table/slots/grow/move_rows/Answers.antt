@@ -92,7 +92,7 @@ loop-index-init g c = record {
   old_len = refl;
   left = λ j le. refl;
   gone = λ j lt. absurd (omega (arith, lt));
-  held = c.hold-held.ensures;
+  word = c.marks_from-left.ensures;
   len = refl;
   placed = Placed-none g.K.IntKey.number_of (length c.args.new.now.rows) c.args.new.now.rows refl c.requires.none;
   room = omega arith;
@@ -135,7 +135,7 @@ loop-index-preserved g c =
           let own = get_or-set_same (rows_in slots a.nodes) i [] [] (omega (arith, long, w)) in
           ap (λ S. get_or S j []) done.rows ∙ ⊎_elim (λ e. ap (λ k. get_or (set (rows_in slots a.nodes) i []) k []) e ∙ own)
           (λ apart. get_or-set_other (rows_in slots a.nodes) i j [] [] apart ∙ passed j lt apart) (same_or_not j i);
-      held = c.in-Some.ensures.held;
+      word = c.in-Some.ensures.left;
       len = c.move_row.ensures.len ∙ loop.len;
       placed = subst (λ L. IsPlaced number D L c.move_row.new.new.rows) (sym taken)
           (subst (λ ps. IsPlaced number D (joined (take from R) ++ ps) c.move_row.new.new.rows) is

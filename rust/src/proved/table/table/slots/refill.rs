@@ -14,7 +14,7 @@ impl<K: IntKey, X, A: Allocator> Slots<K, X, A> {
     /// Puts a pair behind the first one of its slot, and counts it. If the slot holds a pair, there
     /// is room for another.
     #[inline(always)]
-    pub(super) fn place(&mut self, index: usize, pair: (Stored<K>, X), placed: &mut Steps) {
+    pub(super) fn put_second(&mut self, index: usize, pair: (Stored<K>, X), placed: &mut Steps) {
         row::put_second(&mut self.slots[index], &mut self.pool, pair);
         self.bits.set(index);
         placed.tick();
@@ -31,8 +31,8 @@ impl<K: IntKey, X, A: Allocator> Slots<K, X, A> {
             return;
         }
         let mut from = 0;
-        let mut held = self.hold(from);
-        while let Some(index) = self.next_in(&mut held, from) {
+        let mut left = self.marks_from(from);
+        while let Some(index) = self.next_in(&mut left, from) {
             self.turn_at(index);
             from = index + 1;
         }

@@ -7,8 +7,8 @@ use Rattle.intmap_table.specs.Tables.Rows.{put_second}
 use Rattle.intmap_table.proofs.Tables.FilledLemmas.{AreMarked-set}
 use Rattle.intmap_table.proofs.Nodes.LinkedLemmas.{HaveRows, Row-of, Row-set}
 use Rattle.intmap_table.proofs.Nodes.PlacedLemmas.{home-put_second, put_second-filled}
-use Rattle.intmap_table.proofs.table.slots.Slots.place.Goals as goal
-use Rattle.intmap_table.proofs.table.slots.Slots.place.Goals.{After-put_second}
+use Rattle.intmap_table.proofs.table.slots.Slots.put_second.Goals as goal
+use Rattle.intmap_table.proofs.table.slots.Slots.put_second.Goals.{After-put_second}
 
 -- the slots with the pair
 done : (g : _) (c : After-put_second g)
@@ -24,7 +24,7 @@ done g c =
     (AreMarked-set R c.self.inside.bits c.self.invariant.marked i within (put_second (get_or R i []) c.args.pair) true (put_second-filled (get_or R i []) c.args.pair))
 
 pub invariant_of-self : goal.invariant_of-self
-invariant_of-self g c = rw c.set.ensures.marks (done g (goal.at.invariant_of-self g c).After-put_second).are
+invariant_of-self g c = rw c.set.ensures (done g (goal.at.invariant_of-self g c).After-put_second).are
 
 pub returns-clause-rows : goal.returns-clause-rows
 returns-clause-rows g c = rw (← c.self.view_is) (done g (goal.at.returns-clause-rows g c).After-put_second).rows

@@ -16,7 +16,7 @@ impl<K: IntKey, X, A: Allocator> Slots<K, X, A> {
     /// Puts a pair behind the first one of its slot, and counts it. If the slot holds a pair, there
     /// is room for another.
     #[inline(always)]
-    pub(super) fn place(&mut self, index: usize, pair: (Stored<K>, X), placed: &mut Steps)
+    pub(super) fn put_second(&mut self, index: usize, pair: (Stored<K>, X), placed: &mut Steps)
         requires within { index < length self.old.rows }
         requires own { slot_number K.number_of pair.0 (length self.old.rows) ≡ index }
         requires ready { 0 < length (row_at self.old index) → 0 < self.old.room }
@@ -51,8 +51,8 @@ impl<K: IntKey, X, A: Allocator> Slots<K, X, A> {
             return;
         }
         let mut from = 0;
-        let mut held = self.hold(from);
-        while let Some(index) = self.next_in(&mut held, from) {
+        let mut left = self.marks_from(from);
+        while let Some(index) = self.next_in(&mut left, from) {
             self.turn_at(index);
             from = index + 1;
         }
