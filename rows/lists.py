@@ -803,9 +803,16 @@ def run_answers(it, commands, armed):
     return texts, armed
 
 
+# the calls that make a list
+MAKING = ("new", "with_capacity", "with_room_for")
+
+
 def made(call, pair=PAIR):
-    """The list that a call makes; None where no memory has room for it, or the call makes none."""
+    """The list that a call makes; None where no memory has room for it."""
     if call == "new":
         return PlainList(pair=pair)
-    slots = int(call.removeprefix("with_capacity "))
+    name, number = call.split(" ")
+    slots = int(number) if name == "with_capacity" else PlainList(2).wanted(int(number), 909)
+    if slots > GREATEST_CAPACITY:
+        raise TooLarge
     return PlainList(1 << (max(slots, 2) - 1).bit_length(), pair) if slots < 2**40 else None

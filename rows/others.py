@@ -4,7 +4,6 @@ import re
 
 from lists import (
     GREATEST,
-    GREATEST_CAPACITY,
     NoMemory,
     PlainList,
     TooLarge,
@@ -265,9 +264,11 @@ class Sets:
 
     def make(self, slots, members, refuses):
         """Puts a set with so many slots at first, and with these members, in the place of the one."""
-        if slots > GREATEST_CAPACITY:
-            raise TooLarge
-        one = made(f"with_capacity {slots}", MEMBER)
+        return self.put_made(f"with_capacity {slots}", members, refuses)
+
+    def put_made(self, call, members, refuses):
+        """The same of a set that a call makes."""
+        one = made(call, MEMBER)
         if refuses or not one:
             raise NoMemory
         for key in members:
@@ -364,6 +365,7 @@ WALKS = {
 SET_CALLS = {
     ("new", 0): lambda it, refuses: it.make(4, [], refuses),
     ("with_capacity", 1): lambda it, refuses, slots: it.make(slots, [], refuses),
+    ("with_room_for", 1): lambda it, refuses, n: it.put_made(f"with_room_for {n}", [], refuses),
     ("from_iter", None): lambda it, refuses, *numbers: it.make(len(numbers), numbers, refuses),
     ("from_iter_many", 3): lambda it, refuses, *numbers: it.make(numbers[1], keys(*numbers), refuses),
     ("from_array", None): lambda it, refuses, *numbers: it.make_of_array(numbers, refuses),

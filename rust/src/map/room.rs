@@ -2,6 +2,8 @@
 use super::IntMap;
 use crate::IntKey;
 use crate::guard::guarded;
+use crate::memory::alloc::Global;
+use crate::proved::map::IntMap as Proved;
 use crate::refusal::{Cause, Refused, granted};
 use crate::room::{LEAST_SLOTS, slots_for};
 
@@ -28,15 +30,12 @@ impl<K: IntKey, V> IntMap<K, V> {
     /// The same as [`with_room_for`](Self::with_room_for), but it returns a failure.
     ///
     /// # Errors
-    /// [`Cause::TooLarge`] if more than 2^63 slots are needed, and [`Cause::Memory`] if an allocation
-    /// fails. The first allocation is that of two slots.
+    /// [`Cause::TooLarge`] if more than 2^63 slots are needed, and otherwise [`Cause::Memory`] if an
+    /// allocation fails.
     ///
-    /// Proved in part: it is [`try_reserve_pairs`](IntMap::try_reserve_pairs) on a map of two
-    /// slots, which [`try_with_capacity`](IntMap::try_with_capacity) makes.
+    /// Proved of `IntMap::with_room_for`: `state`, `capacity`, `room`, `too_large`.
     pub fn try_with_room_for(pairs: usize) -> Result<IntMap<K, V>, Cause> {
-        let mut map = Self::try_with_capacity(LEAST_SLOTS)?;
-        map.try_reserve_pairs(pairs)?;
-        Ok(map)
+        Ok(IntMap { map: Proved::with_room_for(Global, pairs)? })
     }
 
     /// Makes room for `additional` pairs more: the capacity becomes the least of itself and its

@@ -1,5 +1,5 @@
 //! The capacity and the load factor, room for a number of members, and memory that is given back.
-use super::{IntSet, guarded};
+use super::{Global, IntSet, Proved, guarded};
 use crate::IntKey;
 use crate::refusal::{Cause, granted};
 use crate::room::{LEAST_SLOTS, slots_for, thousandths_of};
@@ -35,12 +35,9 @@ impl<K: IntKey> IntSet<K> {
     /// # Errors
     /// Those of [`IntMap::try_with_room_for`](crate::IntMap::try_with_room_for).
     ///
-    /// Proved in part: it is [`try_reserve_members`](IntSet::try_reserve_members) on a set of two
-    /// slots, which [`try_with_capacity`](IntSet::try_with_capacity) makes.
+    /// Proved of `IntSet::with_room_for`: `state`, `capacity`, `room`, `too_large`.
     pub fn try_with_room_for(members: usize) -> Result<IntSet<K>, Cause> {
-        let mut set = Self::try_with_capacity(LEAST_SLOTS)?;
-        set.try_reserve_members(members)?;
-        Ok(set)
+        Ok(IntSet { set: Proved::with_room_for(Global, members)? })
     }
 
     /// Makes the capacity at least the number of members plus `additional`, as

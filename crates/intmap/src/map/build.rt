@@ -3,13 +3,15 @@ ghost use Rattle.std.specs.Prelude.{◌≡◌, ◌↔◌, ◌+◌, ◌^◌, ◌<
 ghost use Rattle.std.specs.Option.{option_or};
 ghost use Rattle.intmap_table.specs.Bindings.{value_of};
 ghost use Rattle.intmap_table.specs.Classes.{IsCapacity};
-ghost use Rattle.intmap.specs.Growth.{IsLeastPower};
-ghost use Rattle.intmap.specs.Map.{IsMap, empty_map, first_capacity, least_capacity};
+ghost use Rattle.intmap.specs.Growing.{MeetsFactor};
+ghost use Rattle.intmap.specs.Growth.{IsLeastPower, IsWanted, NeedsTooMuch};
+ghost use Rattle.intmap.specs.Map.{IsMap, empty_map, first_capacity, first_factor, least_capacity};
+ghost use Rattle.intmap.specs.Room.{HasRoomInRow};
 ghost use Rattle.std.specs.Iterator.{IsFinite, size};
 ghost use Rattle.std.specs.Iterator.Runs.{WholeRun};
 ghost use Rattle.intmap.specs.Extending.{Extends, ExtendsUpTo, Collects, MayRefuseToCollect, IsCollected, LeavesRange};
 
-use crate::load::{GREATEST_CAPACITY, threshold_of};
+use crate::load::{GREATEST_CAPACITY, threshold_of, wanted_capacity};
 use crate::map::IntMap;
 use crate::refusal::{Cause, RefusedPair};
 use intmap_table::IntKey;
@@ -68,6 +70,38 @@ impl<K: IntKey, V: Drop, A: Allocator + Copy> IntMap<K, V, A> {
             return Err(Cause::TooLarge);
         }
         IntMap::of_slots(alloc, capacity.max(LEAST_CAPACITY).next_power_of_two())
+    }
+
+    /// An empty map with room for `pairs` pairs, and a load factor of 909 thousandths. Its number of
+    /// slots is the least power of two, from 2 on, in which so many pairs meet the load factor. It is
+    /// what [`reserve_pairs`](IntMap::reserve_pairs) makes of two slots, but allocates the slots once.
+    ///
+    /// Insertions of keys that follow one another, such as ids, then don't fail, as
+    /// [`reserve_pairs`](IntMap::reserve_pairs) says. Other keys may share a slot, and then allocate.
+    ///
+    /// It fails with [`Cause::TooLarge`] if and only if no capacity up to 2^63 meets the load factor,
+    /// and otherwise with [`Cause::Memory`] if an allocation fails.
+    ///
+    /// ```text
+    /// // 14 pairs in 16 slots are 875 thousandths, and 15 are 937
+    /// IntMap::<u64, u64>::with_room_for(alloc, 14)?.capacity()    // 16
+    /// IntMap::<u64, u64>::with_room_for(alloc, 15)?.capacity()    // 32
+    /// IntMap::<u64, u64>::with_room_for(alloc, 0)?.capacity()     // 2
+    /// ```
+    pub fn with_room_for(alloc: A, pairs: usize) -> Result<IntMap<K, V, A>, Cause>
+        ensures state { IfOk result (λ made. made ≡ empty_map made.capacity) }
+        ensures capacity { IfOk result (λ made.
+            MeetsFactor least_capacity pairs first_factor made.capacity) }
+        ensures room { IfOk result (λ made. HasRoomInRow K.number_of made.walk made.capacity
+            made.factor pairs) }
+        ensures too_large { (result ≡ Err Cause.TooLarge)
+            ↔ NeedsTooMuch (IsWanted least_capacity pairs first_factor) }
+        ensures valid { IfOk result (IsMap K.number_of K.is_valid) }
+    {
+        let Some(slots) = wanted_capacity(pairs, LEAST_CAPACITY, FIRST_FACTOR) else {
+            return Err(Cause::TooLarge);
+        };
+        IntMap::of_slots(alloc, slots)
     }
 
     /// An empty map of `slots` slots. It fails only if an allocation fails.

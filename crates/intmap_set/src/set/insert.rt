@@ -1,7 +1,7 @@
 //! New sets, and the insertion of a key.
 ghost use Rattle.std.specs.Prelude.{◌≡◌, ◌↔◌, ◌+◌, ◌^◌, ◌<◌, max, length, not, Err, IfOk, IfErr, OnOk, OnErr, IsOk, MatchBool};
-ghost use Rattle.intmap.specs.Growing.{MayRefuseReserve, MayRefuseRoom, NeedsTooMuchRoom};
-ghost use Rattle.intmap.specs.Growth.{IsLeastPower};
+ghost use Rattle.intmap.specs.Growing.{MayRefuseReserve, MayRefuseRoom, MeetsFactor, NeedsTooMuchRoom};
+ghost use Rattle.intmap.specs.Growth.{IsLeastPower, IsWanted, NeedsTooMuch};
 ghost use Rattle.intmap.specs.Map.{NeedsNoMemory, after_insert, least_capacity};
 ghost use Rattle.intmap.specs.PlainLists.{RefusalIsDue, list_of};
 ghost use Rattle.intmap.specs.Room.{HasRoomInRow};
@@ -47,6 +47,34 @@ impl<K: IntKey, A: Allocator + Copy> IntSet<K, A> {
     {
         Ok(IntSet {
             map: IntMap::with_capacity(alloc, capacity)?,
+        })
+    }
+
+    /// An empty set with room for `members` members, and a load factor of 909 thousandths. Its number
+    /// of slots is the least power of two, from 2 on, in which so many members meet the load factor.
+    /// It is what [`reserve_members`](IntSet::reserve_members) makes of two slots, but allocates the
+    /// slots once.
+    ///
+    /// It fails with [`Cause::TooLarge`] if and only if no capacity up to 2^63 meets the load factor,
+    /// and otherwise with [`Cause::Memory`] if an allocation fails.
+    ///
+    /// ```text
+    /// // 14 members in 16 slots are 875 thousandths, and 15 are 937
+    /// IntSet::<u64>::with_room_for(alloc, 14)?.capacity()    // 16
+    /// IntSet::<u64>::with_room_for(alloc, 15)?.capacity()    // 32
+    /// ```
+    pub fn with_room_for(alloc: A, members: usize) -> Result<IntSet<K, A>, Cause>
+        ensures state { IfOk result (λ made. made ≡ empty_set made.capacity) }
+        ensures capacity { IfOk result
+            (λ made. MeetsFactor least_capacity members load_factor made.capacity) }
+        ensures room { IfOk result (λ made. HasRoomInRow K.number_of (paired made.walk)
+            made.capacity load_factor members) }
+        ensures too_large { (result ≡ Err Cause.TooLarge)
+            ↔ NeedsTooMuch (IsWanted least_capacity members load_factor) }
+        ensures valid { IfOk result (IsSet K.number_of K.is_valid) }
+    {
+        Ok(IntSet {
+            map: IntMap::with_room_for(alloc, members)?,
         })
     }
 

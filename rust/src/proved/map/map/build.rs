@@ -1,7 +1,7 @@
 //! New maps, and insertion of many pairs.
 
 use crate::memory::prelude::*;
-use crate::proved::map::load::{GREATEST_CAPACITY, threshold_of};
+use crate::proved::map::load::{GREATEST_CAPACITY, threshold_of, wanted_capacity};
 use crate::proved::map::map::IntMap;
 use crate::proved::map::refusal::{Cause, RefusedPair};
 use crate::proved::table::IntKey;
@@ -34,6 +34,22 @@ impl<K: IntKey, V, A: Allocator + Copy> IntMap<K, V, A> {
             return Err(Cause::TooLarge);
         }
         IntMap::of_slots(alloc, capacity.max(LEAST_CAPACITY).next_power_of_two())
+    }
+
+    /// An empty map with room for `pairs` pairs, and a load factor of 909 thousandths. Its number of
+    /// slots is the least power of two, from 2 on, in which so many pairs meet the load factor. It is
+    /// what [`reserve_pairs`](IntMap::reserve_pairs) makes of two slots, but allocates the slots once.
+    ///
+    /// Insertions of keys that follow one another, such as ids, then don't fail, as
+    /// [`reserve_pairs`](IntMap::reserve_pairs) says. Other keys may share a slot, and then allocate.
+    ///
+    /// It fails with [`Cause::TooLarge`] if and only if no capacity up to 2^63 meets the load factor,
+    /// and otherwise with [`Cause::Memory`] if an allocation fails.
+    pub fn with_room_for(alloc: A, pairs: usize) -> Result<IntMap<K, V, A>, Cause> {
+        let Some(slots) = wanted_capacity(pairs, LEAST_CAPACITY, FIRST_FACTOR) else {
+            return Err(Cause::TooLarge);
+        };
+        IntMap::of_slots(alloc, slots)
     }
 
     /// An empty map of `slots` slots. It fails only if an allocation fails.

@@ -24,6 +24,19 @@ impl<K: IntKey, A: Allocator + Copy> IntSet<K, A> {
         })
     }
 
+    /// An empty set with room for `members` members, and a load factor of 909 thousandths. Its number
+    /// of slots is the least power of two, from 2 on, in which so many members meet the load factor.
+    /// It is what [`reserve_members`](IntSet::reserve_members) makes of two slots, but allocates the
+    /// slots once.
+    ///
+    /// It fails with [`Cause::TooLarge`] if and only if no capacity up to 2^63 meets the load factor,
+    /// and otherwise with [`Cause::Memory`] if an allocation fails.
+    pub fn with_room_for(alloc: A, members: usize) -> Result<IntSet<K, A>, Cause> {
+        Ok(IntSet {
+            map: IntMap::with_room_for(alloc, members)?,
+        })
+    }
+
     /// Makes the key a member, and returns whether it is new. If it is a member already, only the
     /// count of compared keys changes. A new member is put at the end of its slot, and the table
     /// grows as the table of a map does at a new key.
