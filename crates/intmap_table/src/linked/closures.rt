@@ -56,6 +56,24 @@ fn unlink_first<P, A: Allocator>(slot: &mut Slot<P>, link: usize, pool: &mut Poo
     if link >= NODE_LIMIT {
         return slot.take();
     }
+    unlink_first_of_several(slot, link, pool)
+}
+
+/// Removes the first pair of a slot that holds others, which move up by one place.
+#[inline(never)]
+fn unlink_first_of_several<P, A: Allocator>(
+    slot: &mut Slot<P>,
+    link: usize,
+    pool: &mut Pool<P, A>,
+) -> P
+    requires filled { (p : P) × (slot.old ≡ Filled link p) }
+    requires leads { IsChain pool.old.nodes link }
+    requires several { 0 < length (chain_of pool.old.nodes link) }
+    ensures value { slot.old ≡ Filled link result }
+    ensures row { (first : P) → IsSlotSet pool.old (Filled link first)
+        (chain_of pool.old.nodes link) pool.new slot.new }
+    ensures room { pool.old.room ≤ pool.new.room }
+{
     let mut link = link;
     let second = take_behind(&mut link, pool);
     slot.set_link(link);
@@ -64,6 +82,7 @@ fn unlink_first<P, A: Allocator>(slot: &mut Slot<P>, link: usize, pool: &mut Poo
 
 /// Keeps the pairs behind the first one of a slot for which the closure returns true, in their order,
 /// and returns their number.
+#[inline(never)]
 fn retain_behind<K: IntKey, V: Drop, A: Allocator, F: FnMut(K, &V) -> bool>(
     slot: &mut Slot<(Stored<K>, Kept<V>)>,
     link: usize,
@@ -98,6 +117,7 @@ fn retain_behind<K: IntKey, V: Drop, A: Allocator, F: FnMut(K, &V) -> bool>(
 /// Keeps the pairs of a slot for which the closure returns true, in their order, and returns their
 /// number. The closure is called once at each pair, from the front, and a pair is unlinked at once
 /// when it returns false.
+#[inline(always)]
 pub(crate) fn retain<K: IntKey, V: Drop, A: Allocator, F: FnMut(K, &V) -> bool>(
     slot: &mut Slot<(Stored<K>, Kept<V>)>,
     pool: &mut Pool<(Stored<K>, Kept<V>), A>,
@@ -113,6 +133,9 @@ pub(crate) fn retain<K: IntKey, V: Drop, A: Allocator, F: FnMut(K, &V) -> bool>(
 {
     while let Some((link, first)) = slot.get() {
         if keeps_pair(first, f) {
+            if link >= NODE_LIMIT {
+                return 1;
+            }
             return retain_behind(slot, link, pool, f) + 1;
         }
         unlink_first(slot, link, pool);

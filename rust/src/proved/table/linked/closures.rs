@@ -36,6 +36,16 @@ fn unlink_first<P, A: Allocator>(slot: &mut Slot<P>, link: usize, pool: &mut Poo
     if link >= NODE_LIMIT {
         return slot.take();
     }
+    unlink_first_of_several(slot, link, pool)
+}
+
+/// Removes the first pair of a slot that holds others, which move up by one place.
+#[inline(never)]
+fn unlink_first_of_several<P, A: Allocator>(
+    slot: &mut Slot<P>,
+    link: usize,
+    pool: &mut Pool<P, A>,
+) -> P {
     let mut link = link;
     let second = take_behind(&mut link, pool);
     slot.set_link(link);
@@ -44,6 +54,7 @@ fn unlink_first<P, A: Allocator>(slot: &mut Slot<P>, link: usize, pool: &mut Poo
 
 /// Keeps the pairs behind the first one of a slot for which the closure returns true, in their order,
 /// and returns their number.
+#[inline(never)]
 fn retain_behind<K: IntKey, V, A: Allocator, F: FnMut(K, &V) -> bool>(
     slot: &mut Slot<(Stored<K>, Kept<V>)>,
     link: usize,
@@ -68,6 +79,7 @@ fn retain_behind<K: IntKey, V, A: Allocator, F: FnMut(K, &V) -> bool>(
 /// Keeps the pairs of a slot for which the closure returns true, in their order, and returns their
 /// number. The closure is called once at each pair, from the front, and a pair is unlinked at once
 /// when it returns false.
+#[inline(always)]
 pub(in crate::proved::table) fn retain<K: IntKey, V, A: Allocator, F: FnMut(K, &V) -> bool>(
     slot: &mut Slot<(Stored<K>, Kept<V>)>,
     pool: &mut Pool<(Stored<K>, Kept<V>), A>,
@@ -75,6 +87,9 @@ pub(in crate::proved::table) fn retain<K: IntKey, V, A: Allocator, F: FnMut(K, &
 ) -> usize {
     while let Some((link, first)) = slot.get() {
         if keeps_pair(first, f) {
+            if link >= NODE_LIMIT {
+                return 1;
+            }
             return retain_behind(slot, link, pool, f) + 1;
         }
         unlink_first(slot, link, pool);

@@ -1,10 +1,10 @@
 use Rattle.std.proofs.Common.{◌≡◌, true, [], ◌∷◌, ◌++◌, length, sym, ap, ◌∙◌, subst, refl, arith}
 use Rattle.intmap_table.specs.Retaining.{KeepsAt, TakesPair, Retains}
 use Rattle.intmap_table.specs.Taking.{TakesEach}
-use Rattle.intmap_table.specs.Tables.Nodes.{Filled, chain_of, row_in}
+use Rattle.intmap_table.specs.Tables.Nodes.{Filled, chain_of, row_in, IsSlot}
 use Rattle.intmap_table.proofs.LeadsLemmas.{Leads}
 use Rattle.intmap_table.proofs.TakingLemmas.{TakesEach-first, TakesEach-next}
-use Rattle.intmap_table.proofs.Nodes.PathLemmas.{chain-limit}
+use Rattle.intmap_table.proofs.Nodes.PathLemmas.{chain-limit, Chain-beyond}
 use Rattle.intmap_table.proofs.Nodes.SlotLemmas.{Slot-first, slot_is}
 use Rattle.intmap_table.proofs.Nodes.RetainedLemmas.{smaller_rest, Slot-same, Slot-then, gone_more, Leads-goes_first}
 use Rattle.intmap_table.proofs.linked.closures.retain.Goals as goal
@@ -36,6 +36,23 @@ pub retain_behind-requires-clause-callable : goal.retain_behind-requires-clause-
 retain_behind-requires-clause-callable g c =
     let at = (goal.at.retain_behind-requires-clause-callable g c).In-Some in
     TakesEach-next (KeepsAt g.F.FnMut) (TakesPair g.F.FnMut) c.loop-link.f c.keeps_pair.new.f c.in-Some.first.now c.keeps_pair.result (chain_of c.loop-link.pool.nodes c.in-Some.link) (callable g at) c.keeps_pair.ensures
+
+pub returns-then-link-ge-NODE_LIMIT-clause-row : goal.returns-then-link-ge-NODE_LIMIT-clause-row
+returns-then-link-ge-NODE_LIMIT-clause-row g c =
+    let at = (goal.at.returns-then-link-ge-NODE_LIMIT-clause-row g c).In-Some in
+    let loop = c.loop-link.invariant in
+    let pool = c.loop-link.pool in
+    let first = c.in-Some.first.now in
+    let chain = subst (IsSlot pool.nodes) c.in-Some.ensures.some loop.row.is in
+    let alone : row_in pool.nodes c.loop-link.slot ≡ first ∷ [] = left g at ∙ ap (λ ps. first ∷ ps) (Chain-beyond pool.nodes c.in-Some.link chain (omega (arith, c.if-link-ge-NODE_LIMIT.true))) in
+    let call = rw c.if-keeps_pair.true at c.keeps_pair.ensures in (
+      row_in pool.nodes c.loop-link.slot,
+      loop.row,
+      subst (λ L. Retains (KeepsAt g.F.FnMut) c.args.f.now (row_in c.args.pool.now.nodes c.args.slot.now) L c.keeps_pair.new.f) (sym alone)
+          (loop.leads (first ∷ []) c.keeps_pair.new.f
+          (subst (λ L. Retains (KeepsAt g.F.FnMut) c.loop-link.f L (first ∷ []) c.keeps_pair.new.f) (sym alone) (true, c.keeps_pair.new.f, [], call, (refl, refl), refl))),
+      sym (ap length alone),
+    )
 
 pub overflow_add-result : goal.overflow_add-result
 overflow_add-result g c =
