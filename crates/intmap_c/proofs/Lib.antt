@@ -1,6 +1,8 @@
 mod AnswerLemmas
 mod Words
 mod ReaderWords
+mod Readers
+mod ReaderShapes
 mod UnboxedSteps
 mod HandleSteps
 mod LentSteps

@@ -1,39 +1,40 @@
 -- By hand, since the map is required of the caller, and its pointer is followed.
-use Rattle.intmap_c.proofs.ReaderWords.{◌≡◌, ℕ, [], ◌∷◌, refl, sym, ap, List, Val, ftrue, tables, ‵, raw, ◌⊛◌, some, later, ◌$◌, ◌∵◌, !, qed, done}
-use Rattle.intmap_c.proofs.ReaderWords.{move, keep, drop, use1, split, join, fsplit, fjoin, pick, await, rewrite, suffices, enter, stop, fld, of_opd}
-use Rattle.intmap_c.proofs.ReaderWords.{no_more, and_then, returns, alloc_all, pass_all, free_all, look_at, get, sets, lands_as, sub, whole, owns}
-use Rattle.intmap_c.proofs.ReaderWords.{types_at, plain, yes, nothing, calls_at, Lasts, lasts, triple_of, framed, Stays, stay_dropped, Goes-dropped}
-use Rattle.intmap_c.proofs.ReaderWords.{walk_of, says, ends_at, proved, Lft, flft, id⊢, vptr, named, w64, fact, use2, frame, group, load, through}
-use Rattle.intmap_c.proofs.ReaderWords.{look_in, u64, Is, shows, cell_at, uint_Makes, uint_vals, uint_Tells, peeks, heard, owned, Word, word_lowers}
-use Rattle.intmap_c.proofs.ReaderWords.{ptr_fits}
-use Rattle.intmap_c.proofs.Words.{lit<, subst, ◌∙◌, RawPtr, Ptr, block_ptr, null_ptr, ptr_val, tests_null, prop, at_ret, lit, bin, first, blocks}
-use Rattle.intmap_c.proofs.Words.{branches, skips, exec, returns_within, env, Option, None, Some}
-use mathlib.Core.Bool.{true≢false}
+use Rattle.intmap_c.proofs.ReaderWords.{◌≡◌, ℕ, [], ◌∷◌, refl, List, Val, ftrue, tables, ‵, raw, ◌⊛◌, some, later, ◌$◌, ◌∵◌, !, qed, done, move, keep}
+use Rattle.intmap_c.proofs.ReaderWords.{drop, use1, split, join, fsplit, fjoin, pick, await, suffices, enter, stop, fld, of_opd, no_more, and_then}
+use Rattle.intmap_c.proofs.ReaderWords.{returns, alloc_all, pass_all, free_all, look_at, get, sets, lands_as, sub, whole, owns, types_at, plain, yes}
+use Rattle.intmap_c.proofs.ReaderWords.{nothing, calls_at, Lasts, lasts, triple_of, framed, Stays, stay_dropped, Goes-dropped, walk_of, says, ends_at}
+use Rattle.intmap_c.proofs.ReaderWords.{proved, flft, id⊢, named, w64, fact, use2, frame, group, load, through, look_in, u64, Is, shows, uint_vals}
+use Rattle.intmap_c.proofs.ReaderWords.{uint_Tells, peeks, heard, Word, ptr_fits, addr, mut_vals, mut_Tells, State, map_of}
+use Rattle.intmap_c.proofs.Words.{vptr, sym, ap, rewrite, lit<, subst, ◌∙◌, RawPtr, Ptr, block_ptr, null_ptr, ptr_val, tests_null, prop, at_ret, lit}
+use Rattle.intmap_c.proofs.Words.{bin, first, blocks, branches, skips, exec, returns_within, env, Option, None, Some, feq_i, fsplit3, fjoin3, get_in}
+use Rattle.intmap_c.proofs.Words.{lies_at}
+use base.Fml.{Lft, GName, flent}
 use base.Fraction.{full_share}
-use base.Fml.{GName, flent}
+use denote.Lend.{lends_ref}
+use denote.Memory.{cell_at, mem}
+use denote.MutBor.{MutBor}
+use denote.Plain.{uint_Makes}
+use denote.Ref.{MutRef}
+use denote.Steps.{owned, opens, closes}
+use denote.Triple.Walked.{Goes-ref, stay_ref}
+use mathlib.Core.Bool.{true≢false}
 use mir.Val.{vunit}
 use prog.Wp.{Wp, after_seq, at_return}
-use types.Kit.{Sq, any_q, feq_i, fsplit3, fjoin3}
-use types.Run.{addr, store, assigns, assigns_last, switches_on, unit_lit}
-use types.ByLocal.{get_in, get_tag, is, sets_last}
+use types.ByLocal.{get_tag, is, sets_last}
+use types.Kit.{Sq, any_q}
 use types.Match.{vrt, in_variant}
+use types.Run.{store, assigns, assigns_last, switches_on, unit_lit}
 use types.SemTy.{Body as Held}
 use types.Tokens.{lft_new}
-use denote.Lend.{lends_ref}
-use denote.Memory.{mem}
-use denote.MutBor.{MutBor}
-use denote.RawPtr.{lies_at}
-use denote.Ref.{MutRef, mut_vals, mut_Tells}
-use denote.Steps.{opens, closes}
-use denote.Triple.Walked.{Goes-ref, stay_ref}
-use Rattle.std.specs.Option.{option_copied_mut}
 use Rattle.std.proofs.alloc.Shapes.{front, arm_body}
+use Rattle.std.specs.Option.{option_copied_mut}
 use Rattle.intmap.specs.Map.{after_search}
-use Rattle.intmap_c.specs.Calls.{State, bound_to, itself, map_of}
-use Rattle.intmap_c.specs.Handles.{Map, owns_map}
-use Rattle.intmap_c.specs.Places.{Leaves, lends_value, gives_back, lends_found, lends_place}
 use Rattle.intmap_c.proofs.HandleSteps.{by_map}
 use Rattle.intmap_c.proofs.PlaceSteps.{Found, by_found, address_out, address_in, not_lent, lent_out}
+use Rattle.intmap_c.proofs.lent.Word.TheLaws.{lowers as word_lowers}
+use Rattle.intmap_c.specs.Calls.{bound_to, itself}
+use Rattle.intmap_c.specs.Handles.{Map, owns_map}
+use Rattle.intmap_c.specs.Places.{Leaves, lends_value, gives_back, lends_found, lends_place}
 use Rattle.intmap_c.specs.contracts.place.intmap_place as f
 use Rattle.intmap_c.proofs.place.intmap_place.Statement.{statement}
 use Rattle.intmap_c.proofs.place.intmap_place.Code as code

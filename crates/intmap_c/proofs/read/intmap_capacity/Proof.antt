@@ -1,60 +1,9 @@
 -- By hand, since the loan is required of the caller, and given back.
-use Rattle.intmap_c.proofs.ReaderWords.{◌≡◌, ℕ, [], ◌∷◌, refl, sym, ap, List, Val, ftrue, tables, ‵, raw, ◌⊛◌, some, later, ◌$◌, ◌∵◌, !, qed, done}
-use Rattle.intmap_c.proofs.ReaderWords.{move, keep, drop, use1, split, join, fsplit, fjoin, pick, await, rewrite, suffices, enter, stop, fld, of_opd}
-use Rattle.intmap_c.proofs.ReaderWords.{no_more, and_then, returns, alloc_all, pass_all, free_all, look_at, get, sets, lands_as, agg, sub, whole}
-use Rattle.intmap_c.proofs.ReaderWords.{owns, types_at, plain, yes, nothing, only, calls_at, Lasts, lasts, triple_of, framed, Stays, stay_dropped}
-use Rattle.intmap_c.proofs.ReaderWords.{Goes-dropped, walk_of, says, ends_at, proved, Lft, flft, id⊢, vptr, vint, named, w64, fact, use2, frame}
-use Rattle.intmap_c.proofs.ReaderWords.{group, load, through, look_in, RefOf, usize, Is, shows, cell_at, uint_Makes, shr_vals, shr_Tells, NamedLft}
-use Rattle.intmap_c.proofs.ReaderWords.{contraction, looks, shuts, peeks, heard, owned, shares_map, is_lent, Word, word_lowers, word_copies, lent_row}
-use Rattle.intmap_c.proofs.ReaderWords.{lowered, shares_map_laws, ptr_fits, lent_fits, lent_val, lent_in, map_of}
+use Rattle.intmap_c.proofs.ReaderShapes.{numbers}
 use Rattle.intmap_c.specs.contracts.read.intmap_capacity as f
 use Rattle.intmap_c.proofs.read.intmap_capacity.Statement.{statement}
 use Rattle.intmap_c.proofs.read.intmap_capacity.Code as code
-use Rattle.intmap_c.specs.contracts.read.capacity as g
 use Rattle.intmap_c.proofs.read.capacity.Met.{met}
 
-abbrev stayed : Stays f.ended.signature.params f.ended.kept
-stayed = (stay_dropped _ yes, tt)
-
 pub intmap_capacity_spec : {M : Type 1} → statement M
-intmap_capacity_spec {M = M} 𝓤 𝓛 𝓜 𝓡 wired =
-    let c = f.clauses 𝓛 𝓜.mem 𝓡.returns in let W = walk_of 𝓛 f.ended stayed c in let 𝓣 = tables 𝓤 𝓛.H 𝓜 𝓡 𝓡.env in
-    let self = RefOf (0 ∷ []) tt (plain (λ _. Word)) (λ _. tt) in
-    proved 𝓛 f.ended stayed c 𝓜 𝓡 (Goes-dropped 𝓛 1 self yes (λ κs x w. refl), tt)
-    f.Key.name code.function (code.unfolded 𝓤 𝓛.H 𝓜 𝓡 wired)
-    (λ κs. (shr_vals, tt)) (λ κs. (shr_Tells (named 0) κs.0 Word, tt)) (λ κs qs bounds a loan are.
-    let b = a.0.ref_ptr.0 in let o = a.0.ref_ptr.1 in let κ : Lft = κs.0 in let d = a.0.now in let p = d.at in let m = loan.value in let α : Lft = loan.life in
-    let y : W.Ghost = ((κs, qs, bounds, a, (vptr b o ∷ [], tt)), loan) in
-    let lα : NamedLft = record { mir = named 0; lft = α } in
-    let x = lent_val lα p m in let w : Val = lowered lα x in
-    let G = triple_of 𝓛 g.signature (g.spec 𝓛 𝓜.mem 𝓡.returns) in
-    let z : G.Ghost = (((α, tt), (loan.share, tt), tt, (x, tt), (w ∷ [], tt)), tt) in
-    qed 𝓛 (((‵ (flft κ qs.0) ⊛ ‵ ftrue) ⊛ ‵ (owns (types_at f.ended.signature.params κs) a y.0.4)) ∷ ‵ (is_lent loan p) ∷ []) ∵
-    split ! $ split ! $ move ! (2 ∷ []) $ fsplit ! $ fsplit ! $ keep ! (1 ∷ 3 ∷ 5 ∷ []) $
-    -- [the word behind the `&`; its token; what is lent]
-    enter ! _ _ _ _ _ $ alloc_all ! (λ l. pass_all ! refl ((tt, tt), tt) $
-    looks ! tt Word (word_copies.copied M 𝓤 𝓛).opens d b o (λ q vs. move ! (1 ∷ []) $ peeks ! Word (Is Word) (shows 𝓛 Word) d vs (λ so.
-    let ev = word_lowers.val_is d vs so in
-    rewrite ! 1 (λ (us : List Val). ‵ (cell_at q Word.mir us b o)) ev refl $
-    sets ! (of_opd ! (load ! (through ! refl (fld ! refl (stop !))) (look_in ! 1 (sub ! 0 refl (whole !))))) refl (ptr_fits p) $
-    sets ! (agg ! (no_more !)) refl (tt, tt) $
-    sets ! (agg ! (and_then ! (get ! refl) (and_then ! (get ! refl) (no_more !)))) refl (lent_fits lα p) $
-    rewrite ! 1 (λ (us : List Val). ‵ (cell_at q Word.mir us b o)) (sym ev) refl $ move ! (1 ∷ 0 ∷ 2 ∷ []) $ shuts ! tt Word q d vs b o $
-    -- [the token of the `&`; the word; what is lent]
-    move ! (2 ∷ []) $ fsplit ! $ move ! (1 ∷ []) $ use1 𝓛 (‵ (shares_map p m α) ⊛ ‵ (shares_map p m α)) (contraction 𝓛 (shares_map p m) (shares_map_laws p m) α) $ split ! $
-    use1 𝓛 (‵ ((lent_row lα).own_val x (w ∷ []))) (lent_in lα 𝓛 p m) $
-    -- [what the callee takes; what stays lent; the token of the loan; ..]
-    nothing ! $ move ! (1 ∷ 0 ∷ []) $ join ! $ nothing ! $ move ! (3 ∷ 0 ∷ []) $ join ! $ join ! $
-    nothing ! $ move ! (1 ∷ 0 ∷ []) $ use2 𝓛 (raw (G.pre z)) (id⊢ 𝓤 _) $
-    calls_at ! (framed 𝓤 𝓛.H 𝓜 (tables 𝓤 𝓛.H 𝓜 𝓡 𝓡.env)) G (met 𝓤 𝓛 𝓜 𝓡 (code.calls-intmap_c::read::capacity 𝓡.env wired)) z
-    (and_then ! (get ! refl) (no_more !)) (λ v.
-    use1 𝓛 (later (some (λ (r : ℕ). ((‵ (flft α loan.share) ⊛ ‵ ftrue) ⊛ ‵ (usize.own_val r (v ∷ []))) ⊛
-    some (λ (ws : Lasts g.ended z.0.0 z.0.3). ‵ (lasts g.ended z.0.0 z.0.3 ws) ⊛ raw (fact 𝓤 (r ≡ (map_of m).capacity)))))) (id⊢ 𝓤 _) $
-    await ! tt $ pick ! (λ r. split ! $ split ! $ split ! $ move ! (2 ∷ []) $ peeks ! usize (Is usize) (shows 𝓛 usize) r (v ∷ []) (λ is.
-    lands_as ! (ap only is.0) refl (tt, record { fits = is.1 }) $ returns ! (look_at ! 0 refl) $ free_all ! refl $
-    -- [the number; the token of the loan; nothing; what the callee left and says; what stays lent; the token of the `&`; ..]
-    move ! (3 ∷ []) $ pick ! (λ ws. split ! $ drop ! $ heard ! _ (λ told.
-    keep ! (1 ∷ 3 ∷ 4 ∷ []) $ fjoin ! $
-    owned ! usize _ (uint_Makes 𝓛 w64) r _ (refl, is.1) $
-    suffices ! _ (ends_at 𝓛 f.ended stayed c y (vint w64 r) r (tt, tt) (tt, tt)) $
-    nothing ! $ nothing ! $ join ! $ nothing ! $ move ! (4 ∷ 0 ∷ []) $ join ! $ group ! 3 $ frame ! $ says ! told $ done !)))))))))
+intmap_capacity_spec 𝓤 𝓛 𝓜 𝓡 wired = numbers 𝓛 𝓜 𝓡 (λ m. m.capacity) f.Key.name _ (code.unfolded 𝓤 𝓛.H 𝓜 𝓡 wired) (met 𝓤 𝓛 𝓜 𝓡 (code.calls-intmap_c::read::capacity 𝓡.env wired))
