@@ -25,6 +25,7 @@ LEFT = [
     "intmap/src/decimal.rt",
     "intmap/src/laws.rt",
     "intmap/src/map/iter/cursor.rt",
+    "intmap/src/map/iter/disjoint.rt",
     "intmap/src/map/iter/written.rt",
     "intmap/src/map/json.rt",
     "intmap/src/map/json/read.rt",
@@ -75,7 +76,9 @@ NOT_CALLED = {
         impl<K: IntKey, V, A: Allocator + Copy> Index<K> for IntMap<K, V, A> {""",
     "intmap/src/map/iter.rt": """
         mod cursor;
-        pub use cursor::Cursor;""",
+        pub use cursor::Cursor;
+        mod disjoint;
+        pub use disjoint::""",
     "intmap/src/map/iter/writing.rt": """
         impl<'a, K: IntKey, V, A: Allocator + Copy> IntoIterator for &'a mut IntMap<K, V, A> {""",
     "intmap/src/refusal.rt": """

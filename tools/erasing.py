@@ -29,7 +29,7 @@ HOMES = {"intmap_table": "table", "intmap": "map", "intmap_set": "set"}
 
 LEFT_OUT = {
     "intmap_table": ["lent"],
-    "intmap": ["decimal", "laws", "map/iter/cursor", "map/iter/written", "map/json"],
+    "intmap": ["decimal", "laws", "map/iter/cursor", "map/iter/disjoint", "map/iter/written", "map/json"],
     "intmap_set": ["laws", "set/iter/extract", "set/owned"],
 }
 

@@ -21,7 +21,7 @@ ALL = ["all"]
 PAGES = {
     "IntMap": ("intmap", ["IntMap"], []),
     "Entry": ("intmap", ["Entry", "OccupiedEntry", "VacantEntry"], []),
-    "Iterators": ("intmap", "Iter Keys Values IterMut ValuesMut IntoIter IntoKeys IntoValues Drain ExtractIf Cursor".split(), []),
+    "Iterators": ("intmap", "Iter Keys Values IterMut ValuesMut DisjointMut IntoIter IntoKeys IntoValues Drain ExtractIf Cursor".split(), ["are_distinct"]),
     "Errors": ("intmap", ["Cause", "Refused", "RefusedPair", "JsonCause"], []),
     "IntKey": ("intmap", ["IntKey", "Steps"], ["key_of"]),
     "IntSet": ("intmap_set", ["IntSet", "Difference", "Intersection", "Union", "SymmetricDifference", "Drain", "ExtractIf"], []),

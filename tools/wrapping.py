@@ -28,6 +28,7 @@ LEFT = {
     "VacantEntry::insert": "the same; `insert_entry` returns a place, which outlasts the guard",
     "IntMap::from_array": "it allocates a vector beside the map; Rust's arrays are iterators",
     "IntMap::get_counted": "the counter has no number in Rust",
+    "DisjointMut::next_counted": "the same",
     "IntMap::load_rate": "Rust's `intmap` returns it as an `f64`",
     "IntMap::step": "an iterator borrows the map, and needs no cursor",
     "IntMap::cut": "`extract_if` removes on the way",

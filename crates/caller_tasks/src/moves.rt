@@ -10,6 +10,7 @@ use intmap::entry::Entry;
 use intmap::{Cause, IntKey, IntMap, Refused, laws};
 use std::alloc::Allocator;
 use std::marker::{Send, Sync};
+use std::mem;
 
 /// Sets the value of a present key, and returns whether it is present.
 fn set<A: Allocator + Copy>(map: &mut IntMap<u64, u64, A>, key: u64, value: u64) -> bool
@@ -49,6 +50,21 @@ pub fn swap_values<A: Allocator + Copy>(map: &mut IntMap<u64, u64, A>, a: u64, b
     set(map, a, second);
     set(map, b, first);
     true
+}
+
+/// Swaps the values of two different keys where they lie, if both are present. Every other key keeps
+/// its value. No clause says which values the two keys have then.
+pub fn swap_owned<V, A: Allocator + Copy>(map: &mut IntMap<u64, V, A>, a: u64, b: u64)
+    requires { a ≢ b }
+    ensures others { (q : ℕ) → q ≢ a → q ≢ b
+        → value_of (λ k. k) map.new.walk q ≡ value_of (λ k. k) map.old.walk q }
+    ensures len { length map.new.walk ≡ length map.old.walk }
+{
+    let keys = [a, b];
+    let mut values = map.get_disjoint_mut(&keys);
+    if let (Some(Some(first)), Some(Some(second))) = (values.next(), values.next()) {
+        mem::swap(first, second);
+    }
 }
 
 /// Removes two keys.

@@ -110,10 +110,10 @@ module _ (K' V' A' : RattleType) (g : key.Ghosts K'.Denot) (e : eq.Ghosts K'.Den
           (Plain-in Mr Inside (view_owns Inside State Mr.coded view good) 𝓛 full_share (map_with_values d ws) n
           (view_made Inside State Mr.coded view good 𝓛 (map_with_values d ws) n (ap (λ (s : State). map_with_values s ws) seen, is)) b o)
 
-      -- a map is lent as its table of holes, which shows the pairs of the map
+      -- a map is lent as its table of holes, which shows the pairs of the map and has its capacity
       abbrev pub map_opens : Opening 𝓛 (V V') κ (part_at Mr full_share d b o) (λ ws. part_at Mr full_share (map_with_values d ws) b o) (length d.walk)
           {Y = Holed.Denot} (λ h. values_of h.walk) (λ h. shared_of Holed h b (table_place o))
-          (λ h. (lent_pairs h.walk ≡ d.walk) × IsMap g.number_of g.is_valid d)
+          (λ h. (lent_pairs h.walk ≡ d.walk) × IsMap g.number_of g.is_valid d × (h.capacity ≡ d.capacity))
       map_opens = let around = left members full_share b o in
           any (λ (x : (m : Inside.Denot) × ((view m ≡ d) × good m)). part_at Inside full_share x.0 b o) (λ x.
           seen_as (framed (framed (O.opens x.0.table b (table_place o)) (others x.0) (λ κ. ftrue) (Lends-nothing 𝓛 (others x.0) κ)) around
@@ -123,6 +123,7 @@ module _ (K' V' A' : RattleType) (g : key.Ghosts K'.Denot) (e : eq.Ghosts K'.Den
           (λ h k. (
             ap (λ (t : Table.Denot). t.walk) k ∙ ap (λ (s : State). s.walk) x.1.0,
             subst (λ (s : State). IsMap g.number_of g.is_valid s) x.1.0 x.1.1.map,
+            ap (λ (t : Table.Denot). t.capacity) k ∙ ap (λ (s : State). s.capacity) x.1.0,
           ))
           (λ h k κ. let S = sem 𝓛 (shared_of Holed h b (table_place o) κ) in
           via 𝓤 (sep 𝓤 S (emp 𝓤)) (fst∗ 𝓤 (sep 𝓤 S (emp 𝓤)) (emp 𝓤)) (fst∗ 𝓤 S (emp 𝓤))))

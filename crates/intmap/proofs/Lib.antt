@@ -37,6 +37,8 @@ pub mod RefusalLemmas
 pub mod RoomLemmas
 pub mod InsertionLemmas
 pub mod LendMapLemmas
+pub mod DisjointLemmas
+pub mod LendEachLemmas
 pub mod CountLemmas
 pub mod SumLemmas
 pub mod UpdateSumLemmas

@@ -22,7 +22,7 @@ module _ {K V : Type 0} (number : K → ℕ) where
   length-write_value L k v = length-map L (λ p. cond (same_key number k p.0) (p.0, v) p)
 
   -- a write keeps the keys
-  keys_of-write_value : (L : List (K × V)) (k : K) (v : V) → keys_of (write_value number L k v) ≡ keys_of L
+  pub keys_of-write_value : (L : List (K × V)) (k : K) (v : V) → keys_of (write_value number L k v) ≡ keys_of L
   keys_of-write_value [] k v = refl
   keys_of-write_value (p ∷ L) k v = let rest = keys_of-write_value L k v in grind (arith, rest)
 

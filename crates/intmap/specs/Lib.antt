@@ -20,6 +20,7 @@ pub mod Growing
 pub mod Room
 pub mod Answering
 pub mod Laws
+pub mod Disjoint
 pub mod Lending
 pub mod Entries
 pub mod Draining

@@ -1,5 +1,5 @@
 //! The iterators of a map. Each goes through the slots in turn, and through each slot from front to
-//! back.
+//! back. The one of `disjoint` goes through keys that a caller names.
 ghost use Rattle.std.specs.Iterator.{YieldsFirstBy, item_count};
 ghost use Rattle.std.specs.Prelude.{◌≡◌, length};
 ghost use Rattle.std.specs.Map.{keys_of, values_of};
@@ -7,6 +7,7 @@ ghost use Rattle.intmap.specs.Iterating.{ShowsEach, shown, shown_pair};
 ghost use Rattle.intmap.specs.Map.{IsMap};
 
 mod cursor;
+mod disjoint;
 mod drain;
 mod extract;
 mod owned;
@@ -16,6 +17,7 @@ mod written;
 
 use crate::map::IntMap;
 pub use cursor::Cursor;
+pub use disjoint::{DisjointMut, are_distinct};
 pub use drain::Drain;
 pub use extract::ExtractIf;
 use intmap_table::IntKey;

@@ -1,5 +1,5 @@
 //! The iterators of a map. Each goes through the slots in turn, and through each slot from front to
-//! back.
+//! back. The one of `disjoint` goes through keys that a caller names.
 
 mod drain;
 mod extract;
