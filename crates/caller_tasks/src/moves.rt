@@ -1,5 +1,5 @@
 //! Pairs that move: to another key, to another map, and back; and maps that cross threads.
-ghost use Rattle.std.specs.Prelude.{◌&&◌, ◌+◌, ◌^◌, ◌≡◌, ◌≢◌, ◌≤◌, IfErr, IfOk, IfSome, None, OnErr, OnOk, Some, ℕ, false, is_some, option_copied, true};
+ghost use Rattle.std.specs.Prelude.{◌&&◌, ◌+◌, ◌^◌, ◌≡◌, ◌≢◌, ◌≤◌, IfErr, IfOk, IfSome, None, OnErr, OnOk, Some, ℕ, false, is_some, length, option_copied, true};
 ghost use Rattle.std.specs.List.{sum};
 ghost use Rattle.std.specs.Map.{values_of};
 ghost use Rattle.intmap.specs.Bindings.{Updates, value_of};
