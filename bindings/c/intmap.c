@@ -19,7 +19,7 @@
 //     grep -v '^// Compilers: ' intmap.c | sha256sum
 //
 // Compilers: rattle-kit-13f logic dac8208d650f15bf; clang version 22.1.8
-// Sources: 31ed8d87fe01441ccd9902d2c00be87fe3852dded5fcfe0ed49acbd44245758b
+// Sources: fad5455f6a3f9b69f9096243c420077b41c6766dce1b8e180bbeeb46d8ddad02
 //
 // SPDX-License-Identifier: MIT
 //
@@ -1372,8 +1372,8 @@ after_Slots_needed:;
             }
         }
         char *words = load_address(mask_at + SLOTS_WORDS);
-        char *r11 = words + ((index >> 3) & UINT64_C(0x1FFFFFFFFFFFFFF8));
-        store64(r11, load64(r11) | ((uint64_t)1 << (index & 63)));
+        char *r9 = words + ((index >> 3) & UINT64_C(0x1FFFFFFFFFFFFFF8));
+        store64(r9, load64(r9) | ((uint64_t)1 << (index & 63)));
         if (load64(mask_at + SLOTS_NODES_LEN) != load64(mask_at + SLOTS_SPARE)) {
             uint64_t bits;
             uint64_t words_len = load64(mask_at + SLOTS_WORDS_LEN);
@@ -1473,13 +1473,13 @@ after_Slots_needed:;
                         break;
                     }
                     uint64_t link_3 = link_of(load16(node_3 + NODE_HIGH), load32(node_3 + NODE_LOW));
-                    uint64_t r11_2 = r2_016 + 1;
+                    uint64_t r11 = r2_016 + 1;
                     if (nodes_len_2 <= link_3) {
-                        r3_0 = r11_2;
+                        r3_0 = r11;
                         break;
                     }
                     at_4 = link_3;
-                    r2_016 = r11_2;
+                    r2_016 = r11;
                 }
             } else {
                 r3_0 = 0;
@@ -1582,12 +1582,12 @@ loop_2:;
                 abort(); // The proof excludes this.
             }
         }
-        char *r11 = load_address(new_ + SLOTS_WORDS) + ((index >> 3) & UINT64_C(0x1FFFFFFFFFFFFFF8));
-        store64(r11, load64(r11) | ((uint64_t)1 << (index & 63)));
+        char *r9 = load_address(new_ + SLOTS_WORDS) + ((index >> 3) & UINT64_C(0x1FFFFFFFFFFFFFF8));
+        store64(r9, load64(r9) | ((uint64_t)1 << (index & 63)));
         for (;;) {
             uint64_t key_2, index_2;
             struct word_word r18_2;
-            char *slot_3, *r11_2;
+            char *slot_3, *r9_2;
             uint8_t has_pair_2;
             switch (load8(slot + SLOT_HAS_PAIR)) {
             case 0:
@@ -1619,8 +1619,8 @@ loop_2:;
                         abort(); // The proof excludes this.
                     }
                 }
-                r11_2 = load_address(new_ + SLOTS_WORDS) + ((index_2 >> 3) & UINT64_C(0x1FFFFFFFFFFFFFF8));
-                store64(r11_2, load64(r11_2) | ((uint64_t)1 << (index_2 & 63)));
+                r9_2 = load_address(new_ + SLOTS_WORDS) + ((index_2 >> 3) & UINT64_C(0x1FFFFFFFFFFFFFF8));
+                store64(r9_2, load64(r9_2) | ((uint64_t)1 << (index_2 & 63)));
                 break;
             default:
                 abort(); // The proof excludes this.
@@ -2476,8 +2476,8 @@ static ALWAYS_INLINE char *do_intmap_cut(char *result, char *handle, char *at) {
         r6_3 = 0;
     } else {
         uint16_t high_2;
-        uint64_t r305863, r3_0_2, r115, words_len, r1, r1_2, r1_3, x13, x14, r49, index;
-        char *slot_3, *nodes_at, *slot_4, *r11_2;
+        uint64_t r305762, r3_0_2, r115, words_len, r1, r1_2, r1_3, x13, x14, r49, index;
+        char *slot_3, *nodes_at, *slot_4, *r9;
         struct word_word r19, r19_2;
         uint32_t r8_2;
         uint64_t slot = load64(at + CURSOR_SLOT);
@@ -2522,7 +2522,7 @@ static ALWAYS_INLINE char *do_intmap_cut(char *result, char *handle, char *at) {
                     switch (place) {
                     case 0:
                         high_2 = high;
-                        r305863 = slot;
+                        r305762 = slot;
                         slot_3 = slot_2;
                         nodes_at = map + INT_MAP_NODES;
                         goto arm_1_2;
@@ -2628,7 +2628,7 @@ static ALWAYS_INLINE char *do_intmap_cut(char *result, char *handle, char *at) {
             abort(); // The proof excludes this.
         }
         high_2 = load16(slot_4 + SLOT_HIGH);
-        r305863 = index;
+        r305762 = index;
         slot_3 = slot_4;
         nodes_at = map + INT_MAP_NODES;
     arm_1_2:;
@@ -2645,8 +2645,8 @@ static ALWAYS_INLINE char *do_intmap_cut(char *result, char *handle, char *at) {
             }
             r19_2 = r24;
         }
-        r11_2 = load_address(map + INT_MAP_WORDS) + ((r305863 >> 3) & UINT64_C(0x1FFFFFFFFFFFFFF8));
-        store64(r11_2, load64(r11_2) & (~((uint64_t)1 << (r305863 & 63))));
+        r9 = load_address(map + INT_MAP_WORDS) + ((r305762 >> 3) & UINT64_C(0x1FFFFFFFFFFFFFF8));
+        store64(r9, load64(r9) & (~((uint64_t)1 << (r305762 & 63))));
         r19 = r19_2;
     x12:;
         store64(map + INT_MAP_LEN, load64(map + INT_MAP_LEN) - 1);
@@ -2710,7 +2710,7 @@ static ALWAYS_INLINE struct word_word do_intmap_remove(char *handle, uint64_t ke
         char *slot = load_address(map + INT_MAP_SLOTS) + (index * SLOT_SIZE);
         if (load8(slot + SLOT_HAS_PAIR) == 1) {
             uint64_t r0, r72_1_merged, r72_1_merged_2;
-            char *r11;
+            char *r9_2;
             uint16_t high = load16(slot + SLOT_HIGH);
             uint64_t link = link_of(high, load32(slot + SLOT_LOW));
             if (load64(slot + SLOT_KEY) == key) {
@@ -2856,8 +2856,8 @@ static ALWAYS_INLINE struct word_word do_intmap_remove(char *handle, uint64_t ke
                 }
                 r72_1_merged = r68;
             }
-            r11 = load_address(map + INT_MAP_WORDS) + ((index >> 3) & UINT64_C(0x1FFFFFFFFFFFFFF8));
-            store64(r11, load64(r11) & (~((uint64_t)1 << (index & 63))));
+            r9_2 = load_address(map + INT_MAP_WORDS) + ((index >> 3) & UINT64_C(0x1FFFFFFFFFFFFFF8));
+            store64(r9_2, load64(r9_2) & (~((uint64_t)1 << (index & 63))));
             r72_1_merged_2 = r72_1_merged;
         after_row_take_3:;
             store64(map + INT_MAP_LEN, load64(map + INT_MAP_LEN) - 1);
@@ -3229,8 +3229,8 @@ arm_2_2:;
                     abort(); // The proof excludes this.
                 }
             }
-            char *r11 = load_address(map + INT_MAP_WORDS) + ((index >> 3) & UINT64_C(0x1FFFFFFFFFFFFFF8));
-            store64(r11, load64(r11) | ((uint64_t)1 << (index & 63)));
+            char *r9_2 = load_address(map + INT_MAP_WORDS) + ((index >> 3) & UINT64_C(0x1FFFFFFFFFFFFFF8));
+            store64(r9_2, load64(r9_2) | ((uint64_t)1 << (index & 63)));
             store64(map + INT_MAP_LEN, r44);
             r40 = 0;
             value_3 = 0;
@@ -3399,8 +3399,8 @@ static ALWAYS_INLINE uint32_t do_intmap_find_or_insert(char *handle, uint64_t ke
                     abort(); // The proof excludes this.
                 }
             }
-            char *r11 = load_address(map + INT_MAP_WORDS) + ((index >> 3) & UINT64_C(0x1FFFFFFFFFFFFFF8));
-            store64(r11, load64(r11) | ((uint64_t)1 << (index & 63)));
+            char *r9 = load_address(map + INT_MAP_WORDS) + ((index >> 3) & UINT64_C(0x1FFFFFFFFFFFFFF8));
+            store64(r9, load64(r9) | ((uint64_t)1 << (index & 63)));
             store64(map + INT_MAP_LEN, r44);
             r4_0 = 0;
             goto after_pairs_find_or_insert;
@@ -3615,8 +3615,8 @@ arm_2_2:;
                     abort(); // The proof excludes this.
                 }
             }
-            char *r11 = load_address(map + INT_MAP_WORDS) + ((index >> 3) & UINT64_C(0x1FFFFFFFFFFFFFF8));
-            store64(r11, load64(r11) | ((uint64_t)1 << (index & 63)));
+            char *r9 = load_address(map + INT_MAP_WORDS) + ((index >> 3) & UINT64_C(0x1FFFFFFFFFFFFFF8));
+            store64(r9, load64(r9) | ((uint64_t)1 << (index & 63)));
             store64(map + INT_MAP_LEN, r44);
             r5 = 0;
             spec_select1 = 0;

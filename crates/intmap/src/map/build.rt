@@ -50,9 +50,9 @@ impl<K: IntKey, V: Drop, A: Allocator + Copy> IntMap<K, V, A> {
     }
 
     /// An empty map with a load factor of 909 thousandths. Its number of slots is the least power
-    /// of two that is at least `capacity`, and at least 2. It fails with [`Cause::TooLarge`] if and
-    /// only if `capacity` is above 2^63, and otherwise with [`Cause::Memory`] if an allocation
-    /// fails.
+    /// of two that is at least `capacity`, and at least 2. To make room for pairs, call
+    /// [`with_room_for`](IntMap::with_room_for). It fails with [`Cause::TooLarge`] if and only if
+    /// `capacity` is above 2^63, and otherwise with [`Cause::Memory`] if an allocation fails.
     ///
     /// ```text
     /// IntMap::<u64, u64>::with_capacity(alloc, 20)?.capacity()          // 32

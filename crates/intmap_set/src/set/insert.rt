@@ -35,9 +35,9 @@ impl<K: IntKey, A: Allocator + Copy> IntSet<K, A> {
     }
 
     /// An empty set with a load factor of 909 thousandths. Its number of slots is the least power
-    /// of two that is at least `capacity`, and at least 2. It fails with [`Cause::TooLarge`] if and
-    /// only if `capacity` is above 2^63, and otherwise with [`Cause::Memory`] if an allocation
-    /// fails.
+    /// of two that is at least `capacity`, and at least 2. To make room for members, call
+    /// [`with_room_for`](IntSet::with_room_for). It fails with [`Cause::TooLarge`] if and only if
+    /// `capacity` is above 2^63, and otherwise with [`Cause::Memory`] if an allocation fails.
     pub fn with_capacity(alloc: A, capacity: usize) -> Result<IntSet<K, A>, Cause>
         ensures state { IfOk result (λ made. made ≡ empty_set made.capacity) }
         ensures capacity { IfOk result

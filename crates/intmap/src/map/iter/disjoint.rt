@@ -135,7 +135,8 @@ impl<K: IntKey, V, A: Allocator + Copy> IntMap<K, V, A> {
     ///     swap(one, other);
     /// }
     /// values.next()    // Some(None)
-    /// map              // {21: 6, 22: 5}
+    /// drop(values);
+    /// map              // {22: 5, 21: 6}
     /// ```
     pub fn get_disjoint_mut<'a>(&'a mut self, keys: &'a [K]) -> DisjointMut<'a, K, V, A>
         requires { AreDistinct K.number_of keys.now }

@@ -26,9 +26,9 @@ impl<K: IntKey, V, A: Allocator + Copy> IntMap<K, V, A> {
     }
 
     /// An empty map with a load factor of 909 thousandths. Its number of slots is the least power
-    /// of two that is at least `capacity`, and at least 2. It fails with [`Cause::TooLarge`] if and
-    /// only if `capacity` is above 2^63, and otherwise with [`Cause::Memory`] if an allocation
-    /// fails.
+    /// of two that is at least `capacity`, and at least 2. To make room for pairs, call
+    /// [`with_room_for`](IntMap::with_room_for). It fails with [`Cause::TooLarge`] if and only if
+    /// `capacity` is above 2^63, and otherwise with [`Cause::Memory`] if an allocation fails.
     pub fn with_capacity(alloc: A, capacity: usize) -> Result<IntMap<K, V, A>, Cause> {
         if capacity > GREATEST_CAPACITY {
             return Err(Cause::TooLarge);
