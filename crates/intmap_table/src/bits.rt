@@ -115,7 +115,8 @@ impl<A: Allocator> Bits<A> {
         ensures left { IfSome result (λ i.
             IsWordFrom (marked self.now) (i + 1) left.new.at left.new.word) }
         ensures none { IfNone result ((j : ℕ) → _from ≤ j → marked self.now j ≡ false) }
-        ensures stays { IfNone result (IsWordFrom (marked self.now) _from left.new.at left.new.word) }
+        ensures stays { IfNone result
+            (IsWordFrom (marked self.now) _from left.new.at left.new.word) }
     {
         while left.word == 0 {
             let at = left.at + 1;

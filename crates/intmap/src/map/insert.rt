@@ -57,8 +57,8 @@ impl<K: IntKey, V: Drop, A: Allocator + Copy> IntMap<K, V, A> {
         // when it fails
         ensures refused { IfErr result (λ refused. RefusalIsDue K.number_of (list_of self.old) key
             refused.cause) }
-        ensures succeeds { NeedsNoMemory K.number_of self.old.walk self.old.capacity self.old.factor key
-            → IsOk result }
+        ensures succeeds { NeedsNoMemory K.number_of self.old.walk self.old.capacity
+            self.old.factor key → IsOk result }
 
         ensures valid { IsMap K.number_of K.is_valid self.old }
         ensures valid_after { IsMap K.number_of K.is_valid self.new }
@@ -100,8 +100,8 @@ impl<K: IntKey, V: Drop, A: Allocator + Copy> IntMap<K, V, A> {
         // when it fails
         ensures refused { IfErr result (λ refused. RefusalIsDue K.number_of (list_of self.old) key
             refused.cause) }
-        ensures succeeds { NeedsNoMemory K.number_of self.old.walk self.old.capacity self.old.factor key
-            → IsOk result }
+        ensures succeeds { NeedsNoMemory K.number_of self.old.walk self.old.capacity
+            self.old.factor key → IsOk result }
 
         ensures valid { IsMap K.number_of K.is_valid self.old }
         ensures valid_after { IsMap K.number_of K.is_valid self.new }

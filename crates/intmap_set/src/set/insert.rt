@@ -107,8 +107,8 @@ impl<K: IntKey, A: Allocator + Copy> IntSet<K, A> {
 
         // when it fails
         ensures refused { IfErr result (RefusalIsDue K.number_of (list_of (as_map self.old)) key) }
-        ensures succeeds { NeedsNoMemory K.number_of (paired self.old.walk) self.old.capacity load_factor key
-            → IsOk result }
+        ensures succeeds { NeedsNoMemory K.number_of (paired self.old.walk) self.old.capacity
+            load_factor key → IsOk result }
 
         ensures valid { IsSet K.number_of K.is_valid self.old }
         ensures valid_after { IsSet K.number_of K.is_valid self.new }

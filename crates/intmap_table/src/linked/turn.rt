@@ -11,7 +11,8 @@ use std::alloc::Allocator;
 pub(crate) fn turn<P, A: Allocator>(pool: &mut Pool<P, A>, link: usize) -> usize
     requires leads { IsChain pool.old.nodes link }
     requires fits { link < 2 ^ 48 }
-    ensures chain { IsChainSet pool.old link (reverse (chain_of pool.old.nodes link)) pool.new result }
+    ensures chain { IsChainSet pool.old link (reverse (chain_of pool.old.nodes link))
+        pool.new result }
     ensures fits { result < 2 ^ 48 }
     ensures room { pool.new.room ≡ pool.old.room }
 {

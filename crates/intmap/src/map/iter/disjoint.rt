@@ -163,9 +163,9 @@ impl<K: IntKey, V, A: Allocator + Copy> IntMap<K, V, A> {
     }
 }
 
-/// Whether no two of the keys have the same number, as
-/// [`IntMap::get_disjoint_mut`](crate::IntMap::get_disjoint_mut) requires. It compares each key with
-/// those behind it. It allocates nothing and never fails.
+/// Whether no two of the keys have the same number. Such keys may be passed to
+/// [`IntMap::get_disjoint_mut`](crate::IntMap::get_disjoint_mut). `are_distinct` compares each key
+/// with those behind it. It allocates nothing and never fails.
 ///
 /// ```text
 /// are_distinct(&[22, 21, 23])    // true

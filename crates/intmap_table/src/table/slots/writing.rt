@@ -57,7 +57,8 @@ impl<K: IntKey, X, A: Allocator> Slots<K, X, A> {
         requires { place < length (row_at self.old index) }
         ensures* writes_back { sem 𝓛 (slots_lends K.row X.row A.row K.IntKey.own K.PartialEq
             A.Allocator self.entry index place result) }
-        ensures value { (p : K × X) → result.now ≡ (slice_index_or (row_at self.old index) place p).1 }
+        ensures value { (p : K × X)
+            → result.now ≡ (slice_index_or (row_at self.old index) place p).1 }
     {
         if place == 0 {
             return self.slots[index].value_mut();
