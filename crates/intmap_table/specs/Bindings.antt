@@ -67,7 +67,7 @@ module _ {K V : Type 0} (number : K → ℕ) where
   abbrev pub strike_keys : List (K × V) → List K → List (K × V)
   strike_keys L ks = filter (λ p. not (list_any (same_key number p.0) ks)) L
 
-  -- in M the key k has the value w, and each other key has the value that it has in L: so it is at every key, at k itself, and at any other
+  -- in M the key k has the value w, and each other key has the value that it has in L: said of every key, of k itself, and of any other
   abbrev pub Updates : List (K × V) → List (K × V) → K → Option V → Type 0
   Updates L M k w =
       ((q : K) → value_of M q ≡ cond (same_key number k q) w (value_of L q))

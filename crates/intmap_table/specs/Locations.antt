@@ -11,7 +11,7 @@ key_at [] i = None
 key_at (p ∷ L) zero = Some p.0
 key_at (p ∷ L) (suc i) = key_at L i
 
--- the key of the pair at the location
+-- the key in an option that has one
 abbrev pub the_key : {K : Type 0} → (o : Option K) → IsSome o → K
 the_key (Some k) is = k
 the_key None is = absurd (subst (λ b. cond b ⊥ (Unit {0})) is tt)

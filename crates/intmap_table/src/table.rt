@@ -164,8 +164,8 @@ impl<K: IntKey, X: Drop, A: Allocator + Copy> Table<K, X, A> {
         self.slots.allocator()
     }
 
-    /// A table of `capacity` empty slots. It allocates the slots, then their bits, and writes nothing
-    /// before both.
+    /// A table of `capacity` empty slots. It allocates the slots, then their bits, and writes no
+    /// slot before.
     pub fn new(alloc: A, capacity: usize) -> Result<Table<K, X, A>, AllocError>
         requires { IsCapacity capacity }
         ensures walk { IfOk result (λ table. table.walk ≡ []) }

@@ -49,7 +49,7 @@ module _ {P : Type 0} where
   is_empty Empty = true
   is_empty (Filled l p) = false
 
-  -- the node of this number. There is none with a pair behind the last one
+  -- the node of this number. A number that no node has counts as that of a free node
   abbrev pub node_at : List (Node P) → ℕ → Node P
   node_at nodes l = cond (nat_lt l node_limit) (get_or nodes l (Free 0)) (Free 0)
 

@@ -86,7 +86,7 @@ pub(crate) fn last_in<P, A: Allocator>(pool: &Pool<P, A>, from: usize) -> (usize
     (last, place)
 }
 
-/// The node before the last one of a chain of several, that one, and its place.
+/// The last two nodes of a chain of several, and the place of the last one.
 #[inline(always)]
 pub(crate) fn last_two_in<P, A: Allocator>(pool: &Pool<P, A>, from: usize) -> (usize, usize, usize)
     requires leads { IsChain pool.now.nodes from }
@@ -139,7 +139,8 @@ pub(crate) fn push_behind<P, A: Allocator>(
     Ok(place + 1)
 }
 
-/// Removes the last of the pairs that a link leads through, and returns its place among them too.
+/// Removes the last of the pairs that a link leads through. It returns the place that this pair
+/// had among them, and the pair.
 #[inline(always)]
 pub(crate) fn pop_behind<P, A: Allocator>(link: &mut usize, pool: &mut Pool<P, A>) -> (usize, P)
     requires leads { IsChain pool.old.nodes link.old }

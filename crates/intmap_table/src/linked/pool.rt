@@ -12,7 +12,8 @@ use std::alloc::{AllocError, Allocator};
 use std::marker::Model;
 
 /// Nodes, and a list of those without a pair. Contracts see what each has, how many hold a pair,
-/// and how many more pairs they take without an allocation.
+/// and how many more pairs they take without an allocation. A call that needs more than
+/// `NODE_LIMIT` nodes fails as if an allocation failed.
 #[derive(Drop)]
 pub(crate) struct Pool<P, A: Allocator> {
     nodes: Vec<Node<P>, A>,
@@ -20,7 +21,8 @@ pub(crate) struct Pool<P, A: Allocator> {
     spare: usize,
 }
 
-// Invariant: the links of the free nodes lead through as many of them as are spare.
+// Invariant: there are at most `NODE_LIMIT` nodes. From `free` on, links lead through `spare` free
+// nodes, and then nowhere.
 impl<P, A: Allocator> Model for Pool<P, A> {
     ghost use Rattle.std.specs.Prelude.{◌+◌, ◌-◌, length, min, vec_capacity};
     ghost use Rattle.intmap_table.specs.Tables.Nodes.{Pool, IsPool, node_limit};
@@ -95,7 +97,7 @@ impl<P, A: Allocator> Pool<P, A> {
         self.nodes[at].set_link(link);
     }
 
-    /// Puts a pair into the place of that of a node, and returns that one.
+    /// Puts a pair into the place of a node's pair, and returns the old one.
     #[inline(always)]
     pub(crate) fn replace(&mut self, at: usize, pair: P) -> P
         requires { (n : ℕ) × (p : P) × (node_at self.old.nodes at ≡ Held n p) }
@@ -141,8 +143,8 @@ impl<P, A: Allocator> Pool<P, A> {
         Ok(at)
     }
 
-    /// Puts a pair with a link into a new node behind the others, if none is free, and returns which.
-    /// If an allocation fails, it returns the pair.
+    /// Puts a pair with a link into a new node behind the others, none of which may be free, and
+    /// returns which. If an allocation fails, it returns the pair.
     pub(crate) fn append(&mut self, link: usize, pair: P) -> Result<usize, P>
         requires fits { link < 2 ^ 48 }
         requires none { self.old.held ≡ length self.old.nodes }
@@ -184,7 +186,7 @@ impl<P, A: Allocator> Pool<P, A> {
 }
 
 impl<P: Drop, A: Allocator> Pool<P, A> {
-    /// Nodes with room for as many pairs, none of which is there yet.
+    /// A pool without a node, which has room for `room` pairs.
     pub(crate) fn with_room(alloc: A, room: usize) -> Result<Pool<P, A>, AllocError>
         ensures nodes { IfOk result (λ made. made.nodes ≡ []) }
         ensures held { IfOk result (λ made. made.held ≡ 0) }

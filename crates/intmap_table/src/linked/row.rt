@@ -223,7 +223,8 @@ pub(crate) fn remove<P, A: Allocator>(slot: &mut Slot<P>, pool: &mut Pool<P, A>,
     pair
 }
 
-/// Puts a pair behind the first one. If there is one, there is room for another.
+/// Puts a pair behind the first one, or first if the slot holds none. If the slot holds a pair,
+/// the pool has room for another.
 #[inline(always)]
 pub(crate) fn put_second<P, A: Allocator>(slot: &mut Slot<P>, pool: &mut Pool<P, A>, pair: P)
     requires leads { IsSlot pool.old.nodes slot.old }

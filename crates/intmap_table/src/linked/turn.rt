@@ -1,4 +1,4 @@
-//! Turning a chain round, as where each pair was put in front of those that came before it.
+//! Chains are turned round once growth has put each pair in front of those that came before it.
 ghost use Rattle.std.specs.Prelude.{◌≡◌, ◌^◌, ◌<◌, reverse};
 ghost use Rattle.intmap_table.specs.Tables.Nodes.{chain_of, IsChain, IsChainSet};
 

@@ -79,7 +79,8 @@ impl<K: IntKey, V: Drop, A: Allocator> Table<K, Kept<V>, A> {
     }
 }
 
-/// How far a closure was asked: up to place `place` of slot `slot`. Before it `passed` pairs stayed.
+/// How far a closure was asked: up to place `place` of slot `slot`. Before this place are `passed`
+/// pairs, which stayed.
 #[derive(Drop)]
 pub struct Progress {
     pub slot: usize,

@@ -57,8 +57,8 @@ impl<K: IntKey, X: Drop, A: Allocator + Copy> Table<K, X, A> {
     }
 
     /// Moves all pairs, in the order of the walk, to their slots among `capacity` slots. If the
-    /// table has that many already, no pair moves. The next `additional` pairs that share a slot with
-    /// another then need no allocation. If an allocation fails, nothing changes.
+    /// table has that many already, no pair moves. It also makes room for `additional` more pairs
+    /// that share a slot, which the contract doesn't show. If an allocation fails, nothing changes.
     pub fn grow_to(&mut self, capacity: usize, additional: usize) -> Result<(), AllocError>
         requires capacity { IsCapacity capacity }
         requires larger { self.old.capacity ≤ capacity }

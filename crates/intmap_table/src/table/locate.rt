@@ -76,7 +76,8 @@ impl<K: IntKey, X, A: Allocator> Table<K, X, A> {
         self.slots.value_mut_at(at.slot, at.place)
     }
 
-    /// Removes a located pair. The last pair of its slot moves into its place.
+    /// Removes a located pair, and returns its value. The last pair of its slot moves into its
+    /// place.
     #[inline(always)]
     pub fn take_at(&mut self, at: Location<K>) -> X
         requires { IsAt K.number_of self.old.walk self.old.capacity at }
@@ -90,7 +91,8 @@ impl<K: IntKey, X, A: Allocator> Table<K, X, A> {
     }
 
     /// Removes a located pair, moves the last pair of its slot into its place, and puts the pair of
-    /// its key and this value at the end of the slot. It allocates nothing.
+    /// its key and this value at the end of the slot. It returns the old value, and allocates
+    /// nothing.
     #[inline(always)]
     pub fn replace_at(&mut self, at: Location<K>, value: X) -> X
         requires { IsAt K.number_of self.old.walk self.old.capacity at }
@@ -107,9 +109,10 @@ impl<K: IntKey, X, A: Allocator> Table<K, X, A> {
 }
 
 impl<K: IntKey, V, A: Allocator> Table<K, Kept<V>, A> {
-    /// Removes a located pair, as `take_at` does, and hands its value to the closure. If the
-    /// closure returns an error, the pair of the key and the value in it is put at the end of the
-    /// slot. It allocates nothing. While the closure runs, the pair is in no slot.
+    /// Removes a located pair, as `take_at` does, hands its value to the closure, and returns what
+    /// the closure made of the value. If the closure returns an error, the pair of the key and the
+    /// value in this error is put at the end of the slot, and the call returns `None`. It allocates
+    /// nothing. While the closure runs, the pair is in no slot.
     pub fn hand_over<R, F: FnOnce(V) -> Result<R, V>>(&mut self, at: Location<K>, f: F) -> Option<R>
         requires at { IsAt K.number_of self.old.walk self.old.capacity at }
         requires callable { (value : V)

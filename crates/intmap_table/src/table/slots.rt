@@ -147,9 +147,9 @@ impl<K: IntKey, X, A: Allocator> Slots<K, X, A> {
         self.bits.marks_from(from)
     }
 
-    /// The first slot from an index on that holds a pair. Before the call the marks from there on are
-    /// left of a word, and afterwards those behind that slot. Slots before the index may change between
-    /// two calls.
+    /// The first slot from an index on that holds a pair. Before the call `left` has the marks of
+    /// its word from this index on, and afterwards those behind the returned slot. Slots before the
+    /// index may change between two calls.
     #[inline(always)]
     pub(crate) fn next_in(&self, left: &mut MarksLeft, from: usize) -> Option<usize>
         requires { IsWordFrom (λ i. nat_lt 0 (length (row_at self.now i))) from left.old.at
@@ -208,9 +208,9 @@ impl<K: IntKey, X: Drop, A: Allocator + Copy> Slots<K, X, A> {
         *self.slots.allocator()
     }
 
-    /// `capacity` slots without a pair, and room for `room` pairs that share a slot with another. It
-    /// allocates the slots, then their bits, then the nodes if there is to be room, and writes
-    /// nothing before.
+    /// `capacity` slots without a pair, and room for `room` pairs that share a slot with another.
+    /// It allocates the slots, then their bits, then the nodes if there is to be room, and writes
+    /// no slot before.
     pub(crate) fn new(alloc: A, capacity: usize, room: usize) -> Result<Slots<K, X, A>, AllocError>
         requires { IsCapacity capacity }
         ensures rows { IfOk result (λ made. made.rows ≡ replicate capacity []) }

@@ -79,9 +79,9 @@ impl<K: IntKey, X, A: Allocator> Table<K, X, A> {
         Some((key.key(), self.slots.value_at(at.slot, place)))
     }
 
-    /// Removes the first pair from the cursor on and returns it, or returns `None` if no pair is
-    /// left, and then leaves the cursor. The other pairs keep their order. Otherwise the cursor is
-    /// between those that were before it and those that were behind the removed one.
+    /// Removes the first pair from the cursor on and returns it. The other pairs keep their order,
+    /// and the cursor is then between those that were before it and those that were behind the
+    /// removed one. If no pair is left, it returns `None`, and the cursor stays.
     pub fn cut(&mut self, at: &mut Cursor) -> Option<(K, X)>
         requires count { length self.old.walk < 2 ^ 64 }
         ensures first { MatchOption result
@@ -105,8 +105,8 @@ impl<K: IntKey, X, A: Allocator> Table<K, X, A> {
         Some((*key.key(), value))
     }
 
-    /// Removes the first pair of the walk and returns it. No slot before `from` holds a
-    /// pair. `from` moves on to the slot that held the removed pair. If there is none, it stays.
+    /// Removes the first pair of the walk and returns it. No slot before `from` may hold a pair.
+    /// `from` moves on to the slot that held the removed pair. If no pair is left, `from` stays.
     pub fn take_front(&mut self, from: &mut usize) -> Option<(K, X)>
         requires { ArePassed K.number_of self.old.walk self.old.capacity from.old }
         ensures first { YieldsFirst (λ t. t.walk) self.old result self.new }

@@ -75,8 +75,9 @@ impl<A: Allocator> Bits<A> {
         MarksLeft { at, word }
     }
 
-    /// The first marked index from `_from` on. Before the call the marks from there on are left of a
-    /// word, and afterwards those behind the index that is returned. Only the contract reads `_from`.
+    /// The first marked index from `_from` on. Before the call `left` has the marks of its word
+    /// from `_from` on, and afterwards those behind the returned index. Only the contract reads
+    /// `_from`.
     #[inline(always)]
     pub(in crate::proved::table) fn next_in(&self, left: &mut MarksLeft, _from: usize) -> Option<usize> {
         while left.word == 0 {

@@ -8,9 +8,8 @@ mod wide;
 /// A slot is chosen by the low bits of the number: two keys share a slot if and only if their
 /// numbers are equal modulo the capacity. Keys with equal low bits therefore share slots, and each
 /// call that looks for one of them is slow: addresses, ids shifted left, times in round units,
-/// pairs
-/// packed as `a << 32 | b`. Number such keys so that their low bits differ: divide by the unit, or
-/// use `row * WIDTH + column`.
+/// pairs packed as `a << 32 | b`. Number such keys so that their low bits differ: divide by the
+/// unit, or use `row * WIDTH + column`.
 ///
 /// A `u8`, `u16`, `u32`, `u64` or `usize` is its own number. So is an `i32` or `i64` that isn't
 /// negative; a negative one has the number that is `2 ^ 64` more. Your own type becomes a type of

@@ -169,9 +169,9 @@ impl<K: IntKey, X, A: Allocator> Slots<K, X, A> {
         self.bits.clear_all();
     }
 
-    /// For how many pairs behind the first ones of their slots there must be room, if all pairs move to
-    /// `capacity` slots and one more comes to slot `target` of them. Pairs go there from slot `index`
-    /// alone.
+    /// Room that suffices for the pairs behind the first ones of their slots, if all pairs move to
+    /// `capacity` slots and one more comes to slot `target` of them. Pairs go there from slot
+    /// `index` alone.
     fn needed(&self, index: usize, capacity: usize, target: usize) -> usize
         requires grown { IsGrown (length self.now.rows) capacity }
         requires part { target % length self.now.rows ≡ index }

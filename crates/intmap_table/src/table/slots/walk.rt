@@ -10,8 +10,8 @@ use crate::table::stored::Stored;
 use std::alloc::{AllocError, Allocator};
 use std::marker::Model;
 
-/// The pairs that are left: those that a link leads through, then those of the slots that hold a
-/// pair, by their numbers.
+/// The pairs that are left: those that `link` leads through, then those of the slots whose numbers
+/// `filled` has left. Each of these slots holds a pair.
 #[derive(Drop)]
 pub struct Pairs<'a, K: IntKey, X, A: Allocator> {
     pub(super) link: usize,

@@ -64,7 +64,7 @@ pub(in crate::proved::table) fn last_in<P, A: Allocator>(pool: &Pool<P, A>, from
     (last, place)
 }
 
-/// The node before the last one of a chain of several, that one, and its place.
+/// The last two nodes of a chain of several, and the place of the last one.
 #[inline(always)]
 pub(in crate::proved::table) fn last_two_in<P, A: Allocator>(pool: &Pool<P, A>, from: usize) -> (usize, usize, usize) {
     let mut before = from;
@@ -98,7 +98,8 @@ pub(in crate::proved::table) fn push_behind<P, A: Allocator>(
     Ok(place + 1)
 }
 
-/// Removes the last of the pairs that a link leads through, and returns its place among them too.
+/// Removes the last of the pairs that a link leads through. It returns the place that this pair
+/// had among them, and the pair.
 #[inline(always)]
 pub(in crate::proved::table) fn pop_behind<P, A: Allocator>(link: &mut usize, pool: &mut Pool<P, A>) -> (usize, P) {
     let next = pool.link(*link);

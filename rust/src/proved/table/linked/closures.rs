@@ -11,8 +11,8 @@ use crate::proved::table::table::closure_calls::keeps_pair;
 use crate::proved::table::table::stored::Stored;
 use crate::memory::alloc::Allocator;
 
-/// Removes the pair of a node behind the first pair of a slot. The link to that node, which the node
-/// before it has, or the slot if that one is none, then leads to the next.
+/// Removes the pair of node `at`, which is behind the first pair of a slot. The link to this node
+/// is in node `before`, or in the slot if `before` is no node. This link then leads to `next`.
 #[inline(always)]
 fn unlink<P, A: Allocator>(
     slot: &mut Slot<P>,
@@ -114,8 +114,8 @@ pub(in crate::proved::table) fn write_each<K: IntKey, V, A: Allocator, F: FnMut(
     }
 }
 
-/// The node with the pair at a place behind the first one of a slot, and before it that with the pair
-/// at the place before, which is none at the front.
+/// The node before a place of a chain, and the node at this place. The first of them is none at the
+/// front of the chain, and the second is none behind its last pair.
 #[inline(always)]
 fn seek_behind<P, A: Allocator>(pool: &Pool<P, A>, link: usize, place: usize) -> (usize, usize) {
     if place == 0 {

@@ -7,14 +7,14 @@ use crate::proved::table::table::closure_calls::{picks_pair, write_pair};
 use crate::proved::table::table::stored::Stored;
 use core::mem;
 
-/// There are at most so many nodes. A link that is no smaller leads nowhere, and its greater part
-/// alone tells.
+/// The greatest number of nodes: 65535 * 2^32. A link that is no smaller leads nowhere. Its greater
+/// part alone shows this, since it is 65535.
 pub(in crate::proved::table) const NODE_LIMIT: usize = 281470681743360;
 
-/// The link of a pair that is the last one of its slot.
+/// The link of a pair that is the last one of its slot, and of the last free node: 2^48 - 1.
 pub(in crate::proved::table) const NOWHERE: usize = 281474976710655;
 
-/// The number of links with one greater part.
+/// The number of links that have the same greater part: 2^32.
 const LOW_LINKS: usize = 4294967296;
 
 /// The link that two parts make.

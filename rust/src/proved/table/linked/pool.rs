@@ -8,7 +8,8 @@ use crate::proved::table::table::stored::Stored;
 use crate::memory::alloc::{AllocError, Allocator};
 
 /// Nodes, and a list of those without a pair. Contracts see what each has, how many hold a pair,
-/// and how many more pairs they take without an allocation.
+/// and how many more pairs they take without an allocation. A call that needs more than
+/// `NODE_LIMIT` nodes fails as if an allocation failed.
 pub(in crate::proved::table) struct Pool<P, A: Allocator> {
     nodes: Vec<Node<P>, A>,
     free: usize,
@@ -54,7 +55,7 @@ impl<P, A: Allocator> Pool<P, A> {
         self.nodes[at].set_link(link);
     }
 
-    /// Puts a pair into the place of that of a node, and returns that one.
+    /// Puts a pair into the place of a node's pair, and returns the old one.
     #[inline(always)]
     pub(in crate::proved::table) fn replace(&mut self, at: usize, pair: P) -> P {
         self.nodes[at].replace(pair)
@@ -86,8 +87,8 @@ impl<P, A: Allocator> Pool<P, A> {
         Ok(at)
     }
 
-    /// Puts a pair with a link into a new node behind the others, if none is free, and returns which.
-    /// If an allocation fails, it returns the pair.
+    /// Puts a pair with a link into a new node behind the others, none of which may be free, and
+    /// returns which. If an allocation fails, it returns the pair.
     pub(in crate::proved::table) fn append(&mut self, link: usize, pair: P) -> Result<usize, P> {
         let at = self.nodes.len();
         if self.nodes.reserve(1).is_err() || at == NODE_LIMIT {
@@ -113,7 +114,7 @@ impl<P, A: Allocator> Pool<P, A> {
 }
 
 impl<P, A: Allocator> Pool<P, A> {
-    /// Nodes with room for as many pairs, none of which is there yet.
+    /// A pool without a node, which has room for `room` pairs.
     pub(in crate::proved::table) fn with_room(alloc: A, room: usize) -> Result<Pool<P, A>, AllocError> {
         let nodes = Vec::with_capacity(alloc, room)?;
         if room > NODE_LIMIT {

@@ -146,7 +146,8 @@ fn take_first_of_several<P, A: Allocator>(slot: &mut Slot<P>, pool: &mut Pool<P,
     slot.replace(second)
 }
 
-/// Puts a pair behind the first one. If there is one, there is room for another.
+/// Puts a pair behind the first one, or first if the slot holds none. If the slot holds a pair,
+/// the pool has room for another.
 #[inline(always)]
 pub(in crate::proved::table) fn put_second<P, A: Allocator>(slot: &mut Slot<P>, pool: &mut Pool<P, A>, pair: P) {
     let Some(_) = slot.get() else {

@@ -1,4 +1,4 @@
-//! Turning a chain round, as where each pair was put in front of those that came before it.
+//! Chains are turned round once growth has put each pair in front of those that came before it.
 
 use crate::memory::prelude::*;
 use crate::proved::table::linked::node::{NODE_LIMIT, NOWHERE};

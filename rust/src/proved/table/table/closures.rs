@@ -45,7 +45,8 @@ impl<K: IntKey, V, A: Allocator> Table<K, Kept<V>, A> {
     }
 }
 
-/// How far a closure was asked: up to place `place` of slot `slot`. Before it `passed` pairs stayed.
+/// How far a closure was asked: up to place `place` of slot `slot`. Before this place are `passed`
+/// pairs, which stayed.
 pub struct Progress {
     pub slot: usize,
     pub place: usize,

@@ -90,9 +90,9 @@ impl<K: IntKey, X, A: Allocator> Slots<K, X, A> {
         self.bits.marks_from(from)
     }
 
-    /// The first slot from an index on that holds a pair. Before the call the marks from there on are
-    /// left of a word, and afterwards those behind that slot. Slots before the index may change between
-    /// two calls.
+    /// The first slot from an index on that holds a pair. Before the call `left` has the marks of
+    /// its word from this index on, and afterwards those behind the returned slot. Slots before the
+    /// index may change between two calls.
     #[inline(always)]
     pub(in crate::proved::table) fn next_in(&self, left: &mut MarksLeft, from: usize) -> Option<usize> {
         self.bits.next_in(left, from)
@@ -131,9 +131,9 @@ impl<K: IntKey, X, A: Allocator + Copy> Slots<K, X, A> {
         *self.slots.allocator()
     }
 
-    /// `capacity` slots without a pair, and room for `room` pairs that share a slot with another. It
-    /// allocates the slots, then their bits, then the nodes if there is to be room, and writes
-    /// nothing before.
+    /// `capacity` slots without a pair, and room for `room` pairs that share a slot with another.
+    /// It allocates the slots, then their bits, then the nodes if there is to be room, and writes
+    /// no slot before.
     pub(in crate::proved::table) fn new(alloc: A, capacity: usize, room: usize) -> Result<Slots<K, X, A>, AllocError> {
         let mut slots = Vec::with_capacity(alloc, capacity)?;
         let bits = Bits::new(alloc, capacity)?;

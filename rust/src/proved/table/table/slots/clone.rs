@@ -16,7 +16,8 @@ fn clone_pair<K: IntKey, X: Clone>(pair: &(Stored<K>, X)) -> Result<(Stored<K>, 
     Ok((pair.0.copied(), value))
 }
 
-/// The link of a new node behind this many: to the node that comes next, if `link` leads to one.
+/// The link of the copy of a pair whose own link is `link`, if `held` new nodes are before it. It
+/// leads to the new node that comes next, or nowhere if `link` leads nowhere.
 #[inline(always)]
 fn link_behind(link: usize, held: usize) -> usize {
     if link < NODE_LIMIT { held + 1 } else { NOWHERE }

@@ -8,8 +8,8 @@ use crate::proved::table::linked::slot::Slot;
 use crate::proved::table::table::stored::Stored;
 use crate::memory::alloc::{AllocError, Allocator};
 
-/// The pairs that are left: those that a link leads through, then those of the slots that hold a
-/// pair, by their numbers.
+/// The pairs that are left: those that `link` leads through, then those of the slots whose numbers
+/// `filled` has left. Each of these slots holds a pair.
 pub struct Pairs<'a, K, X, A: Allocator> {
     pub(super) link: usize,
     pub(super) filled: Indices<'a>,
