@@ -263,8 +263,8 @@ uint32_t intmap_version(void) INTMAP_CALL;
 // Makes an empty map, with a load factor of 909 thousandths, in a word that is INTMAP_INIT or has a
 // map, which is freed. The number of slots is the least power of two that is at least `slots`, and
 // at least 2. To make room for pairs, call intmap_with_room, below. The call returns INTMAP_OK;
-// INTMAP_TOO_LARGE if and only if `slots` is above 2^63; or INTMAP_NO_MEMORY. If it fails, it leaves
-// the word as it was.
+// INTMAP_TOO_LARGE if and only if `slots` is above 2^63; or INTMAP_NO_MEMORY. If it fails, it
+// leaves the word as it was.
 INTMAP_NONNULL INTMAP_MUST_USE intmap_status intmap_with_slots(intmap *map, size_t slots)
     INTMAP_CALL;
 
@@ -385,8 +385,8 @@ INTMAP_NONNULL INTMAP_MUST_USE static inline intmap_status intmap_at_or_insert(
 // requests no memory. The number of slots stays, and the map keeps its memory.
 INTMAP_NONNULL intmap_found_value intmap_remove(intmap *map, uint64_t key) INTMAP_CALL;
 
-// Removes all pairs. The number of slots stays, and the map keeps its memory. The call takes time
-// in the pairs and a 64th of the slots.
+// Removes all pairs. The number of slots and the load factor stay, and the map keeps its memory.
+// The call requests no memory. It takes time in the pairs and a 64th of the slots.
 INTMAP_NONNULL void intmap_clear(intmap *map) INTMAP_CALL;
 
 // Returns the number of pairs. Like the next two calls it takes constant time.
@@ -433,12 +433,12 @@ INTMAP_NONNULL INTMAP_MUST_USE intmap_status intmap_reserve(intmap *map, size_t 
 
 // Makes room for `more` insertions of any keys: does what intmap_reserve does, and requests memory
 // for as many nodes. The next insertions of as many new keys then request no memory, so they can't
-// fail. Look-ups and removals between them change nothing of that. After a call that makes room or
-// sets the load factor, or that puts another map into the word, it holds no longer. That these
-// insertions request no memory is tested, and not proved.
+// fail, whatever is looked up, written or removed between them. This holds until a call makes room,
+// sets the load factor or puts another map into the word, and not of a copy by intmap_clone. That
+// these insertions request no memory is tested, and not proved.
 //
-// The nodes take 24 bytes for each of the `more` pairs. The call returns what intmap_reserve returns,
-// and INTMAP_NO_MEMORY also if the nodes are refused.
+// The nodes take 24 bytes for each of the `more` pairs. The call returns what intmap_reserve
+// returns, and INTMAP_NO_MEMORY also if the nodes are refused.
 INTMAP_NONNULL INTMAP_MUST_USE intmap_status intmap_reserve_insertions(intmap *map, size_t more)
     INTMAP_CALL;
 
@@ -498,8 +498,9 @@ INTMAP_NONNULL intmap_found_pair intmap_cut(intmap *map, intmap_cursor *at) INTM
 
 // Calls `keep` with each pair, in the order of the walk, and removes the pair if `keep` returns
 // false. It returns how many it removed. The other pairs stay in the same order, and the number of
-// slots stays. `keep` is handed `argument`, which may be null. It makes no call that changes the
-// map. intmap_retain requests no memory. It takes the time of a whole walk by intmap_step.
+// slots stays. `keep` is handed `argument`, which may be null. `keep` may make calls that only read
+// the map, and none that changes it. intmap_retain requests no memory. It takes the time of a whole
+// walk by intmap_step.
 INTMAP_NONNULL_TWO static inline size_t intmap_retain(intmap *map,
                                                       bool (*keep)(intmap_pair pair,
                                                                    void *argument),
@@ -535,7 +536,7 @@ INTMAP_NONNULL INTMAP_MUST_USE static inline intmap_status intmap_shrink_to_fit(
     }
     intmap_status status = intmap_set_load_factor(&made, intmap_load_factor(map));
     if (!intmap_failed(status)) {
-        // At most half of the slots, so never too many. Insertions add the others.
+        // No more slots than the pairs will need. Insertions add the others.
         status = intmap_reserve(&made, intmap_len(map) / 16 * 7);
     }
     while (!intmap_failed(status) && (next = intmap_step(map, &at)).status == INTMAP_PRESENT) {

@@ -9,9 +9,9 @@ mod made;
 mod occupied;
 mod vacant;
 
-/// A map with a key that was looked up in it, made by [`IntMap::entry`]. No call of an entry looks
-/// the key up again, so each costs *O*(1) apart from a closure, but the insertion of an absent key
-/// costs what [`IntMap::insert`] does.
+/// A map with a key that was looked up in it, made by [`IntMap::entry`]. No call of an entry
+/// compares a key again, but a call goes past the pairs of the key's slot: it costs *O*(*s*) apart
+/// from a closure. The insertion of an absent key costs what [`IntMap::insert`] does.
 ///
 /// ```
 /// let mut counts = intmap_proved::IntMap::new();
@@ -27,7 +27,7 @@ pub enum Entry<'a, K, V> {
     Vacant(VacantEntry<'a, K, V>),
 }
 
-/// A map with a key that is present in it. Each call costs *O*(1), apart from a closure.
+/// A map with a key that is present in it. Each call costs *O*(*s*), apart from a closure.
 ///
 /// ```
 /// use intmap_proved::{Entry, IntMap};

@@ -1,7 +1,8 @@
 //! A map and a set for integer keys, whose core is machine-checked against its contract.
 //!
 //! It gives your value back when memory fails, and visits its pairs in the same order on every run.
-//! No `unsafe`, no dependency, `no_std` with `alloc`. Fast on ids that count up with hardly a gap.
+//! It is `no_std` with `alloc`, and has no `unsafe` and no dependency. It is fast on ids that count
+//! up with hardly a gap.
 //!
 //! ```
 //! use intmap_proved::IntMap;

@@ -36,14 +36,15 @@ mod walk;
 /// it: 24 bytes each for keys and values of 64 bits. A slot takes them even if it is empty, so put
 /// values above some 200 bytes into a `Box`.
 ///
-/// A new map has no nodes, even if it is made with room. A second pair in a slot takes a node that a
-/// removal has freed, if there is one. If there is none, the vector makes room as Rust's `Vec` does.
-/// A map that grows allocates its new slots, and nodes for as many pairs as were behind first ones,
-/// before any pair moves; the old slots and nodes are there until all have moved. Removals
-/// and `clear` give no memory back, but freed nodes serve all slots. There are at most four nodes,
-/// or twice as many as the most pairs that were behind the first ones of their slots at one time. So
-/// while new keys rose and old ones were removed at random, 10,000 live pairs of 56 bytes took 1.05 MB
-/// at first, and 1.18 MB after 10 and after 1000 times as many removals. Their
+/// A new map has no nodes, even if it is made with room. A second pair in a slot takes a node that
+/// a removal has freed, if there is one. If there is none, the vector makes room as Rust's `Vec`
+/// does. A map that grows allocates its new slots, and nodes for as many pairs as were behind first
+/// ones, before any pair moves; the old slots and nodes are there until all have moved. Removals
+/// and `clear` give no memory back, but freed nodes serve all slots. Unless
+/// [`reserve_insertions`](IntMap::reserve_insertions) made room for more, there are at most four
+/// nodes, or twice as many as the most pairs that were behind the first ones of their slots at one
+/// time. So while new keys rose and old ones were removed at random, 10,000 live pairs of 56 bytes
+/// took 1.05 MB at first, and 1.18 MB after 10 and after 1000 times as many removals. Their
 /// [`clone`](Clone::clone) took 1.13 MB.
 ///
 /// With keys and values of 64 bits, std's map takes 0.53 to 0.61 of the bytes for random keys and

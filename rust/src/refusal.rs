@@ -26,7 +26,7 @@ fn end(cause: Cause) -> ! {
     }
 }
 
-/// Whether both have the same cause and equal values, such as `assert_eq!` asks.
+/// Whether both have the same cause and equal values, as `assert_eq!` asks.
 ///
 /// ```
 /// let mut map = intmap_proved::IntMap::new();

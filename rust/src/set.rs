@@ -36,7 +36,7 @@ pub use iter::{
 /// In what the calls say of their cost, *n* is the number of members, *c* the capacity, and *s* the
 /// number of members in the slot of the key. A call over two sets walks one or both, at *O*(*n* +
 /// *c*), and looks members up in the other, at *O*(*s*) each. Where a call says nothing of its
-/// cost, it is that of the map's call of the same name.
+/// cost, the cost is that of the map's call of the same name.
 ///
 /// ```
 /// use intmap_proved::IntSet;

@@ -63,7 +63,7 @@ module _ {K V S : Type 0} (number : K → ℕ) (is_valid : K → Type 0) (steps 
     pub extended : IsExtended number is_valid m pairs n
 
   -- the pairs that the iterator s gave were inserted in turn up to the first that failed, which is returned with the
-  -- cause and the number of those before it, or the greatest number there is if they were more; then its key was looked up
+  -- cause and the number of those before it, or 2^64 - 1 if they were more; then its key was looked up
   pub record ExtendsUpTo (s : S) (m : MapState K V) (refused : RefusedPair K V) (n : MapState K V) : Type 0 where
     pub pairs : List (K × V)
     pub rest : S

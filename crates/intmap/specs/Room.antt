@@ -17,6 +17,6 @@ module _ {K V : Type 0} (number : K → ℕ) where
     pub count : length (L ++ ps) < 2 ^ 64
     pub load : 4 ≤ length (L ++ ps) → MeetsLoad C (last_due (length (L ++ ps))) F
 
-  -- it has room for any n further pairs or fewer whose keys are new, and stand with its own in a row no longer than C
+  -- such a table has room for any pairs, at most n, whose keys are new and stand with its own in a row no longer than C
   abbrev pub HasRoomInRow : List (K × V) → ℕ → ℕ → ℕ → Type 0
   HasRoomInRow L C F n = (ps : List (K × V)) → length ps ≤ n → HasDistinctKeys number (L ++ ps) → AreInRow C (L ++ ps) → HasRoomFor L C F ps

@@ -71,9 +71,9 @@ fn set_load_factor(map: &mut IntMap<u64, u64>, thousandths: usize) -> i32
     }
 }
 
-/// Makes slots for the pairs and `additional` more, and returns `OK`. If there are fewer, their
-/// number becomes the least power of two that isn't below that sum. It fails with `TOO_LARGE` if
-/// and only if the sum is above 2^63, and otherwise with `NO_MEMORY` if an allocation fails. A
+/// Makes slots, and returns `OK`. If the slots are fewer than the pairs and `additional` together,
+/// their number becomes the least power of two that isn't below that sum. It fails with `TOO_LARGE`
+/// if and only if the sum is above 2^63, and otherwise with `NO_MEMORY` if an allocation fails. A
 /// failed call leaves the map.
 #[unsafe(no_mangle)]
 pub extern "C" fn intmap_reserve_slots(alloc: Global, handle: &mut Handle, additional: usize) -> i32

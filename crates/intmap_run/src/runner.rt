@@ -32,8 +32,8 @@ const FEW: usize = 1024;
 /// `EntryInsert`, `EntryRemove` and the pairs of `Extend` compare, failed ones too. The other
 /// commands leave it. Its `placed` rises by the length after each `Insert`, `InsertChecked`,
 /// `EntryInsert` or pair of `Extend` that changed the capacity, and by nothing else. If the run
-/// sets g load factors, this is in all at most `3 * (g + 1)` times the greatest length of the run.
-/// At the end the capacity is the same as at the start, or one that a successful `Reserve` or
+/// sets g load factors, `placed` rises by at most `3 * (g + 1)` times the greatest length of the
+/// run. At the end the capacity is the same as at the start, or one that a successful `Reserve` or
 /// `SetLoadFactor` left, or a capacity C with `(F + 1) * C <= 2000 * length`. Here F is the load
 /// factor at the end, in thousandths, and length the greatest length.
 ///

@@ -197,8 +197,8 @@ impl<K: IntKey, V> IntMap<K, V> {
 
     /// Returns a map from each number of pairs above 1 that a slot has, to the number of slots that
     /// have exactly that many. The numbers are inserted into a new map as they first appear. The
-    /// cost is *O*(*c*). Where [`try_collisions`](Self::try_collisions) fails, this call ends the
-    /// process.
+    /// cost is *O*(*n* + *c*). Where [`try_collisions`](Self::try_collisions) fails, this call ends
+    /// the process.
     ///
     /// ```
     /// let map = intmap_proved::IntMap::from([(0u64, 'a'), (4, 'b'), (1, 'c')]);
