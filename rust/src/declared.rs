@@ -82,11 +82,11 @@ macro_rules! int_key {
 ///
 /// # What is known of it
 ///
-/// It is the mixing of SplitMix64 behind an exclusive or with the secret. In a test, fewer than 10 of
-/// 1,000 keys with 12, 32 or 44 equal low bits share a slot. It is no cipher, and nobody has shown
-/// that someone without the secret can't choose many keys of one slot. Whoever sees the order of
-/// iteration, or measures the time of calls, may learn the secret, or enough of it to choose such
-/// keys. Where that matters, or one secret serves many parties, take std's map with its
+/// It is the mixing of SplitMix64 behind an exclusive or with the secret. In a test, fewer than 10
+/// of 1,000 keys with 12, 32 or 44 equal low bits share a slot. It is no cipher, and nobody has
+/// shown that someone without the secret can't choose many keys of one slot. Whoever sees the order
+/// of iteration, or measures the time of calls, may learn the secret, or enough of it to choose
+/// such keys. Where that matters, or one secret serves many parties, take std's map with its
 /// `RandomState`.
 ///
 /// ```

@@ -32,9 +32,9 @@ mod walk;
 ///
 /// A slot has its first pair. The further pairs of all slots lie in the nodes of one vector, and
 /// links join those of a slot to a chain, so a call on one of them takes time in the pairs of its
-/// slot. A slot and a node take the space of a pair and 8 bytes, or more where the alignment asks for
-/// it: 24 bytes each for keys and values of 64 bits. A slot takes them even if it is empty, so put
-/// values above some 200 bytes into a `Box`.
+/// slot. A slot and a node take the space of a pair and 8 bytes, or more where the alignment asks
+/// for it: 24 bytes each for keys and values of 64 bits. A slot takes them even if it is empty, so
+/// put values above some 200 bytes into a `Box`.
 ///
 /// A new map has no nodes, even if it is made with room. A second pair in a slot takes a node that
 /// a removal has freed, if there is one. If there is none, the vector makes room as Rust's `Vec`

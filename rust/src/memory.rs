@@ -1,5 +1,5 @@
-//! What the proved code takes from Rattle's std and Rust's doesn't have: allocations that may fail, and
-//! what older compilers lack.
+//! What the proved code takes from Rattle's std and Rust's doesn't have: allocations that may fail,
+//! and what older compilers lack.
 //!
 //! Rust's `Vec` and `Clone` end the process if an allocation fails. Rattle's return an error. These
 //! stand in for them, over Rust's own.

@@ -14,8 +14,8 @@
 //! assert_eq!(map.get(21), Some(&"a half"));
 //! ```
 //!
-//! Calls, arguments, order of iteration, capacities and the cut of the load factor are the same, and
-//! all calls of [`intmap_proved::IntMap`](crate::IntMap) are there too. What differs:
+//! Calls, arguments, order of iteration, capacities and the cut of the load factor are the same,
+//! and all calls of [`intmap_proved::IntMap`](crate::IntMap) are there too. What differs:
 //!
 //! - Iterators know how many items are left; the original's don't say it. So a map that is collected
 //!   from the iterator of another map begins with a slot for each pair, where the original's begins

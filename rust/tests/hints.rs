@@ -10,7 +10,8 @@ fn behind<I: Iterator>(steps: usize, mut items: I) -> I {
     items
 }
 
-/// What is said after so many items holds of the others, and their number is the most that there are.
+/// What is said after so many items holds of the others, and their number is the most that there
+/// are.
 fn bounds<I: Iterator>(of: &str, steps: usize, items: I) {
     let items = behind(steps, items);
     let (least, most) = items.size_hint();
@@ -38,8 +39,8 @@ fn clones<I: Iterator<Item: PartialEq> + Clone>(of: &str, steps: usize, items: I
     assert!(clone.eq(items), "a clone of {of}, {steps} steps");
 }
 
-/// Numbers of pairs, and what they are multiplied by to be keys. So slots hold one pair, or several,
-/// or most hold none.
+/// Numbers of pairs, and what they are multiplied by to be keys. So slots hold one pair, or
+/// several, or most hold none.
 const SIZES: [(u64, u64); 7] = [(0, 1), (1, 1), (3, 1), (14, 1), (40, 1), (9, 64), (40, 12)];
 
 /// Maps of keys that were inserted one by one, and that were collected.

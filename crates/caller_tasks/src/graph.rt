@@ -77,8 +77,8 @@ pub fn root<A: Allocator + Copy>(parents: &IntMap<u64, u64, A>, node: u64) -> u6
     }
 }
 
-/// Joins the trees of two nodes, if they are two. Every parent stays, and what every node shares with
-/// its parent then, the two nodes share.
+/// Joins the trees of two nodes, if they are two. Every parent stays, and what every node shares
+/// with its parent then, the two nodes share.
 ///
 /// It fails if the insertion of a parent fails. No node then gets a parent.
 pub fn join<A: Allocator + Copy>(

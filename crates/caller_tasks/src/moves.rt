@@ -52,8 +52,8 @@ pub fn swap_values<A: Allocator + Copy>(map: &mut IntMap<u64, u64, A>, a: u64, b
     true
 }
 
-/// Swaps the values of two different keys where they lie, if both are present. Every other key keeps
-/// its value. No clause says which values the two keys have then.
+/// Swaps the values of two different keys where they lie, if both are present. Every other key
+/// keeps its value. No clause says which values the two keys have then.
 pub fn swap_owned<V, A: Allocator + Copy>(map: &mut IntMap<u64, V, A>, a: u64, b: u64)
     requires { a ≢ b }
     ensures others { (q : ℕ) → q ≢ a → q ≢ b
@@ -110,8 +110,8 @@ pub fn rename<V: Drop, A: Allocator + Copy>(
 }
 
 /// Moves a number to another map: it is inserted there before it is removed here. It returns
-/// whether the key was present. If not, the pairs of both maps stay. Every other key keeps its value
-/// in both.
+/// whether the key was present. If not, the pairs of both maps stay. Every other key keeps its
+/// value in both.
 ///
 /// It fails if the insertion fails. Both maps then stay.
 pub fn move_number<A: Allocator + Copy>(

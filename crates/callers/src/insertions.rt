@@ -74,8 +74,9 @@ pub fn insert_all<K: IntKey, V: Drop, A: Allocator + Copy>(
     }
 }
 
-/// Inserts new pairs whose keys and the map's own stand in a row no longer than the capacity, as ids
-/// that follow one another do. If all of them meet the load, it never fails, and the capacity stays.
+/// Inserts new pairs whose keys and the map's own stand in a row no longer than the capacity, as
+/// ids that follow one another do. If all of them meet the load, it never fails, and the capacity
+/// stays.
 pub fn insert_row<K: IntKey, V: Drop, A: Allocator + Copy>(
     map: &mut IntMap<K, V, A>,
     pairs: Vec<(K, V), A>,
@@ -115,7 +116,8 @@ pub fn insert_small<A: Allocator + Copy>(map: &mut IntMap<u64, u64, A>, key: u64
 
 /// Counters with the numbers from 0 to `n` - 1, all of which are 0.
 ///
-/// It fails only before the first of them is inserted: if the map can't be made, or the room for all.
+/// It fails only before the first of them is inserted: if the map can't be made, or the room for
+/// all.
 pub fn counters<A: Allocator + Copy>(alloc: A, n: usize) -> Result<IntMap<u64, u64, A>, Cause>
     ensures { IfOk result (λ map. (q : ℕ)
         → value_of (λ k. k) map.walk q ≡ cond (nat_lt q n) (Some 0) None) }

@@ -206,7 +206,8 @@ pub fn work_off<V: Drop, A: Allocator + Copy>(
 /// Forgets one student, and notes the grade of another. The grades of the others stay, and no grade
 /// is above `most`.
 ///
-/// It fails if the insertion of a new student fails. The one student is then forgotten all the same.
+/// It fails if the insertion of a new student fails. The one student is then forgotten all the
+/// same.
 pub fn replace_student<A: Allocator + Copy>(
     grades: &mut IntMap<u64, u64, A>,
     former: u64,

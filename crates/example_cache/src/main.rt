@@ -1,5 +1,5 @@
-//! A cache of two texts, which evicts the text that was not read or written for the longest time. It
-//! reads the lines `put KEY TEXT`, `get KEY` and `forget KEY`, and prints what each did.
+//! A cache of two texts, which evicts the text that was not read or written for the longest time.
+//! It reads the lines `put KEY TEXT`, `get KEY` and `forget KEY`, and prints what each did.
 //!
 //! Run it by `rt try <stdin` in this folder, or by `rt run <stdin`, which proves it first.
 #![tactic(auto)]

@@ -1,5 +1,5 @@
-//! Prints the dot product of two vectors. Each is a list of lines with a place and its value. A blank
-//! line separates the two.
+//! Prints the dot product of two vectors. Each is a list of lines with a place and its value. A
+//! blank line separates the two.
 //!
 //! Run it by `rt try <stdin` in this folder, or by `rt run <stdin`, which proves it first.
 #![tactic(auto)]

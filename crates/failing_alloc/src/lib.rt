@@ -1,5 +1,5 @@
-//! An allocator for tests: it fails one allocation, or each above a size, and counts the allocations
-//! up to that one, the bytes that were granted, and the blocks that are alive.
+//! An allocator for tests: it fails one allocation, or each above a size, and counts the
+//! allocations up to that one, the bytes that were granted, and the blocks that are alive.
 //!
 //! Lend it to a collection as `&FailingAlloc<B>`, which is an allocator that is `Copy`. `arm` then
 //! says which allocation fails, also while the collection holds memory, and `left` says how far
@@ -7,8 +7,8 @@
 //! what the call leaves behind. `live_blocks` and `live_bytes` are 0 again once nothing holds
 //! memory of it. If they aren't, a call has lost a block.
 //!
-//! `fail_above` makes each large allocation fail. `granted_bytes` then says how much a call got, and
-//! so could write, before it failed.
+//! `fail_above` makes each large allocation fail. `granted_bytes` then says how much a call got,
+//! and so could write, before it failed.
 //!
 //! Proved: a block that it returns is one of `inner`'s, as large as was requested. Only tested:
 //! which allocation fails and what the counts are, since no contract says what a cell holds.
@@ -44,8 +44,8 @@ struct Counts {
 }
 
 impl<B: Allocator> FailingAlloc<B> {
-    /// Returns an allocator over `inner` whose allocation number `failing` fails, counted from 1. At
-    /// 0 none fails. No allocation is too large.
+    /// Returns an allocator over `inner` whose allocation number `failing` fails, counted from 1.
+    /// At 0 none fails. No allocation is too large.
     pub fn new(inner: B, failing: u64) -> FailingAlloc<B> {
         FailingAlloc {
             inner,
@@ -60,21 +60,22 @@ impl<B: Allocator> FailingAlloc<B> {
         }
     }
 
-    /// Starts the count again: from here on, allocation number `failing` fails, counted from 1. At 0
-    /// none fails.
+    /// Starts the count again: from here on, allocation number `failing` fails, counted from 1. At
+    /// 0 none fails.
     pub fn arm(&self, failing: u64) {
         self.counts.left.set(failing);
     }
 
-    /// From here on, each allocation of more than `bytes` bytes fails too. At `u64::MAX` none is too
-    /// large. `failures` and `granted_bytes` count from here on.
+    /// From here on, each allocation of more than `bytes` bytes fails too. At `u64::MAX` none is
+    /// too large. `failures` and `granted_bytes` count from here on.
     pub fn fail_above(&self, bytes: u64) {
         self.counts.most.set(bytes);
         self.counts.failures.set(0);
         self.counts.granted.set(0);
     }
 
-    /// Returns how many allocations were made to fail since the last `fail_above`, by it or by `arm`.
+    /// Returns how many allocations were made to fail since the last `fail_above`, by it or by
+    /// `arm`.
     pub fn failures(&self) -> u64 {
         self.counts.failures.get()
     }

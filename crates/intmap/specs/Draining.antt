@@ -5,8 +5,7 @@ use Rattle.std.specs.Iterator.{YieldsFirst}
 use Rattle.std.specs.declared.cmp.PartialEq as eq
 use Rattle.intmap_table.specs.declared.key.IntKey as key
 use Rattle.intmap.specs.declared.map.iter.drain.Drain.{Drain}
-use Rattle.intmap.specs.Map.{MapState}
-use Rattle.intmap.specs.Map.{with_walk}
+use Rattle.intmap.specs.Map.{MapState, with_walk}
 
 module _ {K V A : Type 0} {g : key.Ghosts K} {e : eq.Ghosts K} where
   -- the map behind the drain, as it is at this moment

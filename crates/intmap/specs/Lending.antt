@@ -5,8 +5,7 @@ use Rattle.std.specs.Map.{values_of}
 use Rattle.std.specs.declared.alloc.Allocator as allocator
 use Rattle.std.specs.declared.cmp.PartialEq as eq
 use Rattle.intmap_table.specs.declared.key.IntKey as key
-use Rattle.intmap.specs.Map.{MapState, after_search, written}
-use Rattle.intmap.specs.Map.{map_with_values}
+use Rattle.intmap.specs.Map.{MapState, after_search, map_with_values, written}
 use Rattle.intmap.specs.Disjoint.{present_values, written_each}
 use Rattle.intmap.specs.contracts.map.IntMap.{the_row as map_row}
 

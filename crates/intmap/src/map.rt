@@ -94,8 +94,8 @@ impl<K: IntKey, V, A: Allocator + Copy> IntMap<K, V, A> {
         self.table.capacity()
     }
 
-    /// Does nothing. Its contract says what holds of every map, for a function that calls nothing else
-    /// of which a proof could learn that.
+    /// Does nothing. Its contract says what holds of every map, for a function that calls nothing
+    /// else of which a proof could learn that.
     #[inline(always)]
     pub(crate) fn known(&self)
         ensures valid { IsMap K.number_of K.is_valid self.now }
@@ -180,8 +180,8 @@ impl<K: IntKey, V, A: Allocator + Copy> IntMap<K, V, A> {
         kept.into_value()
     }
 
-    /// Removes a located pair and puts the pair of its key and this value at the end of the slot. The
-    /// last pair of the slot takes the place of the removed one. It allocates nothing.
+    /// Removes a located pair and puts the pair of its key and this value at the end of the slot.
+    /// The last pair of the slot takes the place of the removed one. It allocates nothing.
     #[inline(always)]
     pub(crate) fn replace_at(&mut self, at: Location<K>, value: V) -> V
         requires { IsAt K.number_of self.old.walk self.old.capacity at }

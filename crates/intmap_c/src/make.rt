@@ -34,9 +34,9 @@ pub(crate) fn keep(alloc: Global, handle: &mut Handle, made: Result<IntMap<u64, 
 }
 
 /// Makes an empty map, with a load factor of 909 thousandths, and returns `OK`. Its number of slots
-/// is the least power of two that is at least `slots`, and at least 2. If the handle had a map, that
-/// map is freed. It fails with `TOO_LARGE` if and only if `slots` is above 2^63, and otherwise with
-/// `NO_MEMORY` if an allocation fails. A failed call leaves the handle.
+/// is the least power of two that is at least `slots`, and at least 2. If the handle had a map,
+/// that map is freed. It fails with `TOO_LARGE` if and only if `slots` is above 2^63, and otherwise
+/// with `NO_MEMORY` if an allocation fails. A failed call leaves the handle.
 #[unsafe(no_mangle)]
 pub extern "C" fn intmap_with_slots(alloc: Global, handle: &mut Handle, slots: usize) -> i32
     ensures outcome { ((result ≡ ok_status)

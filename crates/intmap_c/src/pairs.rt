@@ -56,7 +56,8 @@ fn add_present(map: &mut IntMap<u64, u64>, key: u64, more: u64) -> FoundValue
     }
 }
 
-/// Adds to the value of a key, or inserts the key. It returns what [`intmap_add_or_insert`] returns.
+/// Adds to the value of a key, or inserts the key. It returns what [`intmap_add_or_insert`]
+/// returns.
 fn add_or_insert(map: &mut IntMap<u64, u64>, key: u64, more: u64) -> FoundValue
     ensures { AddsOrInserts map.old map.new key more result }
 {
@@ -108,8 +109,9 @@ pub extern "C" fn intmap_insert(
     }
 }
 
-/// Finds the key, or inserts the pair if the key is absent, and returns whether the key was present.
-/// A present key keeps its value. The insertion of a new key fails as [`intmap_insert`] does.
+/// Finds the key, or inserts the pair if the key is absent, and returns whether the key was
+/// present. A present key keeps its value. The insertion of a new key fails as [`intmap_insert`]
+/// does.
 #[unsafe(no_mangle)]
 pub extern "C" fn intmap_find_or_insert(
     alloc: Global,
@@ -130,8 +132,8 @@ pub extern "C" fn intmap_find_or_insert(
     }
 }
 
-/// Replaces the value of a present key, whose pair keeps its place, and returns the value before. It
-/// inserts nothing, and allocates nothing.
+/// Replaces the value of a present key, whose pair keeps its place, and returns the value before.
+/// It inserts nothing, and allocates nothing.
 #[unsafe(no_mangle)]
 pub extern "C" fn intmap_replace(
     alloc: Global,
@@ -152,8 +154,8 @@ pub extern "C" fn intmap_replace(
     }
 }
 
-/// Adds to the value of a present key, modulo 2^64, and returns the value before. It inserts nothing,
-/// looks the key up once, and allocates nothing.
+/// Adds to the value of a present key, modulo 2^64, and returns the value before. It inserts
+/// nothing, looks the key up once, and allocates nothing.
 #[unsafe(no_mangle)]
 pub extern "C" fn intmap_add_present(
     alloc: Global,

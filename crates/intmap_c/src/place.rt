@@ -1,8 +1,8 @@
 //! The call that gives the address of a value.
 //!
-//! The C program gives up the map of a word. It gets the address of a value, and the right to exchange
-//! that value for the map, as [`lends_place`] says. It must make the exchange before it next passes
-//! the word to a call.
+//! The C program gives up the map of a word. It gets the address of a value, and the right to
+//! exchange that value for the map, as [`lends_place`] says. It must make the exchange before it
+//! next passes the word to a call.
 ghost use Rattle.std.specs.Prelude.{◌≡◌};
 ghost use Rattle.std.specs.Borrow.{sem};
 ghost use Rattle.std.specs.Option.{option_copied_mut};

@@ -1,7 +1,7 @@
 //! Calls that only read. Any number of them may run at once while a map is lent.
 //!
-//! C lends the map of a word, as [`is_lent`] says, and has the loan back from each call. It ends the
-//! loan before it next passes the word to a call that may write.
+//! C lends the map of a word, as [`is_lent`] says, and has the loan back from each call. It ends
+//! the loan before it next passes the word to a call that may write.
 ghost use Rattle.std.specs.Prelude.{◌≡◌, is_some, length};
 ghost use Rattle.std.specs.Borrow.{sem};
 ghost use Rattle.intmap_c.specs.Answers.{value_found};

@@ -20,8 +20,8 @@ fn cut(map: &mut IntMap<u64, u64>, at: &mut Cursor) -> FoundPair
 }
 
 /// Removes the first pair of the walk from the cursor on and returns it. The other pairs keep their
-/// order, and the cursor is then before those that were behind it. Where no pair is left, the cursor
-/// stays. It allocates nothing.
+/// order, and the cursor is then before those that were behind it. Where no pair is left, the
+/// cursor stays. It allocates nothing.
 #[unsafe(no_mangle)]
 pub extern "C" fn intmap_cut(alloc: Global, handle: &mut Handle, at: &mut Cursor) -> FoundPair
     ensures { OnMap handle.old.value handle.new.value

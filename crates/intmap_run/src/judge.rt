@@ -4,8 +4,8 @@ ghost use Rattle.std.specs.Prelude.{◌≡◌, Bool};
 /// Looks at values, and says which pairs stay.
 ///
 /// A run returns a value only when the value leaves the map. Of the values that stay it shows what
-/// a judge sees: a copy, a number, a text, or nothing at all. The example of [`run`](crate::run) has
-/// a judge that sees each number as itself, and keeps all.
+/// a judge sees: a copy, a number, a text, or nothing at all. The example of [`run`](crate::run)
+/// has a judge that sees each number as itself, and keeps all.
 pub trait Judge<K, V> {
     /// What is seen of a value.
     type Seen: Drop;

@@ -1,6 +1,6 @@
 //! Laws of the definitions that describe a run, each as the contract of a function that does
 //! nothing. A call of one adds its law to the proof of the function that contains the call.
-ghost use Rattle.std.specs.Prelude.{◌≡◌, ◌↔◌, ◌≤◌, ◌++◌, ◌+◌, ◌*◌, ℕ, List, length};
+ghost use Rattle.std.specs.Prelude.{◌≡◌, ◌↔◌, ◌≤◌, ◌++◌, ℕ, List, length};
 ghost use Rattle.intmap.specs.Classes.{IsCapacity, residue, slot_number};
 ghost use Rattle.intmap.specs.Bindings.{value_of, take_key, put_pair, write_value, strike_keys};
 ghost use Rattle.intmap.specs.Walk.{walk_of};
@@ -60,8 +60,8 @@ pub fn keys_share_slots_by_residue<K: IntKey>()
 {}
 
 /// A removal takes the first pair of the key out of a list, and the last pair behind it whose key
-/// agrees with that key fills the hole. `Takes` says this without a recursion, and holds only of the
-/// list that `take_key` gives.
+/// agrees with that key fills the hole. `Takes` says this without a recursion, and holds only of
+/// the list that `take_key` gives.
 pub fn removals_fill_the_hole<K: IntKey, V>()
     ensures { (C : ℕ) (L M : List (K × V)) (k : K) → Takes K.number_of L C k M
         ↔ (M ≡ take_key K.number_of L C k) }

@@ -1,5 +1,5 @@
-//! Laws for callers: what follows about sets from the contracts of their calls. Each is the contract
-//! of a function that does nothing.
+//! Laws for callers: what follows about sets from the contracts of their calls. Each is the
+//! contract of a function that does nothing.
 //!
 //! A call such as `laws::union_holds::<u64>();` adds its law to the proof of the function that
 //! contains the call.

@@ -21,8 +21,8 @@ pub fn number(word: &[u8]) -> Option<u64>
     }
 }
 
-/// Whether digits have no leading zero and write a number below 2^64. `value` is their number modulo
-/// 2^64.
+/// Whether digits have no leading zero and write a number below 2^64. `value` is their number
+/// modulo 2^64.
 ///
 /// Up to 19 digits always write a number below 2^64. Twenty digits do so only if they begin with a
 /// 1, so that their number is below 2 * 10^19. If that number reaches 2^64, `value` has fewer than

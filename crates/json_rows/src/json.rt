@@ -35,8 +35,8 @@ fn answer_of(alloc: Global, call: &str) -> Result<String, AllocError> {
     }
 }
 
-// What a row is answered. A call that is refused for want of memory is made once more. The answer then tells of
-// both calls, and between them whether what the call reads is as it was.
+// What a row is answered. A call that is refused for want of memory is made once more. The answer
+// then tells of both calls, and between them whether what the call reads is as it was.
 
 // the map that is read from a text, with its slots, its keys and the text that is written of it,
 // or why there is none
@@ -83,7 +83,8 @@ fn parse(alloc: Global, text: &str) -> Result<Option<Value>, AllocError> {
     }
 }
 
-// the slots, the keys in the order of the walk and the text of a map that was read, or why there is none
+// the slots, the keys in the order of the walk and the text of a map that was read, or why there is
+// none
 fn read_text(
     alloc: Global,
     answer: Result<IntMap<u64, Value>, JsonCause>,

@@ -31,8 +31,8 @@
 //!
 //! # Texts from strangers
 //!
-//! Whoever writes a text can choose keys that share one slot, such as multiples of 2^32. Reading *n* of
-//! them takes time in the square of *n*: a text of 1 MB took more than a second.
+//! Whoever writes a text can choose keys that share one slot, such as multiples of 2^32. Reading
+//! *n* of them takes time in the square of *n*: a text of 1 MB took more than a second.
 //! [`int_key!`](intmap_proved::int_key) declares types of keys that are scrambled by a secret, and
 //! may derive serde's traits. Or read such texts into a std map.
 //!

@@ -95,8 +95,9 @@ where
 ///
 /// # Errors
 ///
-/// Those of the deserializer, and one of its type with the text of a [`Cause`](intmap_proved::Cause) if an allocation of
-/// the map or the set fails. What was read up to there is dropped.
+/// Those of the deserializer, and one of its type with the text of a
+/// [`Cause`](intmap_proved::Cause) if an allocation of the map or the set fails. What was read up
+/// to there is dropped.
 ///
 /// # Examples
 ///

@@ -1,4 +1,5 @@
-//! Allocations while a map or a set is read: those that fail, and those that a false length asks for.
+//! Allocations while a map or a set is read: those that fail, and those that a false length asks
+//! for.
 use intmap_proved::{IntMap, IntSet};
 use intmap_proved_serde::Serde;
 use serde::Deserialize;

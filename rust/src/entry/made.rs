@@ -39,7 +39,8 @@ impl<'a, K: IntKey, V> Entry<'a, K, V> {
     }
 
     /// The same as [`or_insert`](Self::or_insert), with the value that `make` returns. It is called
-    /// only if the key is absent. [`try_or_insert_with`](Self::try_or_insert_with) returns a failure.
+    /// only if the key is absent. [`try_or_insert_with`](Self::try_or_insert_with) returns a
+    /// failure.
     ///
     /// ```
     /// let mut map = intmap_proved::IntMap::new();
@@ -94,8 +95,8 @@ impl<'a, K: IntKey, V> Entry<'a, K, V> {
         }
     }
 
-    /// The same as [`try_or_insert_with`](Self::try_or_insert_with), for a value that may fail to be
-    /// made.
+    /// The same as [`try_or_insert_with`](Self::try_or_insert_with), for a value that may fail to
+    /// be made.
     ///
     /// # Errors
     /// That of `make` as it is, and if the insertion fails, what `From` makes of a [`Refused`]. The

@@ -12,8 +12,8 @@ impl<K: IntKey, V> IntMap<K, V> {
     /// the map then has 4 to 7 pairs, 12 to 15, 20 to 23, and so on: if these exceed the load
     /// factor, the capacity doubles until they don't.
     ///
-    /// The cost is *O*(*s*), and *O*(*n* + *c*) for an insertion that doubles the slots, or for which
-    /// the [nodes](IntMap#memory) move to more memory. That is *O*(*s*) amortized. Where
+    /// The cost is *O*(*s*), and *O*(*n* + *c*) for an insertion that doubles the slots, or for
+    /// which the [nodes](IntMap#memory) move to more memory. That is *O*(*s*) amortized. Where
     /// [`try_insert`](Self::try_insert) fails, this call panics or ends the process.
     ///
     /// ```

@@ -13,8 +13,8 @@ impl<K: IntKey, V> IntMap<K, V> {
     ///
     /// The other pairs keep their order, and the capacity and the load factor stay. Unlike std's,
     /// `keep` takes the key by value and can't change the value: [`retain_mut`](Self::retain_mut)
-    /// can. If `keep` or the drop of a value panics, the map stays whole, and the pairs that weren't
-    /// reached stay in it.
+    /// can. If `keep` or the drop of a value panics, the map stays whole, and the pairs that
+    /// weren't reached stay in it.
     ///
     /// Proved of `IntMap::retain`: `by_pair`, `by_key`, `filtered`, `pairs`, `state`, `updates`,
     /// `len`.
@@ -45,8 +45,8 @@ impl<K: IntKey, V> IntMap<K, V> {
 
     /// Removes all pairs. The capacity, the load factor and the memory stay. Values are dropped in
     /// iteration order, where the drop of a map drops those of all first pairs of slots before the
-    /// others. If the drop of a value panics, the map stays whole, without the pairs up to that one.
-    /// The cost is *O*(*n* + *c*).
+    /// others. If the drop of a value panics, the map stays whole, without the pairs up to that
+    /// one. The cost is *O*(*n* + *c*).
     ///
     /// Proved of `IntMap::clear`: `state`, `updates`, `len`.
     ///

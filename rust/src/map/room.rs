@@ -8,13 +8,13 @@ use crate::refusal::{Cause, Refused, granted};
 use crate::room::{LEAST_SLOTS, slots_for};
 
 impl<K: IntKey, V> IntMap<K, V> {
-    /// Returns an empty map with room for so many pairs: the capacity is the least power of two, from
-    /// 2 on, in which they meet the load factor of a new map, 0.909. The cost is *O*(*c*).
+    /// Returns an empty map with room for so many pairs: the capacity is the least power of two,
+    /// from 2 on, in which they meet the load factor of a new map, 0.909. The cost is *O*(*c*).
     ///
     /// Insertions of so many keys then add no slots. Keys that share a slot still allocate:
-    /// [`reserve_insertions`](Self::reserve_insertions) makes room for them too. All slots are written
-    /// at once. Where [`try_with_room_for`](Self::try_with_room_for) fails, this call panics or ends
-    /// the process.
+    /// [`reserve_insertions`](Self::reserve_insertions) makes room for them too. All slots are
+    /// written at once. Where [`try_with_room_for`](Self::try_with_room_for) fails, this call
+    /// panics or ends the process.
     ///
     /// ```
     /// let mut map = intmap_proved::IntMap::with_room_for(1000);
@@ -30,8 +30,8 @@ impl<K: IntKey, V> IntMap<K, V> {
     /// The same as [`with_room_for`](Self::with_room_for), but it returns a failure.
     ///
     /// # Errors
-    /// [`Cause::TooLarge`] if more than 2^63 slots are needed, and otherwise [`Cause::Memory`] if an
-    /// allocation fails.
+    /// [`Cause::TooLarge`] if more than 2^63 slots are needed, and otherwise [`Cause::Memory`] if
+    /// an allocation fails.
     ///
     /// Proved of `IntMap::with_room_for`: `state`, `capacity`, `room`, `too_large`.
     pub fn try_with_room_for(pairs: usize) -> Result<IntMap<K, V>, Cause> {
@@ -42,11 +42,11 @@ impl<K: IntKey, V> IntMap<K, V> {
     /// doublings in which they and the present pairs meet the load factor. The cost is
     /// *O*(*n* + *c*), or *O*(1) if the capacity stays.
     ///
-    /// Insertions of so many new keys then add no slots. Ids that follow one another share no slot if
-    /// they and the present keys lie within as many numbers in a row as there are slots. It is proved
-    /// that their insertions then can't fail. Keys that share a slot still allocate:
-    /// [`reserve_insertions`](Self::reserve_insertions) makes room for them too.
-    /// Where [`try_reserve_pairs`](Self::try_reserve_pairs) fails, this call panics or ends the process.
+    /// Insertions of so many new keys then add no slots. Ids that follow one another share no slot
+    /// if they and the present keys lie within as many numbers in a row as there are slots. It is
+    /// proved that their insertions then can't fail. Keys that share a slot still allocate:
+    /// [`reserve_insertions`](Self::reserve_insertions) makes room for them too. Where
+    /// [`try_reserve_pairs`](Self::try_reserve_pairs) fails, this call panics or ends the process.
     ///
     /// ```
     /// let mut map = intmap_proved::IntMap::from([(21u64, 'a')]);
@@ -61,8 +61,8 @@ impl<K: IntKey, V> IntMap<K, V> {
     ///
     /// # Errors
     /// [`Cause::TooLarge`] if there would be more than 2^64 - 1 pairs or more than 2^63 slots are
-    /// needed, and otherwise [`Cause::Memory`] if an allocation fails. The map then stays as it was.
-    /// If the capacity stays, it allocates nothing.
+    /// needed, and otherwise [`Cause::Memory`] if an allocation fails. The map then stays as it
+    /// was. If the capacity stays, it allocates nothing.
     ///
     /// Proved of `IntMap::reserve_pairs`: `reserved`, `room`, `err`, `refused`, `updates`, `len`.
     pub fn try_reserve_pairs(&mut self, additional: usize) -> Result<(), Cause> {
@@ -73,11 +73,11 @@ impl<K: IntKey, V> IntMap<K, V> {
     /// [`reserve_pairs`](Self::reserve_pairs) makes, and memory for as many pairs that share a slot
     /// with another. The cost is *O*(*n* + *c*), or *O*(*n*) if the capacity stays.
     ///
-    /// The next `additional` insertions of absent keys then allocate nothing, so none of them fails, as
-    /// long as no call but insertions, removals and look-ups changes the map. This is tested, not
-    /// proved: contracts don't see the memory of pairs that share a slot.
-    /// Where [`try_reserve_insertions`](Self::try_reserve_insertions) fails, this call panics or ends
-    /// the process.
+    /// The next `additional` insertions of absent keys then allocate nothing, so none of them
+    /// fails, as long as no call but insertions, removals and look-ups changes the map. This is
+    /// tested, not proved: contracts don't see the memory of pairs that share a slot. Where
+    /// [`try_reserve_insertions`](Self::try_reserve_insertions) fails, this call panics or ends the
+    /// process.
     ///
     /// ```
     /// let mut map = intmap_proved::IntMap::from([(0u64, 'a')]);
@@ -95,7 +95,8 @@ impl<K: IntKey, V> IntMap<K, V> {
     ///
     /// # Errors
     /// [`Cause::TooLarge`] if there would be more than 2^64 - 1 pairs or more than 2^63 slots are
-    /// needed, and otherwise [`Cause::Memory`] if an allocation fails. The map then stays as it was.
+    /// needed, and otherwise [`Cause::Memory`] if an allocation fails. The map then stays as it
+    /// was.
     ///
     /// Proved of `IntMap::reserve_insertions`: `reserved`, `room`, `err`, `too_large`, `updates`,
     /// `len`.
@@ -186,9 +187,9 @@ impl<K: IntKey, V> IntMap<K, V> {
         Ok(())
     }
 
-    /// Undoes moves to a smaller map, of which one failed at this pair. The pairs that weren't moved
-    /// are those of its slot that were behind it, and those of later slots. The nodes that the moved
-    /// pairs had are free, so no insertion allocates.
+    /// Undoes moves to a smaller map, of which one failed at this pair. The pairs that weren't
+    /// moved are those of its slot that were behind it, and those of later slots. The nodes that
+    /// the moved pairs had are free, so no insertion allocates.
     fn take_back(&mut self, small: IntMap<K, V>, key: K, value: V) {
         let mask = self.capacity() as u64 - 1;
         let shares = |other: K| (other.number() ^ key.number()) & mask == 0;

@@ -85,8 +85,8 @@ impl<K: IntKey, V> IntMap<K, V> {
         guarded!(&mut self.map, |map| map.reserve(additional))
     }
 
-    /// Returns the load factor: how many pairs there may be for each slot. It is 0.909 at first. The
-    /// cost is *O*(1).
+    /// Returns the load factor: how many pairs there may be for each slot. It is 0.909 at first.
+    /// The cost is *O*(1).
     ///
     /// An insertion checks it only if the pairs are then 4 to 7, 12 to 15, 20 to 23, and so on. In
     /// between there may be more.

@@ -23,8 +23,8 @@ impl<K: IntKey, V> IntMap<K, V> {
     /// keys share a slot.
     ///
     /// Rust lends the elements of a vector one by one in the order in which they lie there. So this
-    /// call first moves the [nodes](IntMap#memory) to where they lie in iteration order. If they lie
-    /// so already, it only reads their links. [`for_each_mut`](Self::for_each_mut) moves none.
+    /// call first moves the [nodes](IntMap#memory) to where they lie in iteration order. If they
+    /// lie so already, it only reads their links. [`for_each_mut`](Self::for_each_mut) moves none.
     ///
     /// ```
     /// let mut map = intmap_proved::IntMap::from([(0u64, 1), (1, 2)]);

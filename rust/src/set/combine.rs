@@ -79,8 +79,8 @@ impl<K: IntKey> IntSet<K> {
         self.set.is_subset(&other.set)
     }
 
-    /// Returns whether each member of `other` is one of this set. It looks the members of `other` up in
-    /// turn, up to the first that is absent from this set.
+    /// Returns whether each member of `other` is one of this set. It looks the members of `other`
+    /// up in turn, up to the first that is absent from this set.
     ///
     /// Proved of `IntSet::is_superset`: `value`.
     ///
@@ -150,8 +150,8 @@ operators! {
     BitAnd bitand = intersection, |(least, _)| least;
 
     /// The members that exactly one of the sets has, inserted in the order of
-    /// [`symmetric_difference`](IntSet::symmetric_difference) into a set that has room for the least
-    /// number that there can be.
+    /// [`symmetric_difference`](IntSet::symmetric_difference) into a set that has room for the
+    /// least number that there can be.
     ///
     /// ```
     /// # use intmap_proved::IntSet;

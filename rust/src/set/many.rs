@@ -21,8 +21,8 @@ impl<K: IntKey> IntSet<K> {
     /// Calls `keep` once for each member, in iteration order, and removes the members for which it
     /// returns `false`. The cost is *O*(*n* + *c*).
     ///
-    /// The others keep their order, and the capacity and the load factor stay. If `keep` panics, the
-    /// set stays whole, with the members that weren't reached.
+    /// The others keep their order, and the capacity and the load factor stay. If `keep` panics,
+    /// the set stays whole, with the members that weren't reached.
     ///
     /// Proved of `IntSet::retain`: `by_key`, `filtered`, `keys`, `state`, `updates`, `len`.
     ///
@@ -50,7 +50,8 @@ impl<K: IntKey> IntSet<K> {
     }
 
     /// Returns an iterator that removes one member at each step and returns it, in iteration order.
-    /// The members that it didn't return stay, in their order. The capacity and the load factor stay.
+    /// The members that it didn't return stay, in their order. The capacity and the load factor
+    /// stay.
     ///
     /// All steps together cost *O*(*n* + *c*).
     ///

@@ -91,13 +91,13 @@ impl<K: IntKey> IntSet<K> {
     }
 
     /// Makes room for `additional` insertions of any keys: the slots that
-    /// [`reserve_members`](Self::reserve_members) makes, and memory for as many members that share a
-    /// slot with another. The cost is *O*(*n* + *c*), or *O*(*n*) if the capacity stays.
+    /// [`reserve_members`](Self::reserve_members) makes, and memory for as many members that share
+    /// a slot with another. The cost is *O*(*n* + *c*), or *O*(*n*) if the capacity stays.
     ///
-    /// The next `additional` insertions of new keys then allocate nothing, so none of them fails, as
-    /// [`IntMap::reserve_insertions`](crate::IntMap::reserve_insertions) says. This is tested, not
-    /// proved. Where [`try_reserve_insertions`](Self::try_reserve_insertions) fails, this call panics
-    /// or ends the process.
+    /// The next `additional` insertions of new keys then allocate nothing, so none of them fails,
+    /// as [`IntMap::reserve_insertions`](crate::IntMap::reserve_insertions) says. This is tested,
+    /// not proved. Where [`try_reserve_insertions`](Self::try_reserve_insertions) fails, this call
+    /// panics or ends the process.
     ///
     /// ```
     /// let mut set = intmap_proved::IntSet::from([0u64]);

@@ -1,5 +1,6 @@
-//! Slots of one pair each in a map that grew, in one that had room, and in one with a node that is free;
-//! and slots of many pairs. Calls one after another return and leave what they do to a plain list.
+//! Slots of one pair each in a map that grew, in one that had room, and in one with a node that is
+//! free; and slots of many pairs. Calls one after another return and leave what they do to a plain
+//! list.
 use crate::list::List;
 use crate::random::Random;
 use crate::table::*;
@@ -20,8 +21,8 @@ fn filled(mut map: Map) -> Map {
     map
 }
 
-/// Keys in order: in a map that grows by insertions; in one that is made with room; and behind a second
-/// pair that has come and gone.
+/// Keys in order: in a map that grows by insertions; in one that is made with room; and behind a
+/// second pair that has come and gone.
 fn forms() -> [Map; 3] {
     let [grown, with_room] = [Map::new(), Map::with_capacity(SLOTS as usize)].map(filled);
     let mut with_free = grown.clone();

@@ -1,4 +1,5 @@
-//! Mutable references to all values, which live at once, in maps whose further pairs lie in any order.
+//! Mutable references to all values, which live at once, in maps whose further pairs lie in any
+//! order.
 use crate::random::Random;
 use intmap_proved::IntMap;
 use std::collections::HashMap;

@@ -21,8 +21,8 @@ pub fn slots_for(pairs: usize, factor: usize) -> usize {
     pairs * 1000 / (factor + 1) + 1
 }
 
-/// The pairs in the order of iteration, with the number of slots, the load factor, and how many numbers
-/// are due to have been read.
+/// The pairs in the order of iteration, with the number of slots, the load factor, and how many
+/// numbers are due to have been read.
 #[derive(Clone, Debug)]
 pub struct List {
     pub pairs: Vec<(u64, u64)>,
@@ -213,7 +213,8 @@ impl List {
         keys.for_each(|key| _ = self.add(key, 0));
     }
 
-    /// Becomes as another one. With as many slots it keeps them, and inserts the pairs of the other.
+    /// Becomes as another one. With as many slots it keeps them, and inserts the pairs of the
+    /// other.
     pub fn copy(&mut self, other: List, insert: fn(&mut List, Key, u64)) {
         if self.slots != other.slots {
             *self = other;

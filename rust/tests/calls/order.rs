@@ -1,5 +1,5 @@
-//! The order of the pairs that closures keep or iterators leave, and the order of drops. The lines of
-//! `table` have the order that each other call leaves.
+//! The order of the pairs that closures keep or iterators leave, and the order of drops. The lines
+//! of `table` have the order that each other call leaves.
 use intmap_proved::IntMap;
 use std::cell::RefCell;
 use std::mem::ManuallyDrop;

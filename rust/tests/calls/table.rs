@@ -1,14 +1,14 @@
 //! Each public call of a map, its entries and a set, on one line: its name, the call on a map, and
-//! the same on a plain list, whose methods count the numbers of keys that are due to be read. A line
-//! that does more than one call says so behind the name. `forms` and `counts` go over the lines, and
-//! `tools/erase --check` finds a call that has none.
+//! the same on a plain list, whose methods count the numbers of keys that are due to be read. A
+//! line that does more than one call says so behind the name. `forms` and `counts` go over the
+//! lines, and `tools/erase --check` finds a call that has none.
 use crate::list::{List, slots_for};
 use crate::told::{Key, Map, Set, Tells};
 use intmap_proved::{Cause, Entry, IntMap, OccupiedEntry, Refused, VacantEntry};
 use std::mem::{replace, take};
 
-/// A call on a map or a set, with a key or what it makes of the key, and on a list. Both return what
-/// they are told, as numbers.
+/// A call on a map or a set, with a key or what it makes of the key, and on a list. Both return
+/// what they are told, as numbers.
 pub type Call<T> = (&'static str, fn(&mut T, Key) -> Vec<u64>, fn(&mut List, Key) -> Vec<u64>);
 
 /// A call on two sets, and on two lists.

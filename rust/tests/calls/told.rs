@@ -1,5 +1,5 @@
-//! A key that counts how often its number is read, and what tests compare: what a map or a set holds,
-//! and what calls return, as numbers.
+//! A key that counts how often its number is read, and what tests compare: what a map or a set
+//! holds, and what calls return, as numbers.
 use intmap_proved::{IntKey, IntMap, IntSet};
 use std::cell::Cell;
 

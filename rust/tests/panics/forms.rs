@@ -1,5 +1,5 @@
-//! A panic in calls on slots of one pair each, and where a second pair comes to one of them. The map had
-//! room from the start, or grew, or has a node without a pair.
+//! A panic in calls on slots of one pair each, and where a second pair comes to one of them. The
+//! map had room from the start, or grew, or has a node without a pair.
 use crate::aimed::{self, KEYS};
 use crate::fuse::{Value, burn, is_whole, live, panics_at};
 use crate::keys::{self, Key};
@@ -18,8 +18,8 @@ fn filled(mut map: Made) -> Made {
     map
 }
 
-/// How a map of keys in order is made: with room for them, without, and so that a second pair has come
-/// and gone.
+/// How a map of keys in order is made: with room for them, without, and so that a second pair has
+/// come and gone.
 const FORMS: &[Form] = &[
     ("with room", || filled(IntMap::with_capacity(SLOTS as usize))),
     ("grown", || filled(IntMap::new())),

@@ -9,8 +9,8 @@ type Pairs = Vec<(u64, u64)>;
 
 const KEYS: u64 = 40;
 
-/// Keys whose low bits are zero, so that more keys share a slot at a larger shift. They are inserted
-/// one by one, or collected.
+/// Keys whose low bits are zero, so that more keys share a slot at a larger shift. They are
+/// inserted one by one, or collected.
 fn maps() -> impl Iterator<Item = Map> {
     [0, 1, 2, 5, 20].into_iter().flat_map(|shift| {
         let pairs = (0..KEYS).map(move |key| (key << shift, key + 100));
@@ -28,8 +28,8 @@ fn is_even(value: u64) -> bool {
     value % 2 == 0
 }
 
-/// A call that burns once for each pair, and what a panic at the place of a pair leaves of the pairs
-/// before it and of the others.
+/// A call that burns once for each pair, and what a panic at the place of a pair leaves of the
+/// pairs before it and of the others.
 type Row = (&'static str, fn(&mut Map), fn(Pairs, Pairs) -> Pairs);
 
 const CALLS: &[Row] = &[

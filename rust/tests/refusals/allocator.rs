@@ -1,5 +1,5 @@
-//! The system's allocator, which fails at the request that a test chooses, or at each above a size, and
-//! counts bytes.
+//! The system's allocator, which fails at the request that a test chooses, or at each above a size,
+//! and counts bytes.
 use std::alloc::{GlobalAlloc, Layout, System};
 use std::cell::Cell;
 use std::ptr::null_mut;
@@ -67,16 +67,16 @@ unsafe impl GlobalAlloc for Failing {
 #[global_allocator]
 static FAILING: Failing = Failing;
 
-/// Makes the call with its `number`-th request failing, or none at 0. Returns also whether there was
-/// such a request.
+/// Makes the call with its `number`-th request failing, or none at 0. Returns also whether there
+/// was such a request.
 pub fn failing_at<T>(number: u64, call: impl FnOnce() -> T) -> (T, bool) {
     LEFT.set(number);
     let returned = call();
     (returned, LEFT.replace(0) == 0 && number > 0)
 }
 
-/// Makes the call with each request for more than `most` bytes failing. Returns also how many bytes it
-/// was granted before the first of these, or in all if there was none.
+/// Makes the call with each request for more than `most` bytes failing. Returns also how many bytes
+/// it was granted before the first of these, or in all if there was none.
 pub fn failing_above<T>(most: usize, call: impl FnOnce() -> T) -> (T, usize) {
     HAS_FAILED.set(false);
     GRANTED.set(0);
@@ -86,8 +86,8 @@ pub fn failing_above<T>(most: usize, call: impl FnOnce() -> T) -> (T, usize) {
     (returned, GRANTED.get())
 }
 
-/// Makes the call with each request for more than `most` bytes failing. Returns also the bytes of the
-/// last of these, or 0.
+/// Makes the call with each request for more than `most` bytes failing. Returns also the bytes of
+/// the last of these, or 0.
 pub fn refused_above<T>(most: usize, call: impl FnOnce() -> T) -> (T, usize) {
     REFUSED.set(0);
     (failing_above(most, call).0, REFUSED.get())

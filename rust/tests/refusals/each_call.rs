@@ -107,8 +107,8 @@ fn a_failed_call_leaves_the_map() {
     }
 }
 
-/// A map that can do with fewer slots: keys of three slots, or keys in slots of their own of which some
-/// will share one.
+/// A map that can do with fewer slots: keys of three slots, or keys in slots of their own of which
+/// some will share one.
 fn with_too_many_slots(are_apart: bool) -> IntMap<u64, u64> {
     let mut map = if are_apart { IntMap::new() } else { IntMap::with_capacity(64) };
     map.extend((0..if are_apart { 58 } else { 0 }).map(|key| (key, key + 100)));
@@ -146,8 +146,8 @@ fn with_room(keys: u64) -> IntMap<u64, u64> {
     map
 }
 
-/// The same in a map that grows by insertions. At its last growth three pairs shared a slot with another,
-/// so it has nodes for three.
+/// The same in a map that grows by insertions. At its last growth three pairs shared a slot with
+/// another, so it has nodes for three.
 fn grown(keys: u64) -> IntMap<u64, u64> {
     let mut map = IntMap::new();
     map.extend((0..keys).map(|key| (key, key + 100)));
@@ -198,9 +198,9 @@ fn growth_requests_nodes_for_the_further_pairs_alone() {
     }
 }
 
-/// A name, how many keys there are before, how many requests the call makes of each map, and the call.
-/// The slot of 25 has a pair, and so has that of 28, which part among 32 slots, and that of 44, which
-/// don't.
+/// A name, how many keys there are before, how many requests the call makes of each map, and the
+/// call. The slot of 25 has a pair, and so has that of 28, which part among 32 slots, and that of
+/// 44, which don't.
 const CALLS_OF_FORMS: &[(&str, u64, [u64; 3], MapCall)] = &[
     ("insert into an empty slot", 13, [0, 0, 0], |map| Ok(map.try_insert(15, 1).map(drop)?)),
     ("insert a second pair", 13, [1, 0, 0], |map| Ok(map.try_insert(25, 1).map(drop)?)),

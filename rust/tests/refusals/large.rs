@@ -1,5 +1,5 @@
-//! Calls whose request for slots fails, which is the largest. Nothing was granted before it, so nothing
-//! was written.
+//! Calls whose request for slots fails, which is the largest. Nothing was granted before it, so
+//! nothing was written.
 use crate::allocator::{bytes, failing_above};
 use intmap_proved::{Cause, Entry, IntMap, IntSet};
 

@@ -29,8 +29,8 @@ impl IntKey for Key {
     }
 }
 
-/// Keys that share a slot of 64, and have another one of 128, which is added; and keys that have slots
-/// of their own.
+/// Keys that share a slot of 64, and have another one of 128, which is added; and keys that have
+/// slots of their own.
 fn keys() -> impl Iterator<Item = Key> {
     (0..SHARED).map(|it| 64 + 128 * it).chain(1..20).map(Key)
 }

@@ -33,8 +33,8 @@ fn filled(mut map: Made, keys: &[u64]) -> Made {
     map
 }
 
-/// How a map of keys in order is made. It has room from the start, or it grows by insertions, or the
-/// first slot has a second pair.
+/// How a map of keys in order is made. It has room from the start, or it grows by insertions, or
+/// the first slot has a second pair.
 const FORMS: &[Form] = &[
     ("with room", |keys| filled(IntMap::with_capacity(16), keys)),
     ("grown", |keys| filled(IntMap::new(), keys)),

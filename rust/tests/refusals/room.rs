@@ -6,8 +6,8 @@ use intmap_proved::{Cause, IntMap, IntSet};
 
 type Map = IntMap<u64, u64>;
 
-/// Load factors in thousandths, and the most pairs with which they are tried: below 1 a pair takes many
-/// slots.
+/// Load factors in thousandths, and the most pairs with which they are tried: below 1 a pair takes
+/// many slots.
 const FACTORS: [(usize, u64); 5] = [(0, 40), (1, 60), (500, 900), (909, 900), (3000, 900)];
 
 const PRESENT: [u64; 7] = [0, 1, 4, 13, 14, 60, 500];
@@ -191,13 +191,14 @@ fn refused_room_for_insertions_leaves_the_map() {
     assert!(few == 1 && seen[2] > 0, "how many maps made 0 to 3 requests: {seen:?}");
 }
 
-/// The least number of slots, from two on, in which so many pairs meet the load factor of a new map.
+/// The least number of slots, from two on, in which so many pairs meet the load factor of a new
+/// map.
 fn least_slots(pairs: u128) -> u128 {
     (1..).map(|bits| 1 << bits).find(|slots| pairs * 1000 / slots <= 909).expect("some do")
 }
 
-/// The last numbers of pairs that meet the load factor in 2 slots, in 4 and so on up to 2^63, each with the
-/// next one, and others between them.
+/// The last numbers of pairs that meet the load factor in 2 slots, in 4 and so on up to 2^63, each
+/// with the next one, and others between them.
 fn numbers_of_pairs() -> impl Iterator<Item = usize> {
     let last = (1..=63).map(|bits| ((910u128 << bits).div_ceil(1000) - 1) as usize);
     let mut random = Random(6);

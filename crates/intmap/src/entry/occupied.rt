@@ -131,10 +131,10 @@ impl<'a, K: IntKey, V, A: Allocator + Copy> OccupiedEntry<'a, K, V, A> {
     /// the closure returns `Ok`, the call returns what is in it, and the pair is gone as after
     /// [`remove`](OccupiedEntry::remove).
     ///
-    /// If the closure returns a value as its error, the one that it got or another, the call returns
-    /// `None`, and the key has the returned value. Its pair is then at the end of its slot, where
-    /// [`IntMap::insert`](crate::IntMap::insert) of a present key puts it. That needs no memory, so
-    /// the call never fails. The closure must be callable at the value of the key.
+    /// If the closure returns a value as its error, the one that it got or another, the call
+    /// returns `None`, and the key has the returned value. Its pair is then at the end of its slot,
+    /// where [`IntMap::insert`](crate::IntMap::insert) of a present key puts it. That needs no
+    /// memory, so the call never fails. The closure must be callable at the value of the key.
     ///
     /// ```text
     /// let mut map = IntMap::from_array(alloc, [(0, 'a'), (4, 'b'), (8, 'c')])?;

@@ -20,7 +20,8 @@ impl<'a, K: IntKey, V, A: Allocator + Copy> VacantEntry<'a, K, V, A> {
         &self.key
     }
 
-    /// The key that was looked up. This ends the entry and leaves the map with the key still absent.
+    /// The key that was looked up. This ends the entry and leaves the map with the key still
+    /// absent.
     ///
     /// ```text
     /// let mut map = IntMap::from_array(alloc, [(21, 'b')])?;

@@ -72,15 +72,17 @@ impl<K: IntKey, V: Drop, A: Allocator + Copy> IntMap<K, V, A> {
         IntMap::of_slots(alloc, capacity.max(LEAST_CAPACITY).next_power_of_two())
     }
 
-    /// An empty map with room for `pairs` pairs, and a load factor of 909 thousandths. Its number of
-    /// slots is the least power of two, from 2 on, in which so many pairs meet the load factor. It is
-    /// what [`reserve_pairs`](IntMap::reserve_pairs) makes of two slots, but allocates the slots once.
+    /// An empty map with room for `pairs` pairs, and a load factor of 909 thousandths. Its number
+    /// of slots is the least power of two, from 2 on, in which so many pairs meet the load factor.
+    /// It is what [`reserve_pairs`](IntMap::reserve_pairs) makes of two slots, but allocates the
+    /// slots once.
     ///
     /// Insertions of keys that follow one another, such as ids, then don't fail, as
-    /// [`reserve_pairs`](IntMap::reserve_pairs) says. Other keys may share a slot, and then allocate.
+    /// [`reserve_pairs`](IntMap::reserve_pairs) says. Other keys may share a slot, and then
+    /// allocate.
     ///
-    /// It fails with [`Cause::TooLarge`] if and only if no capacity up to 2^63 meets the load factor,
-    /// and otherwise with [`Cause::Memory`] if an allocation fails.
+    /// It fails with [`Cause::TooLarge`] if and only if no capacity up to 2^63 meets the load
+    /// factor, and otherwise with [`Cause::Memory`] if an allocation fails.
     ///
     /// ```text
     /// // 14 pairs in 16 slots are 875 thousandths, and 15 are 937

@@ -1,8 +1,7 @@
 //! The figures of a map's table: how full it is, and how its pairs lie in it.
 ghost use Rattle.std.specs.Prelude.{◌≡◌, ℕ, ◌-◌, ◌^◌, ◌<◌, true, Some, List, [], ◌∷◌, ◌++◌, IfOk, IfErr, OnOk, length};
 ghost use Rattle.intmap_table.specs.Bindings.{value_of};
-ghost use Rattle.intmap.specs.Extending.{IsMadeOf};
-ghost use Rattle.intmap.specs.Extending.{IsTally};
+ghost use Rattle.intmap.specs.Extending.{IsMadeOf, IsTally};
 ghost use Rattle.intmap_table.specs.Figures.{load_of, rate_of, collisions_of};
 ghost use Rattle.intmap.specs.Map.{IsMap, IsOutOfRange};
 

@@ -54,14 +54,14 @@ impl<K: IntKey, V: Drop, A: Allocator + Copy> IntMap<K, V, A> {
         Ok(())
     }
 
-    /// Makes room for `additional` pairs more: at once, whatever the length is, the capacity becomes
-    /// the least of itself and its doublings at which as many pairs more meet the load factor. The
-    /// next `additional` insertions of absent keys then leave the capacity, as long as the load
-    /// factor stays.
+    /// Makes room for `additional` pairs more: at once, whatever the length is, the capacity
+    /// becomes the least of itself and its doublings at which as many pairs more meet the load
+    /// factor. The next `additional` insertions of absent keys then leave the capacity, as long as
+    /// the load factor stays.
     ///
-    /// Keys that follow one another, such as ids, are then inserted without failure: each has a slot
-    /// of its own, as long as they and the keys of the map lie within as many numbers in a row as
-    /// there are slots. The insertion of a key whose slot holds a pair may allocate, and fail:
+    /// Keys that follow one another, such as ids, are then inserted without failure: each has a
+    /// slot of its own, as long as they and the keys of the map lie within as many numbers in a row
+    /// as there are slots. The insertion of a key whose slot holds a pair may allocate, and fail:
     /// [`reserve_insertions`](IntMap::reserve_insertions) makes room for such keys too.
     ///
     /// It fails with [`Cause::TooLarge`] if and only if there would be more than 2^64 - 1 pairs, or
@@ -94,13 +94,14 @@ impl<K: IntKey, V: Drop, A: Allocator + Copy> IntMap<K, V, A> {
     }
 
     /// Makes room for `additional` insertions of any keys: the slots that
-    /// [`reserve_pairs`](IntMap::reserve_pairs) makes, and memory for as many pairs that share a slot
-    /// with another. The next `additional` insertions of absent keys then allocate nothing, so none
-    /// of them fails, as long as no call but insertions, removals and look-ups changes the map.
+    /// [`reserve_pairs`](IntMap::reserve_pairs) makes, and memory for as many pairs that share a
+    /// slot with another. The next `additional` insertions of absent keys then allocate nothing, so
+    /// none of them fails, as long as no call but insertions, removals and look-ups changes the
+    /// map.
     ///
     /// It fails as [`reserve_pairs`](IntMap::reserve_pairs) does, and also, with [`Cause::Memory`],
-    /// if the memory for pairs that share a slot is refused. A failed call leaves the map as it was.
-    /// That the insertions don't fail is tested, not proved: contracts don't see this memory.
+    /// if the memory for pairs that share a slot is refused. A failed call leaves the map as it
+    /// was. That the insertions don't fail is tested, not proved: contracts don't see this memory.
     ///
     /// ```text
     /// let mut map: IntMap<u64, char> = IntMap::new(alloc)?;
@@ -153,8 +154,8 @@ impl<K: IntKey, V: Drop, A: Allocator + Copy> IntMap<K, V, A> {
         self.fit(self.len, thousandths, 0)
     }
 
-    /// Makes the slots that meet the load factor with `additional` pairs more, and room for `sharing`
-    /// more pairs that share a slot with another.
+    /// Makes the slots that meet the load factor with `additional` pairs more, and room for
+    /// `sharing` more pairs that share a slot with another.
     fn make_room(&mut self, additional: usize, sharing: usize) -> Result<(), Cause>
         ensures reserved { OnOk result (IsRoomMade K.number_of self.old additional self.new) }
         ensures room { OnOk result (HasRoomInRow K.number_of self.new.walk self.new.capacity
@@ -176,8 +177,8 @@ impl<K: IntKey, V: Drop, A: Allocator + Copy> IntMap<K, V, A> {
         self.fit(pairs, self.factor, sharing)
     }
 
-    /// Makes the slots in which `pairs` pairs meet this load factor, and sets it. It also makes room
-    /// for `sharing` more pairs that share a slot with another.
+    /// Makes the slots in which `pairs` pairs meet this load factor, and sets it. It also makes
+    /// room for `sharing` more pairs that share a slot with another.
     fn fit(&mut self, pairs: usize, thousandths: usize, sharing: usize) -> Result<(), Cause>
         requires { length self.old.walk ≤ pairs }
         ensures meets { OnOk result

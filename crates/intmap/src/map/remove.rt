@@ -4,9 +4,8 @@ ghost use Rattle.std.specs.Option.{option_map};
 ghost use Rattle.std.specs.Iterator.{YieldsFirst};
 ghost use Rattle.intmap_table.specs.Bindings.{value_of, Updates};
 ghost use Rattle.intmap_table.specs.Classes.{slot_number};
-ghost use Rattle.intmap.specs.Map.{IsMap, after_remove, emptied};
+ghost use Rattle.intmap.specs.Map.{IsMap, after_remove, emptied, with_walk};
 ghost use Rattle.intmap_table.specs.Walk.{ArePassed};
-ghost use Rattle.intmap.specs.Map.{with_walk};
 ghost use Rattle.intmap_table.specs.Retaining.{KeepsAt, Retains, TakesPair};
 ghost use Rattle.intmap_table.specs.Taking.{TakesEach};
 ghost use Rattle.intmap.specs.Answering.{AnswersKey, AnswersPair, TestsPairs};
@@ -109,8 +108,8 @@ impl<K: IntKey, V, A: Allocator + Copy> IntMap<K, V, A> {
 
 impl<K: IntKey, V: Drop, A: Allocator + Copy> IntMap<K, V, A> {
     /// Drops all pairs, in iteration order. The capacity, the load factor and both counts stay, and
-    /// the map keeps its memory for later pairs. It goes through the slots that hold a pair, and never
-    /// fails.
+    /// the map keeps its memory for later pairs. It goes through the slots that hold a pair, and
+    /// never fails.
     ///
     /// ```text
     /// let mut map = IntMap::with_capacity(alloc, 128)?;
@@ -153,7 +152,8 @@ impl<K: IntKey, V: Drop, A: Allocator + Copy> IntMap<K, V, A> {
     /// ```
     pub fn retain<F: FnMut(K, &V) -> bool>(&mut self, f: F)
         requires { TakesEach (KeepsAt F.FnMut) (TakesPair F.FnMut) f self.old.walk }
-        // what stays if the closure answers alike in each call; the search reads these in this order
+        // what stays if the closure answers alike in each call; the search reads these in this
+        // order
         ensures by_pair { (q : K) (v : V) (b : Bool) → AnswersPair F.FnMut f K.number_of q v b
             → value_of K.number_of self.old.walk q ≡ Some v
             → value_of K.number_of self.new.walk q ≡ cond b (Some v) None }

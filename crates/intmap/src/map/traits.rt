@@ -76,8 +76,8 @@ impl<K: IntKey, V: Clone, A: Allocator + Copy> IntMap<K, V, A> {
     /// same capacity and load factor. Its own counts begin at zero. This map stays as it is. No key
     /// is compared. Time and memory grow with the number of slots and of pairs.
     ///
-    /// It first allocates the slots, their bits and, if pairs share slots, room for exactly the pairs
-    /// behind the first ones of their slots. Then it clones the values, in iteration order.
+    /// It first allocates the slots, their bits and, if pairs share slots, room for exactly the
+    /// pairs behind the first ones of their slots. Then it clones the values, in iteration order.
     ///
     /// It fails only with [`Cause::Memory`], if one of these allocations or the clone of a value
     /// fails. What was made until then is dropped.

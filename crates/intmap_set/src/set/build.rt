@@ -12,8 +12,9 @@ use intmap::{Cause, IntKey, RefusedPair};
 use std::alloc::Allocator;
 
 impl<K: IntKey, A: Allocator + Copy> IntSet<K, A> {
-    /// Inserts the iterator's keys in turn, each as [`insert`](IntSet::insert) does. The table grows
-    /// only as these insertions make it grow: nothing is reserved ahead. The iterator must end.
+    /// Inserts the iterator's keys in turn, each as [`insert`](IntSet::insert) does. The table
+    /// grows only as these insertions make it grow: nothing is reserved ahead. The iterator must
+    /// end.
     ///
     /// It stops at the first insertion that fails, and returns that key with the cause and the
     /// number of keys before it. Those keys stay members. Each key that was tried was searched for
@@ -92,8 +93,8 @@ impl<K: IntKey, A: Allocator + Copy> IntSet<K, A> {
         }
     }
 
-    /// A set of the array's keys: [`with_capacity`](IntSet::with_capacity) of their number, and then
-    /// [`extend`](IntSet::extend), which counts what it compares.
+    /// A set of the array's keys: [`with_capacity`](IntSet::with_capacity) of their number, and
+    /// then [`extend`](IntSet::extend), which counts what it compares.
     ///
     /// It first allocates a vector, and moves the keys into it. If this allocation fails, it fails
     /// with [`Cause::Memory`]. It also fails if either call fails, with the same cause. A failed

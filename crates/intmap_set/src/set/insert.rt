@@ -50,13 +50,13 @@ impl<K: IntKey, A: Allocator + Copy> IntSet<K, A> {
         })
     }
 
-    /// An empty set with room for `members` members, and a load factor of 909 thousandths. Its number
-    /// of slots is the least power of two, from 2 on, in which so many members meet the load factor.
-    /// It is what [`reserve_members`](IntSet::reserve_members) makes of two slots, but allocates the
-    /// slots once.
+    /// An empty set with room for `members` members, and a load factor of 909 thousandths. Its
+    /// number of slots is the least power of two, from 2 on, in which so many members meet the load
+    /// factor. It is what [`reserve_members`](IntSet::reserve_members) makes of two slots, but
+    /// allocates the slots once.
     ///
-    /// It fails with [`Cause::TooLarge`] if and only if no capacity up to 2^63 meets the load factor,
-    /// and otherwise with [`Cause::Memory`] if an allocation fails.
+    /// It fails with [`Cause::TooLarge`] if and only if no capacity up to 2^63 meets the load
+    /// factor, and otherwise with [`Cause::Memory`] if an allocation fails.
     ///
     /// ```text
     /// // 14 members in 16 slots are 875 thousandths, and 15 are 937
@@ -149,9 +149,9 @@ impl<K: IntKey, A: Allocator + Copy> IntSet<K, A> {
     /// becomes the least of itself and its doublings at which as many members more meet the load
     /// factor. The next `additional` insertions of new keys then leave the capacity.
     ///
-    /// Keys that follow one another, such as ids, are then inserted without failure: each has a slot
-    /// of its own, as long as they and the members lie within as many numbers in a row as there are
-    /// slots. The insertion of a key whose slot holds a member may allocate, and fail:
+    /// Keys that follow one another, such as ids, are then inserted without failure: each has a
+    /// slot of its own, as long as they and the members lie within as many numbers in a row as
+    /// there are slots. The insertion of a key whose slot holds a member may allocate, and fail:
     /// [`reserve_insertions`](IntSet::reserve_insertions) makes room for such keys too.
     ///
     /// It fails with [`Cause::TooLarge`] if and only if there would be more than 2^64 - 1 members,
@@ -182,9 +182,10 @@ impl<K: IntKey, A: Allocator + Copy> IntSet<K, A> {
     }
 
     /// Makes room for `additional` insertions of any keys: the slots that
-    /// [`reserve_members`](IntSet::reserve_members) makes, and memory for as many members that share a
-    /// slot with another. The next `additional` insertions of new keys then allocate nothing, so none
-    /// of them fails, as long as no call but insertions, removals and look-ups changes the set.
+    /// [`reserve_members`](IntSet::reserve_members) makes, and memory for as many members that
+    /// share a slot with another. The next `additional` insertions of new keys then allocate
+    /// nothing, so none of them fails, as long as no call but insertions, removals and look-ups
+    /// changes the set.
     ///
     /// It fails as [`reserve_members`](IntSet::reserve_members) does, and also, with
     /// [`Cause::Memory`], if the memory for members that share a slot is refused. A failed call

@@ -48,8 +48,8 @@ impl<K: IntKey, A: Allocator + Copy> IntSet<K, A> {
         Some(key)
     }
 
-    /// Removes all members. The capacity, the load factor and both counts stay, and the set keeps its
-    /// memory for later members. It goes through the slots that hold a member, and never fails.
+    /// Removes all members. The capacity, the load factor and both counts stay, and the set keeps
+    /// its memory for later members. It goes through the slots that hold a member, and never fails.
     pub fn clear(&mut self)
         ensures state { self.new ≡ record self.old { walk = [] } }
         ensures updates { (q : K) → holds K.number_of self.new.walk q ≡ false }

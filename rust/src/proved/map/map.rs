@@ -56,8 +56,8 @@ impl<K: IntKey, V, A: Allocator + Copy> IntMap<K, V, A> {
         self.table.capacity()
     }
 
-    /// Does nothing. Its contract says what holds of every map, for a function that calls nothing else
-    /// of which a proof could learn that.
+    /// Does nothing. Its contract says what holds of every map, for a function that calls nothing
+    /// else of which a proof could learn that.
     #[inline(always)]
     pub(in crate::proved::map) fn known(&self) {
         let _ = &self.table;
@@ -101,8 +101,8 @@ impl<K: IntKey, V, A: Allocator + Copy> IntMap<K, V, A> {
         kept.into_value()
     }
 
-    /// Removes a located pair and puts the pair of its key and this value at the end of the slot. The
-    /// last pair of the slot takes the place of the removed one. It allocates nothing.
+    /// Removes a located pair and puts the pair of its key and this value at the end of the slot.
+    /// The last pair of the slot takes the place of the removed one. It allocates nothing.
     #[inline(always)]
     pub(in crate::proved::map) fn replace_at(&mut self, at: Location<K>, value: V) -> V {
         self.table.replace_at(at, Kept::new(value)).into_value()

@@ -7,7 +7,8 @@ use core::fmt;
 /// Why a call failed.
 #[derive(Clone, Copy, PartialEq, Eq, Debug)]
 pub enum Cause {
-    /// An allocation failed.
+    /// An allocation failed, or some 2^48 pairs would lie behind the first ones of their slots, for
+    /// which no process has memory today.
     Memory,
     /// The map would need a length above 2^64 - 1, or a capacity above 2^63 slots.
     TooLarge,

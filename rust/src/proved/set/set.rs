@@ -50,8 +50,8 @@ impl<K: IntKey, A: Allocator + Copy> IntSet<K, A> {
         self.map.capacity()
     }
 
-    /// Does nothing. Its contract says what holds of every set. A function calls it if no other call of
-    /// the function tells the proof so.
+    /// Does nothing. Its contract says what holds of every set. A function calls it if no other
+    /// call of the function tells the proof so.
     fn known(&self) {
         let _len = self.map.len();
     }

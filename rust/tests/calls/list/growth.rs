@@ -4,8 +4,8 @@ use crate::told::Key;
 use std::collections::BTreeMap;
 
 impl List {
-    /// The slots that are due once there is one more pair. Load is checked at 4 to 7 pairs, 12 to 15
-    /// and so on.
+    /// The slots that are due once there is one more pair. Load is checked at 4 to 7 pairs, 12 to
+    /// 15 and so on.
     pub(super) fn due_slots(&self) -> usize {
         let len = self.pairs.len() + 1;
         if len % 8 < 4 { self.slots } else { self.least(len, self.factor) }
@@ -17,8 +17,8 @@ impl List {
         self.pairs.sort_by_key(|it| slot_among(it.0, slots));
     }
 
-    /// Growth with a new pair: for its new slot, and for each pair of its old one, up to one that comes
-    /// to the same. The new pair is placed behind all others.
+    /// Growth with a new pair: for its new slot, and for each pair of its old one, up to one that
+    /// comes to the same. The new pair is placed behind all others.
     pub(super) fn store_and_grow(&mut self, key: Key, value: u64, slots: usize) {
         let (old, new) = (self.slot(key.0), slot_among(key.0, slots));
         let mut beside = self.pairs.iter().map(|it| it.0).filter(|it| self.slot(*it) == old);

@@ -9,18 +9,19 @@ pub use intmap_table::table::walk::Cursor;
 use std::alloc::Allocator;
 
 impl<K: IntKey, V, A: Allocator + Copy> IntMap<K, V, A> {
-    /// The first pair of the walk from the cursor on, behind which the cursor moves, or `None` if no
-    /// pair is left. Then the cursor stays.
+    /// The first pair of the walk from the cursor on, behind which the cursor moves, or `None` if
+    /// no pair is left. Then the cursor stays.
     ///
-    /// A walk begins with [`Cursor::start`]. Any cursor will do, whatever happened to the map since:
-    /// it is before the pair at its place in its slot or, if the slot has no such pair, before the
-    /// slots behind. So after an insertion or a removal in a slot that was passed, the walk goes on
-    /// as before. A removal in the cursor's own slot may move a pair to a place that was passed, and
-    /// it isn't shown then. After an insertion that made the map grow, pairs are in other slots, and
-    /// some may be shown again or not at all. The call allocates nothing and never fails.
+    /// A walk begins with [`Cursor::start`]. Any cursor will do, whatever happened to the map
+    /// since: it is before the pair at its place in its slot or, if the slot has no such pair,
+    /// before the slots behind. So after an insertion or a removal in a slot that was passed, the
+    /// walk goes on as before. A removal in the cursor's own slot may move a pair to a place that
+    /// was passed, and it isn't shown then. After an insertion that made the map grow, pairs are in
+    /// other slots, and some may be shown again or not at all. The call allocates nothing and never
+    /// fails.
     ///
-    /// Each call goes past the pairs of the cursor's slot, to count them. So a whole walk takes time
-    /// in the numbers of pairs and slots, and in the square of the pairs of each crowded slot.
+    /// Each call goes past the pairs of the cursor's slot, to count them. So a whole walk takes
+    /// time in the numbers of pairs and slots, and in the square of the pairs of each crowded slot.
     ///
     /// ```text
     /// let map = IntMap::from_array(alloc, [(0, 10), (1, 11), (4, 14)])?;
@@ -46,14 +47,14 @@ impl<K: IntKey, V, A: Allocator + Copy> IntMap<K, V, A> {
         Some((key, kept.get()))
     }
 
-    /// Removes the first pair of the walk from the cursor on and returns it, or returns `None` if no
-    /// pair is left, and then leaves the cursor. Otherwise the cursor is between the pairs that were
-    /// before it and those that were behind the removed one. Both keep their order. As with
+    /// Removes the first pair of the walk from the cursor on and returns it, or returns `None` if
+    /// no pair is left, and then leaves the cursor. Otherwise the cursor is between the pairs that
+    /// were before it and those that were behind the removed one. Both keep their order. As with
     /// [`step`](IntMap::step), any cursor will do.
     ///
     /// The other pairs of the slot behind the removed one move up by one place. The capacity, the
-    /// load factor and both counts stay, and the map keeps its memory. It allocates nothing and never
-    /// fails. It goes past the pairs of the cursor's slot, as `step` does.
+    /// load factor and both counts stay, and the map keeps its memory. It allocates nothing and
+    /// never fails. It goes past the pairs of the cursor's slot, as `step` does.
     ///
     /// ```text
     /// let mut map = IntMap::from_array(alloc, [(0, 10), (4, 14), (8, 18)])?;

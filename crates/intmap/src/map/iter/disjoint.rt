@@ -116,17 +116,18 @@ impl<K: IntKey, V, A: Allocator + Copy> IntMap<K, V, A> {
         (unsafe { &*table }, Lent { mark: PhantomData })
     }
 
-    /// The values of several keys at once, by mutable reference: an iterator that gives one for each
-    /// key, in the order of the keys, or `None` if the key is absent. No two of the keys may have the
-    /// same number.
+    /// The values of several keys at once, by mutable reference: an iterator that gives one for
+    /// each key, in the order of the keys, or `None` if the key is absent. No two of the keys may
+    /// have the same number.
     ///
     /// It allocates nothing. Neither this call nor a step of the iterator fails. This call compares
     /// no key. A step looks its key up as [`get`](IntMap::get) does, and
-    /// [`DisjointMut::next_counted`](crate::iter::DisjointMut::next_counted) counts the comparisons.
+    /// [`DisjointMut::next_counted`](crate::iter::DisjointMut::next_counted) counts the
+    /// comparisons.
     ///
-    /// However far the iterator gets, and even if it is forgotten, each other key keeps its value, and
-    /// the keys, their order, the length, the capacity, the load factor and both counts are what they
-    /// were. No clause says which values these keys have then.
+    /// However far the iterator gets, and even if it is forgotten, each other key keeps its value,
+    /// and the keys, their order, the length, the capacity, the load factor and both counts are
+    /// what they were. No clause says which values these keys have then.
     ///
     /// ```text
     /// let mut map = IntMap::from_array(alloc, [(21, 5), (22, 6)])?;

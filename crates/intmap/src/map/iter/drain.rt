@@ -54,8 +54,9 @@ impl<K: IntKey, V, A: Allocator + Copy> IntMap<K, V, A> {
     /// start. The capacity, the load factor and both counts stay, and the map keeps its memory.
     /// It allocates nothing and never fails.
     ///
-    /// After each step the other pairs of the slot are in their order, so that the map has them even
-    /// if the iterator is forgotten. The time of a step doesn't depend on how many share a slot.
+    /// After each step the other pairs of the slot are in their order, so that the map has them
+    /// even if the iterator is forgotten. The time of a step doesn't depend on how many share a
+    /// slot.
     ///
     /// ```text
     /// let mut map = IntMap::from_array(alloc, [(0, 10), (4, 14), (8, 18)])?;

@@ -1,5 +1,5 @@
 //! Removal of the pairs that a closure picks, one by one.
-ghost use Rattle.std.specs.Prelude.{◌≡◌, ◌+◌, Some, [], length, drop};
+ghost use Rattle.std.specs.Prelude.{◌≡◌, Some, [], length, drop};
 ghost use Rattle.std.specs.Iterator.{item_count};
 ghost use Rattle.intmap_table.specs.Picking.{AsksAt, ExtractsBehind, IsReached, PicksAt};
 ghost use Rattle.intmap_table.specs.Taking.{TakesEach};

@@ -69,8 +69,8 @@ impl<K: IntKey, V: Drop, A: Allocator + Copy> Iterator for IntoKeys<K, V, A> {
     }
 }
 
-/// The values of a map by value, made by [`IntMap::into_values`](crate::IntMap::into_values). Contracts
-/// see it as the list of the values that are left.
+/// The values of a map by value, made by [`IntMap::into_values`](crate::IntMap::into_values).
+/// Contracts see it as the list of the values that are left.
 #[derive(Drop)]
 pub struct IntoValues<K: IntKey, V, A: Allocator + Copy = Global> {
     pairs: IntoIter<K, V, A>,
@@ -106,8 +106,8 @@ impl<K: IntKey, V: Drop, A: Allocator + Copy> IntoIterator for IntMap<K, V, A> {
     ghost into_iter_gives = { λ map it. it ≡ map.walk };
 
     /// An iterator over the pairs by value, in iteration order. Neither this call nor a step of the
-    /// iterator fails. The time of a step doesn't depend on how many pairs share a slot. Dropping the
-    /// iterator drops the pairs that are left.
+    /// iterator fails. The time of a step doesn't depend on how many pairs share a slot. Dropping
+    /// the iterator drops the pairs that are left.
     fn into_iter(self) -> IntoIter<K, V, A>
         ensures into_iter_gives { result ≡ self.walk }
         ensures runs { GivesEach (K × V) }

@@ -5,9 +5,8 @@ ghost use Rattle.std.specs.Prelude.{◌≡◌, List, length};
 ghost use Rattle.std.specs.Borrow.{sem};
 ghost use Rattle.std.specs.Map.{keys_of, values_of};
 ghost use Rattle.intmap.specs.Lending.{map_lends_values};
-ghost use Rattle.intmap.specs.Map.{IsMap};
+ghost use Rattle.intmap.specs.Map.{IsMap, map_with_values};
 ghost use Rattle.intmap_table.specs.Values.{lent_pairs, with_values};
-ghost use Rattle.intmap.specs.Map.{map_with_values};
 
 use crate::map::IntMap;
 use intmap_table::IntKey;

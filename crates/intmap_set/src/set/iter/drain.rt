@@ -52,11 +52,11 @@ impl<'a, K: IntKey, A: Allocator + Copy> Drop for Drain<'a, K, A> {
 impl<K: IntKey, A: Allocator + Copy> IntSet<K, A> {
     ghost use Rattle.intmap_set.specs.Draining.{drained_set, drain_lender};
 
-    /// An iterator that removes one member at each step and returns it, in iteration order. At every
-    /// moment, the members that it returned and then the members that the set has are the walk at the
-    /// start. The capacity, the load factor and both counts stay, and the set keeps its memory. It
-    /// allocates nothing and never fails. The time of a step doesn't depend on how many members share
-    /// a slot.
+    /// An iterator that removes one member at each step and returns it, in iteration order. At
+    /// every moment, the members that it returned and then the members that the set has are the
+    /// walk at the start. The capacity, the load factor and both counts stay, and the set keeps its
+    /// memory. It allocates nothing and never fails. The time of a step doesn't depend on how many
+    /// members share a slot.
     ///
     /// ```text
     /// let mut set = IntSet::from_iter(alloc, [0, 4, 8].into_iter())?;

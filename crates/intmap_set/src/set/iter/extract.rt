@@ -13,8 +13,8 @@ use intmap::iter::Cursor;
 use std::alloc::{Allocator, Global};
 
 impl<K: IntKey, A: Allocator + Copy> IntSet<K, A> {
-    /// The first member from the cursor on, behind which the cursor moves, or `None` if no member is
-    /// left. Then the cursor stays.
+    /// The first member from the cursor on, behind which the cursor moves, or `None` if no member
+    /// is left. Then the cursor stays.
     fn step(&self, at: &mut Cursor) -> Option<K>
         ensures first { MatchOption result
             (drop (passed K.number_of (as_map self.now) at.old) self.now.walk ≡ [])
@@ -30,8 +30,8 @@ impl<K: IntKey, A: Allocator + Copy> IntSet<K, A> {
         Some(*key)
     }
 
-    /// Removes the first member from the cursor on and returns it, or returns `None` if no member is
-    /// left. The members that stay keep their order.
+    /// Removes the first member from the cursor on and returns it, or returns `None` if no member
+    /// is left. The members that stay keep their order.
     fn cut(&mut self, at: &mut Cursor) -> Option<K>
         ensures first { MatchOption result
             (drop (passed K.number_of (as_map self.old) at.old) self.old.walk ≡ [])
@@ -54,9 +54,9 @@ impl<K: IntKey, A: Allocator + Copy> IntSet<K, A> {
         Some(pair.0)
     }
 
-    /// Removes the first member that the closure picks, of those from the cursor on, and returns it.
-    /// The cursor moves on to the member behind it, and `before` becomes the number of members before
-    /// the cursor.
+    /// Removes the first member that the closure picks, of those from the cursor on, and returns
+    /// it. The cursor moves on to the member behind it, and `before` becomes the number of members
+    /// before the cursor.
     fn extract_next<F: FnMut(K) -> bool>(
         &mut self,
         at: &mut Cursor,
@@ -161,8 +161,8 @@ impl<K: IntKey, A: Allocator + Copy> IntSet<K, A> {
     /// keep their order. The capacity, the load factor and both counts stay, and the set keeps its
     /// memory. It allocates nothing and never fails.
     ///
-    /// For each member that it asks about, a step goes past all members of the slot. Where thousands
-    /// share a slot that is slow; `retain` goes past each member once.
+    /// For each member that it asks about, a step goes past all members of the slot. Where
+    /// thousands share a slot that is slow; `retain` goes past each member once.
     ///
     /// ```text
     /// let mut set = IntSet::from_array(alloc, [0, 1, 4])?;

@@ -1,5 +1,5 @@
-//! Insertions at an entry. Some take a closure, which makes the value only if the key is absent, and
-//! may fail to make it. Others return the entry of the key.
+//! Insertions at an entry. Some take a closure, which makes the value only if the key is absent,
+//! and may fail to make it. Others return the entry of the key.
 
 use crate::memory::prelude::*;
 use crate::proved::map::entry::{Entry, OccupiedEntry, VacantEntry};

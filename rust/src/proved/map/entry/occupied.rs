@@ -64,10 +64,10 @@ impl<'a, K: IntKey, V, A: Allocator + Copy> OccupiedEntry<'a, K, V, A> {
     /// the closure returns `Ok`, the call returns what is in it, and the pair is gone as after
     /// [`remove`](OccupiedEntry::remove).
     ///
-    /// If the closure returns a value as its error, the one that it got or another, the call returns
-    /// `None`, and the key has the returned value. Its pair is then at the end of its slot, where
-    /// [`IntMap::insert`](crate::proved::map::IntMap::insert) of a present key puts it. That needs no memory, so
-    /// the call never fails. The closure must be callable at the value of the key.
+    /// If the closure returns a value as its error, the one that it got or another, the call
+    /// returns `None`, and the key has the returned value. Its pair is then at the end of its slot,
+    /// where [`IntMap::insert`](crate::proved::map::IntMap::insert) of a present key puts it. That needs no
+    /// memory, so the call never fails. The closure must be callable at the value of the key.
     pub fn hand_over<R, F: FnOnce(V) -> Result<R, V>>(self, f: F) -> Option<R> {
         let slot = self.slot;
         let place = self.place;

@@ -13,7 +13,8 @@ impl<'a, K: IntKey, V, A: Allocator + Copy> VacantEntry<'a, K, V, A> {
         &self.key
     }
 
-    /// The key that was looked up. This ends the entry and leaves the map with the key still absent.
+    /// The key that was looked up. This ends the entry and leaves the map with the key still
+    /// absent.
     pub fn into_key(self) -> K {
         let VacantEntry { key, .. } = self;
         key

@@ -44,8 +44,8 @@ impl<K: IntKey, V, A: Allocator + Copy> IntMap<K, V, A> {
 
 impl<K: IntKey, V, A: Allocator + Copy> IntMap<K, V, A> {
     /// Drops all pairs, in iteration order. The capacity, the load factor and both counts stay, and
-    /// the map keeps its memory for later pairs. It goes through the slots that hold a pair, and never
-    /// fails.
+    /// the map keeps its memory for later pairs. It goes through the slots that hold a pair, and
+    /// never fails.
     pub fn clear(&mut self) {
         self.table.clear();
         self.len = 0;

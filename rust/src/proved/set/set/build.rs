@@ -6,8 +6,9 @@ use crate::proved::map::{Cause, IntKey, RefusedPair};
 use crate::memory::alloc::Allocator;
 
 impl<K: IntKey, A: Allocator + Copy> IntSet<K, A> {
-    /// Inserts the iterator's keys in turn, each as [`insert`](IntSet::insert) does. The table grows
-    /// only as these insertions make it grow: nothing is reserved ahead. The iterator must end.
+    /// Inserts the iterator's keys in turn, each as [`insert`](IntSet::insert) does. The table
+    /// grows only as these insertions make it grow: nothing is reserved ahead. The iterator must
+    /// end.
     ///
     /// It stops at the first insertion that fails, and returns that key with the cause and the
     /// number of keys before it. Those keys stay members. Each key that was tried was searched for

@@ -37,7 +37,7 @@ impl<K: IntKey, A: Allocator + Copy> IntoIterator for IntSet<K, A> {
     type IntoIter = IntoKeys<K, (), A>;
 
     /// An iterator over the members by value, in iteration order. Neither this call nor a step of
-    /// the iterator fails. The members of a slot are taken out together.
+    /// the iterator fails. The time of a step doesn't depend on how many members share a slot.
     fn into_iter(self) -> IntoKeys<K, (), A> {
         self.map.into_keys()
     }

@@ -19,8 +19,8 @@ impl<K: IntKey, A: Allocator + Copy> IntSet<K, A> {
         Some(key)
     }
 
-    /// Removes all members. The capacity, the load factor and both counts stay, and the set keeps its
-    /// memory for later members. It goes through the slots that hold a member, and never fails.
+    /// Removes all members. The capacity, the load factor and both counts stay, and the set keeps
+    /// its memory for later members. It goes through the slots that hold a member, and never fails.
     pub fn clear(&mut self) {
         self.map.clear();
     }

@@ -29,8 +29,9 @@ impl<K: IntKey, V, A: Allocator + Copy> IntMap<K, V, A> {
     /// start. The capacity, the load factor and both counts stay, and the map keeps its memory.
     /// It allocates nothing and never fails.
     ///
-    /// After each step the other pairs of the slot are in their order, so that the map has them even
-    /// if the iterator is forgotten. The time of a step doesn't depend on how many share a slot.
+    /// After each step the other pairs of the slot are in their order, so that the map has them
+    /// even if the iterator is forgotten. The time of a step doesn't depend on how many share a
+    /// slot.
     pub fn drain(&mut self) -> Drain<'_, K, V, A> {
         self.known();
         Drain { map: self, from: 0 }

@@ -37,8 +37,8 @@ impl<K: IntKey, V, A: Allocator + Copy> Iterator for IntoKeys<K, V, A> {
     }
 }
 
-/// The values of a map by value, made by [`IntMap::into_values`](crate::proved::map::IntMap::into_values). Contracts
-/// see it as the list of the values that are left.
+/// The values of a map by value, made by [`IntMap::into_values`](crate::proved::map::IntMap::into_values).
+/// Contracts see it as the list of the values that are left.
 pub struct IntoValues<K, V, A: Allocator + Copy = Global> {
     pairs: IntoIter<K, V, A>,
 }
@@ -58,8 +58,8 @@ impl<K: IntKey, V, A: Allocator + Copy> IntoIterator for IntMap<K, V, A> {
     type IntoIter = IntoIter<K, V, A>;
 
     /// An iterator over the pairs by value, in iteration order. Neither this call nor a step of the
-    /// iterator fails. The time of a step doesn't depend on how many pairs share a slot. Dropping the
-    /// iterator drops the pairs that are left.
+    /// iterator fails. The time of a step doesn't depend on how many pairs share a slot. Dropping
+    /// the iterator drops the pairs that are left.
     fn into_iter(self) -> IntoIter<K, V, A> {
         IntoIter {
             pairs: self.table.into_pairs(),

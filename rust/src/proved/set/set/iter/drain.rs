@@ -27,11 +27,11 @@ impl<'a, K: IntKey, A: Allocator + Copy> Iterator for Drain<'a, K, A> {
 impl<'a, K: IntKey, A: Allocator + Copy> FusedIterator for Drain<'a, K, A> {}
 
 impl<K: IntKey, A: Allocator + Copy> IntSet<K, A> {
-    /// An iterator that removes one member at each step and returns it, in iteration order. At every
-    /// moment, the members that it returned and then the members that the set has are the walk at the
-    /// start. The capacity, the load factor and both counts stay, and the set keeps its memory. It
-    /// allocates nothing and never fails. The time of a step doesn't depend on how many members share
-    /// a slot.
+    /// An iterator that removes one member at each step and returns it, in iteration order. At
+    /// every moment, the members that it returned and then the members that the set has are the
+    /// walk at the start. The capacity, the load factor and both counts stay, and the set keeps its
+    /// memory. It allocates nothing and never fails. The time of a step doesn't depend on how many
+    /// members share a slot.
     pub fn drain(&mut self) -> Drain<'_, K, A> {
         self.known();
         Drain { set: self, from: 0 }
