@@ -29,7 +29,6 @@ module _ {K V : Type 0} where
   first_value test [] = None
   first_value test (p ∷ L) = cond (test p.0) (Some p.1) (first_value test L)
 
-module _ {K V : Type 0} where
   -- the pairs that a test keeps, in their order
   abbrev pub keep_pairs : (K → V → Bool) → List (K × V) → List (K × V)
   keep_pairs keeps L = filter (λ p. keeps p.0 p.1) L

@@ -1,5 +1,5 @@
 //! Chains of nodes: the pairs of a slot behind its first one, in the order of the links.
-ghost use Rattle.std.specs.Prelude.{◌≡◌, ◌+◌, ◌-◌, ◌^◌, ◌<◌, ◌≤◌, [], ◌∷◌, ◌++◌, ℕ, List, drop, length, position, set, take, slice_index_or, IfOk, IfErr, IsOk, OnErr, OnOk};
+ghost use Rattle.std.specs.Prelude.{◌≡◌, ◌+◌, ◌-◌, ◌^◌, ◌<◌, ◌≤◌, [], ◌∷◌, ◌++◌, length, position, set, slice_index_or, IfOk, IfErr, IsOk, OnErr, OnOk};
 ghost use Rattle.intmap_table.specs.Classes.{same_key};
 ghost use Rattle.intmap_table.specs.Reach.{through_first};
 ghost use Rattle.intmap_table.specs.Tables.Nodes.{Held, chain_of, node_at, node_limit, IsChain, IsChainSet, IsCut, IsLast, IsLastSet, IsPopped, IsReached, Spares};

@@ -163,9 +163,7 @@ impl<P, A: Allocator> Pool<P, A> {
         self.nodes.push_reserved(Node::held(link, pair));
         Ok(at)
     }
-}
 
-impl<P, A: Allocator> Pool<P, A> {
     /// Makes room for `additional` more pairs. If an allocation fails, nothing changes.
     pub(crate) fn reserve(&mut self, additional: usize) -> Result<(), AllocError>
         ensures nodes { self.new.nodes ≡ self.old.nodes }

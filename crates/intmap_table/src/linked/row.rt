@@ -1,5 +1,5 @@
 //! The row of one slot: its first pair, and those that its link leads through.
-ghost use Rattle.std.specs.Prelude.{◌≡◌, ◌+◌, ◌-◌, ◌<◌, ◌≤◌, [], ◌∷◌, ◌++◌, ℕ, List, drop, length, nat_lt, position, swap_remove, take, slice_index_or, IfOk, IfErr, IsOk, OnErr, OnOk};
+ghost use Rattle.std.specs.Prelude.{◌≡◌, ◌+◌, ◌<◌, ◌≤◌, [], ◌∷◌, ◌++◌, List, drop, length, position, swap_remove, take, slice_index_or, IfOk, IfErr, IsOk, OnErr, OnOk};
 ghost use Rattle.intmap_table.specs.Classes.{same_key};
 ghost use Rattle.intmap_table.specs.Reach.{through_first};
 ghost use Rattle.intmap_table.specs.Tables.Nodes.{node_limit, row_in, IsSlot, IsSlotSet};

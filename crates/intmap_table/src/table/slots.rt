@@ -14,7 +14,7 @@ mod refill;
 pub mod walk;
 mod writing;
 
-ghost use Rattle.std.specs.Prelude.{◌≡◌, ◌+◌, ◌^◌, ◌<◌, ◌≤◌, ℕ, [], count_by, length, nat_lt, position, replicate, IfNone, IfOk, IfSome, slice_index_or, vec_capacity};
+ghost use Rattle.std.specs.Prelude.{◌≡◌, ◌+◌, ◌<◌, ◌≤◌, ℕ, [], count_by, length, nat_lt, position, replicate, IfNone, IfOk, IfSome, slice_index_or, vec_capacity};
 ghost use Rattle.intmap_table.specs.Classes.{IsCapacity, same_key};
 ghost use Rattle.intmap_table.specs.Reach.{through_first};
 ghost use Rattle.intmap_table.specs.Tables.Bits.{IsWordFrom};
