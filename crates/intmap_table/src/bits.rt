@@ -27,8 +27,8 @@ impl<A: Allocator> Model for Bits<A> {
     ghost invariant = { λ bits. 64 * length bits.words.items ≤ 2 ^ 63 };
 }
 
-/// The marks of one word that a walk hasn't passed yet, and the place of this word. The walk reads the
-/// next word only once this one has no mark left.
+/// The marks of one word that a walk hasn't passed yet, and the place of this word. The walk reads
+/// the next word only once this one has no mark left.
 #[derive(Drop)]
 pub(crate) struct MarksLeft {
     pub(crate) at: usize,
@@ -134,8 +134,8 @@ impl<A: Allocator> Bits<A> {
 }
 
 impl<A: Allocator + Copy> Bits<A> {
-    /// Bits for `indices` indices, rounded up to whole words. No index is marked. It allocates these
-    /// words alone.
+    /// Bits for `indices` indices, rounded up to whole words. No index is marked. It allocates
+    /// these words alone.
     pub(crate) fn new(alloc: A, indices: usize) -> Result<Bits<A>, AllocError>
         requires { indices ≤ 2 ^ 63 }
         ensures { IfOk result (λ bits. bits ≡ replicate (64 * ((indices + 63) / 64)) false) }

@@ -80,8 +80,8 @@ fn unlink_first_of_several<P, A: Allocator>(
     slot.replace(second)
 }
 
-/// Keeps the pairs behind the first one of a slot for which the closure returns true, in their order,
-/// and returns their number.
+/// Keeps the pairs behind the first one of a slot for which the closure returns true, in their
+/// order, and returns their number.
 #[inline(never)]
 fn retain_behind<K: IntKey, V: Drop, A: Allocator, F: FnMut(K, &V) -> bool>(
     slot: &mut Slot<(Stored<K>, Kept<V>)>,
@@ -185,7 +185,8 @@ fn seek_behind<P, A: Allocator>(pool: &Pool<P, A>, link: usize, place: usize) ->
 }
 
 /// Asks the closure about each pair behind the first one of a slot, from the place on, and removes
-/// the first one that it picks. Those behind it move up, and the place moves on to the first of them.
+/// the first one that it picks. Those behind it move up, and the place moves on to the first of
+/// them.
 fn extract_behind<K: IntKey, V, A: Allocator, F: FnMut(K, &mut V) -> bool>(
     slot: &mut Slot<(Stored<K>, Kept<V>)>,
     link: usize,

@@ -60,7 +60,8 @@ pub(crate) struct Node<P> {
     form: NodeForm<P>,
 }
 
-// Invariant: none is needed. One must stand here, or the kit doesn't follow a reference into the pair.
+// Invariant: none is needed. One must stand here, or the kit doesn't follow a reference into the
+// pair.
 impl<P> Model for Node<P> {
     ghost use Rattle.std.specs.Prelude.{⊤};
     ghost use Rattle.intmap_table.specs.Tables.Nodes.{Node, node_of};
@@ -188,7 +189,8 @@ impl<K: IntKey, X> Node<(Stored<K>, X)> {
 }
 
 impl<K: IntKey, V> Node<(Stored<K>, Kept<V>)> {
-    /// Calls the closure at the pair of a node that holds one, with a mutable reference to its value.
+    /// Calls the closure at the pair of a node that holds one, with a mutable reference to its
+    /// value.
     #[inline(always)]
     pub(crate) fn write<F: FnMut(K, &mut V)>(&mut self, f: &mut F)
         requires { (l : ℕ) × (p : K × V) × (self.old ≡ Held l p) × TakesPairMut F.FnMut f.old p }

@@ -119,8 +119,8 @@ impl<P, A: Allocator> Pool<P, A> {
         pair
     }
 
-    /// Puts a pair with a link into a node that is free, or into a new one, and returns which. If an
-    /// allocation fails, it returns the pair.
+    /// Puts a pair with a link into a node that is free, or into a new one, and returns which. If
+    /// an allocation fails, it returns the pair.
     #[inline(always)]
     pub(crate) fn add(&mut self, link: usize, pair: P) -> Result<usize, P>
         requires { link < 2 ^ 48 }
@@ -220,7 +220,8 @@ impl<K: IntKey, X, A: Allocator> Pool<(Stored<K>, X), A> {
 }
 
 impl<K: IntKey, V, A: Allocator> Pool<(Stored<K>, Kept<V>), A> {
-    /// Calls the closure at the pair of a node that holds one, with a mutable reference to its value.
+    /// Calls the closure at the pair of a node that holds one, with a mutable reference to its
+    /// value.
     #[inline(always)]
     pub(crate) fn write<F: FnMut(K, &mut V)>(&mut self, at: usize, f: &mut F)
         requires { (n : ℕ) × (p : K × V) × (node_at self.old.nodes at ≡ Held n p)

@@ -25,7 +25,8 @@ pub(crate) struct Slot<P> {
     form: SlotForm<P>,
 }
 
-// Invariant: none is needed. One must stand here, or the kit doesn't follow a reference into the pair.
+// Invariant: none is needed. One must stand here, or the kit doesn't follow a reference into the
+// pair.
 impl<P> Model for Slot<P> {
     ghost use Rattle.std.specs.Prelude.{⊤};
     ghost use Rattle.intmap_table.specs.Tables.Nodes.{Slot, slot_of_form};
@@ -159,8 +160,8 @@ impl<K: IntKey, X> Slot<(Stored<K>, X)> {
 }
 
 impl<K: IntKey, V> Slot<(Stored<K>, Kept<V>)> {
-    /// Calls the closure at the first pair of a slot that holds one, with a mutable reference to its
-    /// value.
+    /// Calls the closure at the first pair of a slot that holds one, with a mutable reference to
+    /// its value.
     #[inline(always)]
     pub(crate) fn write<F: FnMut(K, &mut V)>(&mut self, f: &mut F)
         requires { (l : ℕ) × (p : K × V) × (self.old ≡ Filled l p) × TakesPairMut F.FnMut f.old p }

@@ -11,8 +11,8 @@ pub(in crate::proved::table) struct Bits<A: Allocator> {
     words: Vec<u64, A>,
 }
 
-/// The marks of one word that a walk hasn't passed yet, and the place of this word. The walk reads the
-/// next word only once this one has no mark left.
+/// The marks of one word that a walk hasn't passed yet, and the place of this word. The walk reads
+/// the next word only once this one has no mark left.
 pub(in crate::proved::table) struct MarksLeft {
     pub(in crate::proved::table) at: usize,
     pub(in crate::proved::table) word: u64,
@@ -95,8 +95,8 @@ impl<A: Allocator> Bits<A> {
 }
 
 impl<A: Allocator + Copy> Bits<A> {
-    /// Bits for `indices` indices, rounded up to whole words. No index is marked. It allocates these
-    /// words alone.
+    /// Bits for `indices` indices, rounded up to whole words. No index is marked. It allocates
+    /// these words alone.
     pub(in crate::proved::table) fn new(alloc: A, indices: usize) -> Result<Bits<A>, AllocError> {
         let words = vec![in alloc; 0u64; indices.div_ceil(BITS)]?;
         Ok(Bits { words })

@@ -108,8 +108,8 @@ fn move_row<K: IntKey, X, A: Allocator>(
     }
 }
 
-/// Moves the pairs of all old slots, slot after slot, to their new slots. The bits mark the old slots
-/// that hold a pair, and stay.
+/// Moves the pairs of all old slots, slot after slot, to their new slots. The bits mark the old
+/// slots that hold a pair, and stay.
 fn move_rows<K: IntKey, X, A: Allocator>(
     bits: &Bits<A>,
     slots: &mut Vec<Slot<(Stored<K>, X)>, A>,
@@ -187,7 +187,8 @@ impl<K: IntKey, X, A: Allocator> Slots<K, X, A> {
 }
 
 impl<K: IntKey, X: Drop, A: Allocator + Copy> Slots<K, X, A> {
-    /// Makes room for `additional` more pairs that share a slot. If an allocation fails, nothing changes.
+    /// Makes room for `additional` more pairs that share a slot. If an allocation fails, nothing
+    /// changes.
     pub(crate) fn reserve(&mut self, additional: usize) -> Result<(), AllocError>
         ensures rows { self.new.rows ≡ self.old.rows }
         ensures room { OnOk result (additional ≤ self.new.room) }
@@ -197,8 +198,8 @@ impl<K: IntKey, X: Drop, A: Allocator + Copy> Slots<K, X, A> {
         self.pool.reserve(additional)
     }
 
-    /// Moves all pairs, in the order of the walk, to their slots among `capacity` slots, and makes room
-    /// for `additional` more pairs that share a slot. If an allocation fails, no pair moves.
+    /// Moves all pairs, in the order of the walk, to their slots among `capacity` slots, and makes
+    /// room for `additional` more pairs that share a slot. If an allocation fails, no pair moves.
     pub(crate) fn grow(
         &mut self,
         capacity: usize,

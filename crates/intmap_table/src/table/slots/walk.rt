@@ -20,7 +20,8 @@ pub struct Pairs<'a, K: IntKey, X, A: Allocator> {
     pub(super) pool: &'a Pool<(Stored<K>, X), A>,
 }
 
-// Invariant: the links lead through pairs, and each number that is left is that of a slot with a pair.
+// Invariant: the links lead through pairs, and each number that is left is that of a slot with a
+// pair.
 impl<'a, K: IntKey, X, A: Allocator> Model for Pairs<'a, K, X, A> {
     ghost use Rattle.std.specs.Prelude.{List, ◌++◌};
     ghost use Rattle.intmap_table.specs.Tables.Nodes.{chain_of, rows_in, IsWalk};

@@ -127,7 +127,8 @@ impl<K: IntKey, X> Node<(Stored<K>, X)> {
 }
 
 impl<K: IntKey, V> Node<(Stored<K>, Kept<V>)> {
-    /// Calls the closure at the pair of a node that holds one, with a mutable reference to its value.
+    /// Calls the closure at the pair of a node that holds one, with a mutable reference to its
+    /// value.
     #[inline(always)]
     pub(in crate::proved::table) fn write<F: FnMut(K, &mut V)>(&mut self, f: &mut F) {
         match &mut self.form {

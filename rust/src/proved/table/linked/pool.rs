@@ -70,8 +70,8 @@ impl<P, A: Allocator> Pool<P, A> {
         pair
     }
 
-    /// Puts a pair with a link into a node that is free, or into a new one, and returns which. If an
-    /// allocation fails, it returns the pair.
+    /// Puts a pair with a link into a node that is free, or into a new one, and returns which. If
+    /// an allocation fails, it returns the pair.
     #[inline(always)]
     pub(in crate::proved::table) fn add(&mut self, link: usize, pair: P) -> Result<usize, P> {
         if self.spare == 0 {
@@ -97,9 +97,7 @@ impl<P, A: Allocator> Pool<P, A> {
         self.nodes.push_reserved(Node::held(link, pair));
         Ok(at)
     }
-}
 
-impl<P, A: Allocator> Pool<P, A> {
     /// Makes room for `additional` more pairs. If an allocation fails, nothing changes.
     pub(in crate::proved::table) fn reserve(&mut self, additional: usize) -> Result<(), AllocError> {
         if additional <= self.spare {
@@ -137,7 +135,8 @@ impl<K: IntKey, X, A: Allocator> Pool<(Stored<K>, X), A> {
 }
 
 impl<K: IntKey, V, A: Allocator> Pool<(Stored<K>, Kept<V>), A> {
-    /// Calls the closure at the pair of a node that holds one, with a mutable reference to its value.
+    /// Calls the closure at the pair of a node that holds one, with a mutable reference to its
+    /// value.
     #[inline(always)]
     pub(in crate::proved::table) fn write<F: FnMut(K, &mut V)>(&mut self, at: usize, f: &mut F) {
         self.nodes[at].write(f);

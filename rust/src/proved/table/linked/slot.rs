@@ -107,8 +107,8 @@ impl<K: IntKey, X> Slot<(Stored<K>, X)> {
 }
 
 impl<K: IntKey, V> Slot<(Stored<K>, Kept<V>)> {
-    /// Calls the closure at the first pair of a slot that holds one, with a mutable reference to its
-    /// value.
+    /// Calls the closure at the first pair of a slot that holds one, with a mutable reference to
+    /// its value.
     #[inline(always)]
     pub(in crate::proved::table) fn write<F: FnMut(K, &mut V)>(&mut self, f: &mut F) {
         match &mut self.form {

@@ -1,5 +1,5 @@
-//! Calls with closures, in the order of the walk: `retain`, one step of `extract_if`, and writes to each
-//! value.
+//! Calls with closures, in the order of the walk: `retain`, one step of `extract_if`, and writes to
+//! each value.
 
 use crate::memory::prelude::*;
 use crate::proved::table::kept::Kept;
@@ -86,8 +86,9 @@ fn extract_slots<K: IntKey, V, A: Allocator, F: FnMut(K, &mut V) -> bool>(
 }
 
 impl<K: IntKey, V, A: Allocator> Table<K, Kept<V>, A> {
-    /// Asks the closure about each pair that is left, in the order of the walk, and removes the first
-    /// one that it picks. The closure may write each value. The pairs that stay keep their order.
+    /// Asks the closure about each pair that is left, in the order of the walk, and removes the
+    /// first one that it picks. The closure may write each value. The pairs that stay keep their
+    /// order.
     pub fn extract_next<F: FnMut(K, &mut V) -> bool>(
         &mut self,
         at: &mut Progress,

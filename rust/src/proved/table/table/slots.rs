@@ -2,9 +2,10 @@
 //! of each slot, its row, and how many more pairs that share a slot need no allocation. Which slots
 //! hold a pair is known here alone.
 //!
-//! `pairs` has the calls on a pair of one slot, `closures` those with a closure, `writing` that which
-//! lends a value and that which drops all pairs, `walk` has the pairs by reference, and `clone` copies
-//! the slots. Of growth, `grow` goes over the old slots, and `refill` puts pairs into the new ones.
+//! `pairs` has the calls on a pair of one slot, `closures` those with a closure, `writing` that
+//! which lends a value and that which drops all pairs, `walk` has the pairs by reference, and
+//! `clone` copies the slots. Of growth, `grow` goes over the old slots, and `refill` puts pairs
+//! into the new ones.
 
 mod clone;
 mod closures;
