@@ -2,7 +2,7 @@
 use Rattle.std.proofs.Common.{◌≡◌, ◌≢◌, ℕ, ◌+◌, Bool, true, false, List, [], ◌∷◌, ◌++◌, length, get_or, set, refl, sym, ap, ◌∙◌, subst, arith}
 use Rattle.std.proofs.lemmas.List.{length-append, append_assoc}
 use Rattle.std.proofs.Math.Seq.{set-append_seam}
-use Rattle.intmap_table.specs.Tables.Nodes.{Node, Free, Held, Pool, nowhere, node_at, Path, Leads, chain_of, IsChain, IsReached, Misses, Spares, IsAdded, IsReleased, IsChanged, IsChainSet, IsPopped, IsCut, IsLast, IsLastSet}
+use Rattle.intmap_table.specs.Tables.Nodes.{Node, Free, Held, Pool, nowhere, node_at, Path, Leads, chain_of, IsChain, IsNodeAt, Misses, Spares, IsAdded, IsReleased, IsChanged, IsChainSet, IsPopped, IsCut, IsLast, IsLastSet}
 use Rattle.intmap_table.proofs.Nodes.NodeLemmas.{node_at-set_held, stop_free}
 use Rattle.intmap_table.proofs.Nodes.PathLemmas.{stop_nowhere, Path-append, Path-before, Path-behind, Path-behind-two, SameBut, SameBut-set, chain_is, IsChain-leads, Chain-next}
 
@@ -72,7 +72,7 @@ module _ {P : Type 0} where
 
   -- the node before another still holds its pair once that one is released
   pub Pop-keeps : (cs : List (Node P)) (l i k m : ℕ) (p : P) (n : ℕ) (q : P) (x : Node P) (ds : List (Node P))
-      → IsReached cs l i k → node_at cs k ≡ Held m p → node_at cs m ≡ Held n q → ds ≡ set cs m x → node_at ds k ≡ Held m p
+      → IsNodeAt cs l i k → node_at cs k ≡ Held m p → node_at cs m ≡ Held n q → ds ≡ set cs m x → node_at ds k ≡ Held m p
   Pop-keeps cs l i k m p n q x ds r at_k at_m is_ds =
       let behind = Chain-next cs k m p r.is at_k in
       let next = Chain-next cs m n q behind.is at_m in
@@ -82,7 +82,7 @@ module _ {P : Type 0} where
 
   -- the node behind another one is released, and that one has its link
   pub Cut-behind : (a : Pool P) (l i k m : ℕ) (p : P) (n : ℕ) (q : P) (b : Pool P) (d : Pool P)
-      → IsReached a.nodes l i k → node_at a.nodes k ≡ Held m p → node_at a.nodes m ≡ Held n q → IsReleased a m q b → IsChanged b k n p d → IsCut a l (i + 1) q d l
+      → IsNodeAt a.nodes l i k → node_at a.nodes k ≡ Held m p → node_at a.nodes m ≡ Held n q → IsReleased a m q b → IsChanged b k n p d → IsCut a l (i + 1) q d l
   Cut-behind a l i k m p n q b d r at_k at_m out changed =
       let cs = a.nodes in let ds = b.nodes in let es = d.nodes in
       let behind = Chain-next cs k m p r.is at_k in
@@ -122,7 +122,7 @@ module _ {P : Type 0} where
       }
 
   pub Cut-out : (a : Pool P) (l i k m : ℕ) (p : P) (n : ℕ) (r q : P) (b : Pool P) (n' : ℕ) (p' : P) (d : Pool P)
-      → IsReached a.nodes l i k → node_at a.nodes k ≡ Held m p → node_at a.nodes m ≡ Held n r → IsReleased a m q b → node_at b.nodes k ≡ Held n' p' → IsChanged b k n p' d → IsCut a l (i + 1) q d l
+      → IsNodeAt a.nodes l i k → node_at a.nodes k ≡ Held m p → node_at a.nodes m ≡ Held n r → IsReleased a m q b → node_at b.nodes k ≡ Held n' p' → IsChanged b k n p' d → IsCut a l (i + 1) q d l
   Cut-out a l i k m p n r q b n' p' d reached at_k at_m out now_k changed =
       let twice : Held n r ≡ Held out.link q = sym at_m ∙ out.was in
       let pair : r ≡ q = cc in
@@ -176,7 +176,7 @@ module _ {P : Type 0} where
       }
 
   -- a node has another pair
-  pub Set-swap : (a : Pool P) (l i c n : ℕ) (r q : P) (b : Pool P) → IsReached a.nodes l i c → node_at a.nodes c ≡ Held n r → IsChanged a c n q b → IsChainSet a l (set (chain_of a.nodes l) i q) b l
+  pub Set-swap : (a : Pool P) (l i c n : ℕ) (r q : P) (b : Pool P) → IsNodeAt a.nodes l i c → node_at a.nodes c ≡ Held n r → IsChanged a c n q b → IsChainSet a l (set (chain_of a.nodes l) i q) b l
   Set-swap a l i c n r q b at is changed =
       let cs = a.nodes in let es = b.nodes in
       let next = Chain-next cs c n r at.is is in
@@ -201,8 +201,8 @@ module _ {P : Type 0} where
   get_or_seam [] y ys = refl
   get_or_seam (x ∷ xs) y ys = get_or_seam xs y ys
 
-  pub Reached-value : (cs : List (Node P)) (l i c n : ℕ) (p : P) → IsReached cs l i c → node_at cs c ≡ Held n p → p ≡ get_or (chain_of cs l) i p
-  Reached-value cs l i c n p at is =
+  pub NodeAt-value : (cs : List (Node P)) (l i c n : ℕ) (p : P) → IsNodeAt cs l i c → node_at cs c ≡ Held n p → p ≡ get_or (chain_of cs l) i p
+  NodeAt-value cs l i c n p at is =
       let next = Chain-next cs c n p at.is is in
       let two : chain_of cs l ≡ at.before ++ p ∷ chain_of cs n = at.pairs ∙ ap (λ ps. at.before ++ ps) next.pairs in
       sym (ap (λ ps. get_or ps i p) two ∙ ap (λ j. get_or (at.before ++ p ∷ chain_of cs n) j p) (sym at.len) ∙ get_or_seam at.before p (chain_of cs n))
@@ -214,7 +214,7 @@ module _ {P : Type 0} where
       let twice : Held nowhere last.pair ≡ Held n r = sym last.is ∙ at in
       let pair : last.pair ≡ r = cc in
       let tail : chain_of cs c ≡ last.pair ∷ [] = chain_is cs c (last.pair ∷ []) (nowhere, last.is, refl) in
-      let reached : IsReached cs l i c = record {
+      let reached : IsNodeAt cs l i c = record {
         before = last.before;
         pairs = last.pairs ∙ ap (λ ps. last.before ++ ps) (sym tail);
         len = last.len;

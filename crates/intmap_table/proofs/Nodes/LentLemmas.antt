@@ -2,13 +2,13 @@
 use Rattle.std.proofs.Common.{◌≡◌, ℕ, zero, suc, ◌-◌, ◌<◌, Bool, List, [], ◌∷◌, length, get_or, set, refl, sym, ap, ◌∙◌, subst, arith}
 use Rattle.std.proofs.lemmas.List.{set-get_or, get_or_default}
 use Rattle.intmap_table.specs.Classes.{slot_number}
-use Rattle.intmap_table.specs.Tables.Nodes.{Held, Slot, Empty, Filled, Pool, node_at, chain_of, row_in, rows_in, slot_with, write_node, IsChain, IsReached, IsSlot, IsSlotSet}
+use Rattle.intmap_table.specs.Tables.Nodes.{Held, Slot, Empty, Filled, Pool, node_at, chain_of, row_in, rows_in, slot_with, write_node, IsChain, IsNodeAt, IsSlot, IsSlotSet}
 use Rattle.intmap_table.specs.Tables.Rows.{Contents, write_rows, AreRows}
 use Rattle.intmap_table.specs.Tables.Slots.{write_at}
 use Rattle.intmap_table.proofs.Tables.FilledLemmas.{row-within}
-use Rattle.intmap_table.proofs.Nodes.ChainLemmas.{Reached-value}
+use Rattle.intmap_table.proofs.Nodes.ChainLemmas.{NodeAt-value}
 use Rattle.intmap_table.proofs.Nodes.LinkedLemmas.{HaveRows, IsRow, Row-of, Row-kept}
-use Rattle.intmap_table.proofs.Nodes.PathLemmas.{Reached-some}
+use Rattle.intmap_table.proofs.Nodes.PathLemmas.{NodeAt-some}
 use Rattle.intmap_table.proofs.Nodes.SlotLemmas.{get_or-behind}
 use Rattle.intmap_table.proofs.Nodes.WrittenLemmas.{Written-first, Written-behind, AreHome-write_at}
 
@@ -54,8 +54,8 @@ module _ {K X : Type 0} (number : K → ℕ) (slots : List (Slot (K × X))) (a :
   pairs l first is = sym row.is ∙ ap (row_in a.nodes) is
 
   -- a node that is reached from there holds the pair at place j
-  pub Lent-node : (l : ℕ) (first : K × X) (c : ℕ) → s ≡ Filled l first → 0 < j → IsReached a.nodes l (j - 1) c → (n : ℕ) × (p : K × X) × (node_at a.nodes c ≡ Held n p)
-  Lent-node l first c is some at = let len = ap length (pairs l first is) in Reached-some a.nodes l (j - 1) c at (omega (arith, len, within, some))
+  pub Lent-node : (l : ℕ) (first : K × X) (c : ℕ) → s ≡ Filled l first → 0 < j → IsNodeAt a.nodes l (j - 1) c → (n : ℕ) × (p : K × X) × (node_at a.nodes c ≡ Held n p)
+  Lent-node l first c is some at = let len = ap length (pairs l first is) in NodeAt-some a.nodes l (j - 1) c at (omega (arith, len, within, some))
 
   -- the slots with a value written in this slot
   written : (v : X) (b : Pool (K × X)) (t : Slot (K × X)) → IsSlotSet a s (write_at (row_in a.nodes s) j v) b t → HaveRows number (set slots i t) b marks mask (write_rows (rows_in slots a.nodes) i j v)
@@ -73,7 +73,7 @@ module _ {K X : Type 0} (number : K → ℕ) (slots : List (Slot (K × X))) (a :
       written v a (slot_with s v) (subst (λ k. IsSlotSet a s (write_at (row_in a.nodes s) k v) a (slot_with s v)) (sym front) (Written-first a s v row.chain))
 
   -- the value of a pair behind it is written
-  pub Lent-in_node : (v : X) (l : ℕ) (first : K × X) (c n : ℕ) (p : K × X) → s ≡ Filled l first → 0 < j → IsReached a.nodes l (j - 1) c → node_at a.nodes c ≡ Held n p
+  pub Lent-in_node : (v : X) (l : ℕ) (first : K × X) (c n : ℕ) (p : K × X) → s ≡ Filled l first → 0 < j → IsNodeAt a.nodes l (j - 1) c → node_at a.nodes c ≡ Held n p
       → HaveRows number slots (record a { nodes = write_node a.nodes c v }) marks mask (write_rows (rows_in slots a.nodes) i j v)
   Lent-in_node v l first c n p is some at held =
       let b : Pool (K × X) = record a { nodes = write_node a.nodes c v } in
@@ -87,12 +87,12 @@ module _ {K X : Type 0} (number : K → ℕ) (slots : List (Slot (K × X))) (a :
       is.3 ∙ ap (λ k. (get_or (is.1 ∷ chain_of a.nodes is.0) k q).1) (sym front) ∙ ap (λ ps. (get_or ps j q).1) (sym (pairs is.0 is.1 is.2))
 
   -- and of that of a pair behind it
-  pub Lent-node_value : (w : X) (l : ℕ) (first : K × X) (c : ℕ) → s ≡ Filled l first → 0 < j → IsReached a.nodes l (j - 1) c
+  pub Lent-node_value : (w : X) (l : ℕ) (first : K × X) (c : ℕ) → s ≡ Filled l first → 0 < j → IsNodeAt a.nodes l (j - 1) c
       → (n : ℕ) × (p : K × X) × (node_at a.nodes c ≡ Held n p) × (w ≡ p.1) → (q : K × X) → w ≡ (get_or (get_or (rows_in slots a.nodes) i []) j q).1
   Lent-node_value w l first c is some at held q =
       let row_is = pairs l first is in
       let len = ap length row_is in
       let p = held.1 in
       let less : j - 1 < length (chain_of a.nodes l) = omega (arith, len, within, some) in
-      held.3 ∙ ap (λ (r : K × X). r.1) (Reached-value a.nodes l (j - 1) c held.0 p at held.2 ∙ get_or_default (chain_of a.nodes l) (j - 1) p q less
+      held.3 ∙ ap (λ (r : K × X). r.1) (NodeAt-value a.nodes l (j - 1) c held.0 p at held.2 ∙ get_or_default (chain_of a.nodes l) (j - 1) p q less
       ∙ sym (get_or-behind first (chain_of a.nodes l) j q some) ∙ ap (λ ps. get_or ps j q) (sym row_is))

@@ -3,7 +3,7 @@ use Rattle.std.proofs.Common.{◌≡◌, ◌≢◌, ℕ, zero, suc, ◌+◌, ◌
 use Rattle.std.specs.Prelude.{sum_by}
 use Rattle.std.proofs.lemmas.List.{length-append, append_assoc, get_or-take, length-take}
 use Rattle.std.proofs.lemmas.List.Sums.{sum_by-set, sum_by-cons}
-use Rattle.intmap_table.specs.Tables.Nodes.{Node, Free, Held, node_limit, nowhere, node_at, Path, Leads, onward, chain_in, chain_of, IsChain, IsReached, IsLast}
+use Rattle.intmap_table.specs.Tables.Nodes.{Node, Free, Held, node_limit, nowhere, node_at, Path, Leads, onward, chain_in, chain_of, IsChain, IsNodeAt, IsLast}
 use Rattle.intmap_table.proofs.Nodes.NodeLemmas.{Stop, node_at-below, node_at-beyond, node_at-set_other, held_below, held_limit, stop_beyond}
 
 module _ {P : Type 0} where
@@ -195,11 +195,11 @@ module _ {P : Type 0} where
   pub IsChain-none : (cs : List (Node P)) → IsChain cs nowhere
   IsChain-none cs = IsChain-leads cs nowhere [] refl
 
-  pub Reached-start : (cs : List (Node P)) (l : ℕ) → IsChain cs l → IsReached cs l 0 l
-  Reached-start cs l is = record { before = []; pairs = refl; len = refl; path = refl; is = is }
+  pub NodeAt-start : (cs : List (Node P)) (l : ℕ) → IsChain cs l → IsNodeAt cs l 0 l
+  NodeAt-start cs l is = record { before = []; pairs = refl; len = refl; path = refl; is = is }
 
-  pub Reached-next : (cs : List (Node P)) (from i l n : ℕ) (p : P) → IsReached cs from i l → node_at cs l ≡ Held n p → IsReached cs from (i + 1) n
-  Reached-next cs from i l n p r is =
+  pub NodeAt-next : (cs : List (Node P)) (from i l n : ℕ) (p : P) → IsNodeAt cs from i l → node_at cs l ≡ Held n p → IsNodeAt cs from (i + 1) n
+  NodeAt-next cs from i l n p r is =
       let next = Chain-next cs l n p r.is is in
       let sum = length-append r.before (p ∷ []) in
       record {
@@ -210,25 +210,25 @@ module _ {P : Type 0} where
         is = next.is;
       }
 
-  pub Reached-len : (cs : List (Node P)) (from i l : ℕ) → IsReached cs from i l → length (chain_of cs from) ≡ i + length (chain_of cs l)
-  Reached-len cs from i l r =
+  pub NodeAt-len : (cs : List (Node P)) (from i l : ℕ) → IsNodeAt cs from i l → length (chain_of cs from) ≡ i + length (chain_of cs l)
+  NodeAt-len cs from i l r =
       let sum = length-append r.before (chain_of cs l) in
       let all = ap length r.pairs in
       omega (arith, sum, all, r.len)
 
   -- where fewer pairs are passed than there are, one is held
-  pub Reached-some : (cs : List (Node P)) (from i l : ℕ) → IsReached cs from i l → i < length (chain_of cs from) → (n : ℕ) × (p : P) × (node_at cs l ≡ Held n p)
-  Reached-some cs from i l r less = let all = Reached-len cs from i l r in Chain-first cs l r.is (omega (arith, all, less))
+  pub NodeAt-some : (cs : List (Node P)) (from i l : ℕ) → IsNodeAt cs from i l → i < length (chain_of cs from) → (n : ℕ) × (p : P) × (node_at cs l ≡ Held n p)
+  NodeAt-some cs from i l r less = let all = NodeAt-len cs from i l r in Chain-first cs l r.is (omega (arith, all, less))
 
   -- behind a node that is reached and has a link below the limit, another one is held
-  pub Reached-behind : (cs : List (Node P)) (from i l n : ℕ) (p : P) → IsReached cs from i l → node_at cs l ≡ Held n p → n < node_limit → (m : ℕ) × (q : P) × (node_at cs n ≡ Held m q)
-  Reached-behind cs from i l n p r is below =
+  pub NodeAt-behind : (cs : List (Node P)) (from i l n : ℕ) (p : P) → IsNodeAt cs from i l → node_at cs l ≡ Held n p → n < node_limit → (m : ℕ) × (q : P) × (node_at cs n ≡ Held m q)
+  NodeAt-behind cs from i l n p r is below =
       let next = Chain-next cs l n p r.is is in
       Chain-first cs n next.is (Chain-some cs n next.is below)
 
   -- the chain from a link ends behind a node whose link isn't below the limit
-  pub Reached-last : (cs : List (Node P)) (from i l n : ℕ) (p : P) → IsReached cs from i l → node_at cs l ≡ Held n p → node_limit ≤ n → IsLast cs from i l
-  Reached-last cs from i l n p r is beyond =
+  pub NodeAt-last : (cs : List (Node P)) (from i l n : ℕ) (p : P) → IsNodeAt cs from i l → node_at cs l ≡ Held n p → node_limit ≤ n → IsLast cs from i l
+  NodeAt-last cs from i l n p r is beyond =
       let next = Chain-next cs l n p r.is is in
       let none = Chain-beyond cs n next.is beyond in
       record {
@@ -240,25 +240,25 @@ module _ {P : Type 0} where
         is = is ∙ ap (λ m. Held m p) (Chain-nowhere cs n next.is none);
       }
 
-  pub Reached-limit : (cs : List (Node P)) (from i l n : ℕ) (p : P) → IsReached cs from i l → IsChain cs from → node_at cs l ≡ Held n p → i < node_limit
-  Reached-limit cs from i l n p r is at =
-      let all = Reached-len cs from i l r in
+  pub NodeAt-limit : (cs : List (Node P)) (from i l n : ℕ) (p : P) → IsNodeAt cs from i l → IsChain cs from → node_at cs l ≡ Held n p → i < node_limit
+  NodeAt-limit cs from i l n p r is at =
+      let all = NodeAt-len cs from i l r in
       let next = ap length (Chain-next cs l n p r.is at).pairs in
       let limit = chain-limit cs from is in
       omega (arith, all, next, limit)
 
-  pub Reached-smaller : (cs : List (Node P)) (from i l n m : ℕ) (p q : P) → IsReached cs from i l → node_at cs l ≡ Held n p → node_at cs n ≡ Held m q → length (chain_of cs m) < length (chain_of cs n)
-  Reached-smaller cs from i l n m p q r is at =
+  pub NodeAt-smaller : (cs : List (Node P)) (from i l n m : ℕ) (p q : P) → IsNodeAt cs from i l → node_at cs l ≡ Held n p → node_at cs n ≡ Held m q → length (chain_of cs m) < length (chain_of cs n)
+  NodeAt-smaller cs from i l n m p q r is at =
       let next = Chain-next cs l n p r.is is in
       let e = ap length (Chain-next cs n m q next.is at).pairs in
       omega (arith, e)
 
   -- it is as long as the last node's place tells
-  pub Reached-ends : (cs : List (Node P)) (from i l n : ℕ) (p : P) → IsReached cs from i l → node_at cs l ≡ Held n p → node_limit ≤ n → length (chain_of cs from) ≡ i + 1
-  Reached-ends cs from i l n p r is beyond =
+  pub NodeAt-ends : (cs : List (Node P)) (from i l n : ℕ) (p : P) → IsNodeAt cs from i l → node_at cs l ≡ Held n p → node_limit ≤ n → length (chain_of cs from) ≡ i + 1
+  NodeAt-ends cs from i l n p r is beyond =
       let next = Chain-next cs l n p r.is is in
       let none = ap length (Chain-beyond cs n next.is beyond) in
-      let all = Reached-len cs from i l r in
+      let all = NodeAt-len cs from i l r in
       let e = ap length next.pairs in
       omega (arith, none, all, e)
 
@@ -270,16 +270,16 @@ module _ {P : Type 0} where
       Chain-first cs n next.is (omega (arith, e, several))
 
   -- where more pairs are left behind a node, the next one is held
-  pub Reached-more : (cs : List (Node P)) (from i l n : ℕ) (p : P) → IsReached cs from i l → node_at cs l ≡ Held n p → i + 1 < length (chain_of cs from) → (m : ℕ) × (q : P) × (node_at cs n ≡ Held m q)
-  Reached-more cs from i l n p r is more = Reached-some cs from (i + 1) n (Reached-next cs from i l n p r is) more
+  pub NodeAt-more : (cs : List (Node P)) (from i l n : ℕ) (p : P) → IsNodeAt cs from i l → node_at cs l ≡ Held n p → i + 1 < length (chain_of cs from) → (m : ℕ) × (q : P) × (node_at cs n ≡ Held m q)
+  NodeAt-more cs from i l n p r is more = NodeAt-some cs from (i + 1) n (NodeAt-next cs from i l n p r is) more
 
   -- where one pair is left behind a node, it is the last one
-  pub Reached-end : (cs : List (Node P)) (from i l n : ℕ) (p : P) → IsReached cs from i l → node_at cs l ≡ Held n p → length (chain_of cs from) ≡ i + 2 → (q : P) × (node_at cs n ≡ Held nowhere q)
-  Reached-end cs from i l n p r is len =
-      let next = Reached-next cs from i l n p r is in
-      let held = Reached-some cs from (i + 1) n next (omega (arith, len)) in
+  pub NodeAt-end : (cs : List (Node P)) (from i l n : ℕ) (p : P) → IsNodeAt cs from i l → node_at cs l ≡ Held n p → length (chain_of cs from) ≡ i + 2 → (q : P) × (node_at cs n ≡ Held nowhere q)
+  NodeAt-end cs from i l n p r is len =
+      let next = NodeAt-next cs from i l n p r is in
+      let held = NodeAt-some cs from (i + 1) n next (omega (arith, len)) in
       let behind = Chain-next cs n held.0 held.1 next.is held.2 in
-      let all = Reached-len cs from (i + 1) n next in
+      let all = NodeAt-len cs from (i + 1) n next in
       let e = ap length behind.pairs in
       let none : length (chain_of cs held.0) ≡ 0 = omega (arith, all, e, len) in
       (held.1, held.2 ∙ ap (λ m. Held m held.1) (Chain-nowhere cs held.0 behind.is (nil (chain_of cs held.0) none)))

@@ -1,7 +1,7 @@
 -- Walks along the pairs of one slot behind its first one.
 use Rattle.std.proofs.Common.{◌≡◌, ◌≢◌, ◌⊎◌, inl, inr, ℕ, ◌+◌, ◌<◌, ◌≤◌, Bool, true, false, List, [], ◌∷◌, ◌++◌, length, set, refl, sym, ap, ◌∙◌, subst, arith}
 use Rattle.std.proofs.lemmas.List.{length-append, append_assoc}
-use Rattle.intmap_table.specs.Tables.Nodes.{Node, Free, Held, Slot, Filled, Pool, node_limit, nowhere, node_at, Path, Leads, chain_of, IsChain, Misses, Spares, IsReached, IsReleased, IsChanged, IsChainSet}
+use Rattle.intmap_table.specs.Tables.Nodes.{Node, Free, Held, Slot, Filled, Pool, node_limit, nowhere, node_at, Path, Leads, chain_of, IsChain, Misses, Spares, IsNodeAt, IsReleased, IsChanged, IsChainSet}
 use Rattle.intmap_table.specs.Tables.Walked.{Loose, Rest, IsBefore, IsWalked, IsStarted}
 use Rattle.intmap_table.proofs.Nodes.NodeLemmas.{Stop, node_at-set_held, held_limit, stop_free}
 use Rattle.intmap_table.proofs.Nodes.PathLemmas.{stop_nowhere, Path-one, Path-append, Path-before, SameBut, SameBut-set, Leads-limit, chain_is, Chain-end, Chain-next, IsChain-leads}
@@ -101,7 +101,7 @@ module _ {P : Type 0} where
   }
 
   -- the pairs up to a node are passed, and nothing was changed
-  pub Walked-from : (a : Pool P) (l i : ℕ) (before at : ℕ) (p : P) → (r : IsReached a.nodes l i before) → node_at a.nodes before ≡ Held at p → IsStarted a l (i + 1) before at
+  pub Walked-from : (a : Pool P) (l i : ℕ) (before at : ℕ) (p : P) → (r : IsNodeAt a.nodes l i before) → node_at a.nodes before ≡ Held at p → IsStarted a l (i + 1) before at
   Walked-from a l i before at p r is =
       let cs = a.nodes in
       let row = chain_of cs l in

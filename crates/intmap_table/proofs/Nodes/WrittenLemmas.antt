@@ -2,9 +2,9 @@
 use Rattle.std.proofs.Common.{◌≡◌, ℕ, zero, suc, ◌+◌, ◌-◌, ◌<◌, ◌≤◌, List, [], ◌∷◌, length, get_or, set, refl, sym, ap, ◌∙◌, subst, arith}
 use Rattle.std.proofs.lemmas.List.{length-set}
 use Rattle.intmap_table.specs.Tables.Slots.{write_at}
-use Rattle.intmap_table.specs.Tables.Nodes.{Node, Free, Held, Slot, Empty, Filled, Pool, node_limit, node_at, chain_of, row_in, node_with, slot_with, write_node, IsReached, IsChanged, IsChainSet, IsSlot, IsSlotSet, AreHome}
+use Rattle.intmap_table.specs.Tables.Nodes.{Node, Free, Held, Slot, Empty, Filled, Pool, node_limit, node_at, chain_of, row_in, node_with, slot_with, write_node, IsNodeAt, IsChanged, IsChainSet, IsSlot, IsSlotSet, AreHome}
 use Rattle.intmap_table.proofs.Nodes.NodeLemmas.{node_at-below, node_read, held_below, held_limit}
-use Rattle.intmap_table.proofs.Nodes.ChainLemmas.{Set-swap, Reached-value}
+use Rattle.intmap_table.proofs.Nodes.ChainLemmas.{Set-swap, NodeAt-value}
 use Rattle.intmap_table.proofs.Nodes.SlotLemmas.{Slot-first, Slot-only}
 
 module _ {P : Type 0} where
@@ -59,15 +59,15 @@ module _ {K X : Type 0} where
   write_at-next p ps (suc n) v some = let e : n ≡ suc n - 1 = omega arith in ap (λ k. p ∷ write_at ps k v) e
 
   -- the value at place j of a chain is written
-  pub Written-chain : (a : Pool (K × X)) (l j c n : ℕ) (p : K × X) (v : X) → IsReached a.nodes l j c → node_at a.nodes c ≡ Held n p
+  pub Written-chain : (a : Pool (K × X)) (l j c n : ℕ) (p : K × X) (v : X) → IsNodeAt a.nodes l j c → node_at a.nodes c ≡ Held n p
       → IsChainSet a l (write_at (chain_of a.nodes l) j v) (record a { nodes = write_node a.nodes c v }) l
   Written-chain a l j c n p v at held =
       let b : Pool (K × X) = record a { nodes = write_node a.nodes c v } in
-      subst (λ ps. IsChainSet a l ps b l) (set-write_at (chain_of a.nodes l) j p v (Reached-value a.nodes l j c n p at held))
+      subst (λ ps. IsChainSet a l ps b l) (set-write_at (chain_of a.nodes l) j p v (NodeAt-value a.nodes l j c n p at held))
       (Set-swap a l j c n p (p.0, v) b at held (Changed-written a c n p v held))
 
   -- the value of a pair behind the first one is written, in a node
-  behind : (a : Pool (K × X)) (l j c n : ℕ) (first p : K × X) (v : X) → 0 < j → IsReached a.nodes l (j - 1) c → node_at a.nodes c ≡ Held n p
+  behind : (a : Pool (K × X)) (l j c n : ℕ) (first p : K × X) (v : X) → 0 < j → IsNodeAt a.nodes l (j - 1) c → node_at a.nodes c ≡ Held n p
       → IsSlotSet a (Filled l first) (write_at (first ∷ chain_of a.nodes l) j v) (record a { nodes = write_node a.nodes c v }) (Filled l first)
   behind a l j c n first p v some at held =
       let b : Pool (K × X) = record a { nodes = write_node a.nodes c v } in
@@ -75,7 +75,7 @@ module _ {K X : Type 0} where
       (Slot-first a l first first (write_at (chain_of a.nodes l) (j - 1) v) b l (Written-chain a l (j - 1) c n p v at held))
 
   -- the same of any slot that has a first pair
-  pub Written-behind : (a : Pool (K × X)) (s : Slot (K × X)) (l j c n : ℕ) (first p : K × X) (v : X) → s ≡ Filled l first → 0 < j → IsReached a.nodes l (j - 1) c → node_at a.nodes c ≡ Held n p
+  pub Written-behind : (a : Pool (K × X)) (s : Slot (K × X)) (l j c n : ℕ) (first p : K × X) (v : X) → s ≡ Filled l first → 0 < j → IsNodeAt a.nodes l (j - 1) c → node_at a.nodes c ≡ Held n p
       → IsSlotSet a s (write_at (row_in a.nodes s) j v) (record a { nodes = write_node a.nodes c v }) s
   Written-behind a s l j c n first p v is some at held =
       subst (λ t. IsSlotSet a t (write_at (row_in a.nodes t) j v) (record a { nodes = write_node a.nodes c v }) t) (sym is) (behind a l j c n first p v some at held)

@@ -91,7 +91,7 @@ module _ {P : Type 0} where
   IsChain nodes l = Leads nodes l (chain_of nodes l)
 
   -- node c is the one at a place of the chain
-  pub record IsReached (nodes : List (Node P)) (from place c : ℕ) : Type 0 where
+  pub record IsNodeAt (nodes : List (Node P)) (from place c : ℕ) : Type 0 where
     pub before : List P
     pub pairs : chain_of nodes from ≡ before ++ chain_of nodes c
     pub len : length before ≡ place

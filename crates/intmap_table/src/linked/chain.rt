@@ -2,7 +2,7 @@
 ghost use Rattle.std.specs.Prelude.{◌≡◌, ◌+◌, ◌-◌, ◌^◌, ◌<◌, ◌≤◌, [], ◌∷◌, ◌++◌, length, position, set, slice_index_or, IfOk, IfErr, IsOk, OnErr, OnOk};
 ghost use Rattle.intmap_table.specs.Classes.{same_key};
 ghost use Rattle.intmap_table.specs.Reach.{through_first};
-ghost use Rattle.intmap_table.specs.Tables.Nodes.{Held, chain_of, node_at, node_limit, IsChain, IsChainSet, IsCut, IsLast, IsLastSet, IsPopped, IsReached, Spares};
+ghost use Rattle.intmap_table.specs.Tables.Nodes.{Held, chain_of, node_at, node_limit, IsChain, IsChainSet, IsCut, IsLast, IsLastSet, IsPopped, IsNodeAt, Spares};
 
 use crate::key::IntKey;
 use crate::linked::node::{NODE_LIMIT, NOWHERE};
@@ -58,7 +58,7 @@ pub(crate) fn chain_len<P, A: Allocator>(pool: &Pool<P, A>, from: usize) -> usiz
 pub(crate) fn seek<P, A: Allocator>(pool: &Pool<P, A>, from: usize, place: usize) -> usize
     requires leads { IsChain pool.now.nodes from }
     requires within { place ≤ length (chain_of pool.now.nodes from) }
-    ensures { IsReached pool.now.nodes from place result }
+    ensures { IsNodeAt pool.now.nodes from place result }
 {
     let mut link = from;
     for passed in 0..place {
@@ -92,7 +92,7 @@ pub(crate) fn last_two_in<P, A: Allocator>(pool: &Pool<P, A>, from: usize) -> (u
     requires leads { IsChain pool.now.nodes from }
     requires several { 1 < length (chain_of pool.now.nodes from) }
     ensures before { 0 < result.2 }
-    ensures reached { IsReached pool.now.nodes from (result.2 - 1) result.0 }
+    ensures reached { IsNodeAt pool.now.nodes from (result.2 - 1) result.0 }
     ensures link { (p : P) × (node_at pool.now.nodes result.0 ≡ Held result.1 p) }
     ensures last { length (chain_of pool.now.nodes from) ≡ result.2 + 1 }
     ensures limit { result.2 < node_limit }

@@ -1,15 +1,15 @@
 use Rattle.std.proofs.Common.{◌≡◌, ◌+◌, ◌-◌, subst, arith}
 use Rattle.intmap_table.specs.Tables.Nodes.{Free, IsCut}
-use Rattle.intmap_table.proofs.Nodes.PathLemmas.{Reached-some, Reached-more}
+use Rattle.intmap_table.proofs.Nodes.PathLemmas.{NodeAt-some, NodeAt-more}
 use Rattle.intmap_table.proofs.Nodes.ChainLemmas.{Pop-keeps, Cut-out}
 use Rattle.intmap_table.proofs.linked.chain.cut_behind.Goals as goal
 
 pub link-at-requires : goal.link-at-requires
-link-at-requires g c = Reached-some c.args.pool.now.nodes c.args.link.now (c.args.place - 1) c.seek-before.result c.seek-before.ensures (let within = c.requires.within in omega (arith, within))
+link-at-requires g c = NodeAt-some c.args.pool.now.nodes c.args.link.now (c.args.place - 1) c.seek-before.result c.seek-before.ensures (let within = c.requires.within in omega (arith, within))
 
 pub link-next-requires : goal.link-next-requires
 link-next-requires g c =
-    Reached-more c.args.pool.now.nodes c.args.link.now (c.args.place - 1) c.seek-before.result c.link-at.result c.link-at.ensures.link.0 c.seek-before.ensures c.link-at.ensures.link.1
+    NodeAt-more c.args.pool.now.nodes c.args.link.now (c.args.place - 1) c.seek-before.result c.link-at.result c.link-at.ensures.link.0 c.seek-before.ensures c.link-at.ensures.link.1
     (let within = c.requires.within in omega (arith, within, c.if-place-eq0.false))
 
 pub set_link-requires-clause-held : goal.set_link-requires-clause-held

@@ -1,6 +1,6 @@
 use Rattle.std.proofs.Common.{◌≡◌, ◌+◌, ◌-◌, length, ap, subst, arith}
 use Rattle.intmap_table.specs.Tables.Nodes.{Free, Held, nowhere, node_at, IsCut}
-use Rattle.intmap_table.proofs.Nodes.PathLemmas.{Chain-first, Chain-next, Chain-beyond, Chain-nowhere, Chain-some, Reached-end}
+use Rattle.intmap_table.proofs.Nodes.PathLemmas.{Chain-first, Chain-next, Chain-beyond, Chain-nowhere, Chain-some, NodeAt-end}
 use Rattle.intmap_table.proofs.Nodes.ChainLemmas.{Pop-keeps, Pop-cut, Cut-first, Cut-out}
 use Rattle.intmap_table.proofs.linked.chain.pop_behind.Goals as goal
 use Rattle.intmap_table.proofs.linked.chain.pop_behind.Goals.{After-last_two_in-before}
@@ -32,7 +32,7 @@ last_two_in-before-requires-clause-several g c =
 last : (g : _) (c : After-last_two_in-before g) → (q : g.row.P.Denot) × (node_at c.args.pool.now.nodes c.last_two_in-before.result.1 ≡ Held nowhere q)
 last g c =
     let two = c.last_two_in-before.ensures in
-    Reached-end c.args.pool.now.nodes c.args.link.now (c.last_two_in-before.result.2 - 1) c.last_two_in-before.result.0 c.last_two_in-before.result.1 two.link.0 two.reached two.link.1
+    NodeAt-end c.args.pool.now.nodes c.args.link.now (c.last_two_in-before.result.2 - 1) c.last_two_in-before.result.0 c.last_two_in-before.result.1 two.link.0 two.reached two.link.1
     (let before = two.before in let all = two.last in omega (arith, before, all))
 
 pub release-pair-requires-2 : goal.release-pair-requires-2

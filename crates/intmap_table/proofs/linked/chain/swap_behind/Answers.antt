@@ -1,13 +1,13 @@
-use Rattle.intmap_table.proofs.Nodes.PathLemmas.{Reached-some}
-use Rattle.intmap_table.proofs.Nodes.ChainLemmas.{Set-swap, Reached-value, Changed-alone}
+use Rattle.intmap_table.proofs.Nodes.PathLemmas.{NodeAt-some}
+use Rattle.intmap_table.proofs.Nodes.ChainLemmas.{Set-swap, NodeAt-value, Changed-alone}
 use Rattle.intmap_table.proofs.linked.chain.swap_behind.Goals as goal
 
 pub replace-requires : goal.replace-requires
-replace-requires g c = Reached-some c.args.pool.now.nodes c.args.link c.args.place c.seek-at.result c.seek-at.ensures c.requires.within
+replace-requires g c = NodeAt-some c.args.pool.now.nodes c.args.link c.args.place c.seek-at.result c.seek-at.ensures c.requires.within
 
 pub returns-clause-value : goal.returns-clause-value
 returns-clause-value g c =
-    Reached-value c.args.pool.now.nodes c.args.link c.args.place c.seek-at.result c.replace.ensures.0 c.replace.result c.seek-at.ensures c.replace.ensures.1
+    NodeAt-value c.args.pool.now.nodes c.args.link c.args.place c.seek-at.result c.replace.ensures.0 c.replace.result c.seek-at.ensures c.replace.ensures.1
 
 pub returns-clause-chain : goal.returns-clause-chain
 returns-clause-chain g c =

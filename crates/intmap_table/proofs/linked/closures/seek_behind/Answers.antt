@@ -1,7 +1,7 @@
 use Rattle.std.proofs.Common.{◌≡◌, ◌+◌, ◌-◌, sym, subst, arith}
 use Rattle.intmap_table.specs.Tables.Nodes.{nowhere}
 use Rattle.intmap_table.specs.Tables.Walked.{IsStarted}
-use Rattle.intmap_table.proofs.Nodes.PathLemmas.{Reached-some}
+use Rattle.intmap_table.proofs.Nodes.PathLemmas.{NodeAt-some}
 use Rattle.intmap_table.proofs.Nodes.WalkedLemmas.{Walked-from, Walked-front}
 use Rattle.intmap_table.proofs.linked.closures.seek_behind.Goals as goal
 
@@ -10,7 +10,7 @@ returns-then-place-eq0 g c = subst (λ i. IsStarted c.args.pool.now c.args.link 
 
 pub link-requires : goal.link-requires
 link-requires g c =
-    Reached-some c.args.pool.now.nodes c.args.link (c.args.place - 1) c.seek-before.result c.seek-before.ensures (let within = c.requires.within in let some = c.if-place-eq0.false in omega (arith, within, some))
+    NodeAt-some c.args.pool.now.nodes c.args.link (c.args.place - 1) c.seek-before.result c.seek-before.ensures (let within = c.requires.within in let some = c.if-place-eq0.false in omega (arith, within, some))
 
 pub returns : goal.returns
 returns g c =
