@@ -3,7 +3,7 @@ use Rattle.std.specs.Prelude.{◌≡◌, ◌⊎◌, ℕ, ◌+◌, ◌^◌, ◌<�
 use Rattle.intmap_table.specs.Classes.{IsCapacity}
 use Rattle.intmap_table.specs.Bindings.{HasDistinctKeys, value_of, take_key, put_pair, write_value}
 use Rattle.intmap_table.specs.Walk.{walk_of}
-use Rattle.intmap_table.specs.Picking.{position}
+use Rattle.intmap_table.specs.Picking.{pairs_before}
 use Rattle.intmap_table.specs.Values.{with_values}
 use Rattle.intmap_table.specs.declared.table.walk.Cursor.{Cursor}
 use Rattle.intmap_table.specs.Reach.{class_size, reach}
@@ -20,7 +20,7 @@ pub record MapState (K V : Type 0) : Type 0 where
 
 -- the number of pairs of the walk before a cursor, whatever two numbers it has
 abbrev pub passed : {K V : Type 0} → (K → ℕ) → MapState K V → Cursor → ℕ
-passed number m at = position number m.walk m.capacity at
+passed number m at = pairs_before number m.walk m.capacity at
 
 -- the load factor of a new map, in thousandths
 abbrev pub first_factor : ℕ

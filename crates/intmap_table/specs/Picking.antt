@@ -24,8 +24,8 @@ module _ {F X : Type 0} (R : F → X → Bool → F → X → Type 0) where
 
 module _ {K V : Type 0} (number : K → ℕ) where
   -- in a table of C slots with walk W, the number of pairs before the cursor's place of its slot. A place behind the last pair of a slot is before the next slot
-  abbrev pub position : List (K × V) → ℕ → Cursor → ℕ
-  position W C at = length (flat_map (slot_of number W C) (range_with_len 0 at.slot)) + min at.place (length (slot_of number W C at.slot))
+  abbrev pub pairs_before : List (K × V) → ℕ → Cursor → ℕ
+  pairs_before W C at = length (flat_map (slot_of number W C) (range_with_len 0 at.slot)) + min at.place (length (slot_of number W C at.slot))
 
   -- `passed` pairs of the walk are before this place of this slot, and the place is that of a pair of the slot, or that behind its last one
   pub record IsReached (W : List (K × V)) (C slot place passed : ℕ) : Type 0 where

@@ -9,7 +9,7 @@ use Rattle.std.specs.List.{flat_map, range_with_len}
 use Rattle.std.proofs.lemmas.Grind.{flat_map-append}
 use Rattle.std.proofs.lemmas.List.Elements.{All-append, All-drop, All-take}
 use Rattle.intmap_table.specs.Classes.{slot_number}
-use Rattle.intmap_table.specs.Picking.{IsReached, position}
+use Rattle.intmap_table.specs.Picking.{IsReached, pairs_before}
 use Rattle.intmap_table.specs.Tables.Rows.{IsTable}
 use Rattle.intmap_table.specs.Walk.{slot_of}
 use Rattle.intmap_table.specs.declared.table.walk.Cursor.{Cursor}
@@ -116,8 +116,8 @@ module _ {K X : Type 0} (number : K → ℕ) (R : List (List (K × X))) (table :
   }
 
   -- the position of a cursor in the walk of a table is that in its rows
-  pub position-before : (at : Cursor) → position number (joined R) (length R) at ≡ count_before R at.slot at.place
-  position-before at i = length (slots-before at.slot i) + min at.place (length (slot_of-joined number R table at.slot i))
+  pub pairs_before-joined : (at : Cursor) → pairs_before number (joined R) (length R) at ≡ count_before R at.slot at.place
+  pairs_before-joined at i = length (slots-before at.slot i) + min at.place (length (slot_of-joined number R table at.slot i))
 
 -- the rows without the pair p at place j of row i
 module _ {K X : Type 0} (number : K → ℕ) (R : List (List (K × X))) (i j : ℕ) (p : K × X) (below : j < length (get_or R i [])) (here : get_or (get_or R i []) j p ≡ p) where

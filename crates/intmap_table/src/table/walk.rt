@@ -2,7 +2,7 @@
 ghost use Rattle.std.specs.Bool.{OnFalse, OnTrue};
 ghost use Rattle.std.specs.Prelude.{◌≡◌, ◌+◌, ◌<◌, ◌≤◌, ◌^◌, [], ◌∷◌, cond, drop, is_some, length, take, MatchOption, IfNone, IfSome};
 ghost use Rattle.std.specs.Iterator.{YieldsFirst};
-ghost use Rattle.intmap_table.specs.Picking.{position};
+ghost use Rattle.intmap_table.specs.Picking.{pairs_before};
 ghost use Rattle.intmap_table.specs.Tables.Slots.{joined, count_before};
 ghost use Rattle.intmap_table.specs.Tables.Rows.{row_at};
 ghost use Rattle.intmap_table.specs.Walk.{walk_of, ArePassed};
@@ -61,12 +61,14 @@ impl<K: IntKey, X, A: Allocator> Table<K, X, A> {
     pub fn step(&self, at: &mut Cursor) -> Option<(&K, &X)>
         requires count { length self.now.walk < 2 ^ 64 }
         ensures first { MatchOption result
-            (drop (position K.number_of self.now.walk self.now.capacity at.old) self.now.walk ≡ [])
-            (λ pair. drop (position K.number_of self.now.walk self.now.capacity at.old)
+            (drop (pairs_before K.number_of self.now.walk self.now.capacity at.old)
+            self.now.walk ≡ [])
+            (λ pair. drop (pairs_before K.number_of self.now.walk self.now.capacity at.old)
             self.now.walk ≡ (pair.0.now, pair.1.now)
-            ∷ drop (position K.number_of self.now.walk self.now.capacity at.new) self.now.walk) }
-        ensures passed { position K.number_of self.now.walk self.now.capacity at.new
-            ≡ position K.number_of self.now.walk self.now.capacity at.old
+            ∷ drop (pairs_before K.number_of self.now.walk self.now.capacity at.new)
+            self.now.walk) }
+        ensures passed { pairs_before K.number_of self.now.walk self.now.capacity at.new
+            ≡ pairs_before K.number_of self.now.walk self.now.capacity at.old
             + cond (is_some result) 1 0 }
         ensures stays { IfNone result (at.new ≡ at.old) }
     {
@@ -85,15 +87,17 @@ impl<K: IntKey, X, A: Allocator> Table<K, X, A> {
     pub fn cut(&mut self, at: &mut Cursor) -> Option<(K, X)>
         requires count { length self.old.walk < 2 ^ 64 }
         ensures first { MatchOption result
-            (drop (position K.number_of self.old.walk self.old.capacity at.old) self.old.walk ≡ [])
-            (λ pair. drop (position K.number_of self.old.walk self.old.capacity at.old)
+            (drop (pairs_before K.number_of self.old.walk self.old.capacity at.old)
+            self.old.walk ≡ [])
+            (λ pair. drop (pairs_before K.number_of self.old.walk self.old.capacity at.old)
             self.old.walk ≡ pair
-            ∷ drop (position K.number_of self.new.walk self.new.capacity at.new) self.new.walk) }
-        ensures before { take (position K.number_of self.new.walk self.new.capacity at.new)
+            ∷ drop (pairs_before K.number_of self.new.walk self.new.capacity at.new)
+            self.new.walk) }
+        ensures before { take (pairs_before K.number_of self.new.walk self.new.capacity at.new)
             self.new.walk
-            ≡ take (position K.number_of self.old.walk self.old.capacity at.old) self.old.walk }
-        ensures passed { position K.number_of self.new.walk self.new.capacity at.new
-            ≡ position K.number_of self.old.walk self.old.capacity at.old }
+            ≡ take (pairs_before K.number_of self.old.walk self.old.capacity at.old) self.old.walk }
+        ensures passed { pairs_before K.number_of self.new.walk self.new.capacity at.new
+            ≡ pairs_before K.number_of self.old.walk self.old.capacity at.old }
         ensures none { IfNone result ((self.new ≡ self.old) × (at.new ≡ at.old)) }
         ensures capacity { self.new.capacity ≡ self.old.capacity }
         ensures own { walk_of K.number_of self.new.walk self.new.capacity ≡ self.new.walk }

@@ -1,25 +1,25 @@
 use Rattle.std.proofs.Common.{◌≡◌, ◌∷◌, ◌∙◌, [], get_or, length, length-set, take, drop, sym, ap}
-use Rattle.intmap_table.specs.Picking.{position}
+use Rattle.intmap_table.specs.Picking.{pairs_before}
 use Rattle.intmap_table.specs.Tables.Slots.{joined, count_before}
 use Rattle.intmap_table.specs.Tables.Rows.{IsTable}
 use Rattle.intmap_table.specs.declared.table.walk.Cursor.{Cursor}
 use Rattle.intmap_table.proofs.SlotNumberLemmas.{capacity-greatest}
-use Rattle.intmap_table.proofs.Tables.CursorLemmas.{IsTable-cut, before-cut, drop-cut, position-before, take-cut}
+use Rattle.intmap_table.proofs.Tables.CursorLemmas.{IsTable-cut, before-cut, drop-cut, pairs_before-joined, take-cut}
 use Rattle.intmap_table.proofs.Tables.TableLemmas.{walk_of-joined}
 use Rattle.intmap_table.proofs.table.Table.cut.Goals as goal
 use Rattle.intmap_table.proofs.table.Table.cut.Goals.{After-seek, After-remove_at-key}
 
 module _ (g : _) (c : After-seek g) where
   -- where a cursor was in the rows
-  was : (at : Cursor) → position g.K.IntKey.number_of (joined c.self.inside.slots.rows) (length c.self.inside.slots.rows) at ≡ count_before c.self.inside.slots.rows at.slot at.place
-  was = position-before g.K.IntKey.number_of c.self.inside.slots.rows c.self.invariant
+  was : (at : Cursor) → pairs_before g.K.IntKey.number_of (joined c.self.inside.slots.rows) (length c.self.inside.slots.rows) at ≡ count_before c.self.inside.slots.rows at.slot at.place
+  was = pairs_before-joined g.K.IntKey.number_of c.self.inside.slots.rows c.self.invariant
 
   -- the call of `seek` left it there
   sought : count_before c.self.inside.slots.rows c.seek.new.at.slot c.seek.new.at.place ≡ count_before c.self.inside.slots.rows c.args.at.now.slot c.args.at.now.place
   sought = c.seek.ensures.same
 
-  passed : position g.K.IntKey.number_of (joined c.self.inside.slots.rows) (length c.self.inside.slots.rows) c.seek.new.at
-      ≡ position g.K.IntKey.number_of (joined c.self.inside.slots.rows) (length c.self.inside.slots.rows) c.args.at.now
+  passed : pairs_before g.K.IntKey.number_of (joined c.self.inside.slots.rows) (length c.self.inside.slots.rows) c.seek.new.at
+      ≡ pairs_before g.K.IntKey.number_of (joined c.self.inside.slots.rows) (length c.self.inside.slots.rows) c.args.at.now
   passed = was c.seek.new.at ∙ sought ∙ sym (was c.args.at.now)
 
 pub seek-requires-clause-slots : goal.seek-requires-clause-slots
@@ -48,8 +48,8 @@ module _ (g : _) (c : After-remove_at-key g) where
   table = rw c.remove_at-key.ensures.rows (IsTable-cut _ c.self.inside.slots.rows _ _ _ c.if-not-seek.ensures.pair here c.self.invariant)
 
   -- where a cursor is in the rows that are left
-  is : (at : Cursor) → position g.K.IntKey.number_of (joined c.remove_at-key.new.self.rows) (length c.remove_at-key.new.self.rows) at ≡ count_before c.remove_at-key.new.self.rows at.slot at.place
-  is = position-before g.K.IntKey.number_of c.remove_at-key.new.self.rows table
+  is : (at : Cursor) → pairs_before g.K.IntKey.number_of (joined c.remove_at-key.new.self.rows) (length c.remove_at-key.new.self.rows) at ≡ count_before c.remove_at-key.new.self.rows at.slot at.place
+  is = pairs_before-joined g.K.IntKey.number_of c.remove_at-key.new.self.rows table
 
 pub invariant_of-self : goal.invariant_of-self
 invariant_of-self g c = table g (goal.at.invariant_of-self g c).After-remove_at-key

@@ -1,17 +1,17 @@
 use Rattle.std.proofs.Common.{◌≡◌, ◌+◌, ◌∷◌, ◌∙◌, [], get_or, length, drop, sym, ap, arith}
-use Rattle.intmap_table.specs.Picking.{position}
+use Rattle.intmap_table.specs.Picking.{pairs_before}
 use Rattle.intmap_table.specs.Tables.Slots.{Grid, joined, count_before}
 use Rattle.intmap_table.specs.declared.table.walk.Cursor.{Cursor}
 use Rattle.intmap_table.proofs.Tables.AroundLemmas.{length-around}
 use Rattle.intmap_table.proofs.SlotNumberLemmas.{capacity-greatest}
-use Rattle.intmap_table.proofs.Tables.CursorLemmas.{before-here, drop-here, position-before}
+use Rattle.intmap_table.proofs.Tables.CursorLemmas.{before-here, drop-here, pairs_before-joined}
 use Rattle.intmap_table.proofs.table.Table.step.Goals as goal
 use Rattle.intmap_table.proofs.table.Table.step.Goals.{After-seek}
 
 module _ (g : _) (c : After-seek g) where
   -- where a cursor is in the slots
-  before : (at : Cursor) → position g.K.IntKey.number_of (joined c.self.inside.slots.rows) (length c.self.inside.slots.rows) at ≡ count_before c.self.inside.slots.rows at.slot at.place
-  before = position-before g.K.IntKey.number_of c.self.inside.slots.rows c.self.invariant
+  before : (at : Cursor) → pairs_before g.K.IntKey.number_of (joined c.self.inside.slots.rows) (length c.self.inside.slots.rows) at ≡ count_before c.self.inside.slots.rows at.slot at.place
+  before = pairs_before-joined g.K.IntKey.number_of c.self.inside.slots.rows c.self.invariant
 
   -- the call of `seek` left it there
   sought : count_before c.self.inside.slots.rows c.seek.new.at.slot c.seek.new.at.place ≡ count_before c.self.inside.slots.rows c.args.at.now.slot c.args.at.now.place
