@@ -157,7 +157,7 @@ impl<P, A: Allocator> Pool<P, A> {
         ensures succeeds { 0 < self.old.room → IsOk result }
     {
         let at = self.nodes.len();
-        if self.nodes.reserve(1).is_err() || at == NODE_LIMIT {
+        if at == NODE_LIMIT || self.nodes.reserve(1).is_err() {
             return Err(pair);
         }
         self.nodes.push_reserved(Node::held(link, pair));
@@ -190,10 +190,10 @@ impl<P: Drop, A: Allocator> Pool<P, A> {
         ensures held { IfOk result (λ made. made.held ≡ 0) }
         ensures room { IfOk result (λ made. made.room ≡ room) }
     {
-        let nodes = Vec::with_capacity(alloc, room)?;
         if room > NODE_LIMIT {
             return Err(AllocError);
         }
+        let nodes = Vec::with_capacity(alloc, room)?;
         Ok(Pool {
             nodes,
             free: NOWHERE,

@@ -91,7 +91,7 @@ impl<P, A: Allocator> Pool<P, A> {
     /// returns which. If an allocation fails, it returns the pair.
     pub(in crate::proved::table) fn append(&mut self, link: usize, pair: P) -> Result<usize, P> {
         let at = self.nodes.len();
-        if self.nodes.reserve(1).is_err() || at == NODE_LIMIT {
+        if at == NODE_LIMIT || self.nodes.reserve(1).is_err() {
             return Err(pair);
         }
         self.nodes.push_reserved(Node::held(link, pair));
@@ -114,10 +114,10 @@ impl<P, A: Allocator> Pool<P, A> {
 impl<P, A: Allocator> Pool<P, A> {
     /// A pool without a node, which has room for `room` pairs.
     pub(in crate::proved::table) fn with_room(alloc: A, room: usize) -> Result<Pool<P, A>, AllocError> {
-        let nodes = Vec::with_capacity(alloc, room)?;
         if room > NODE_LIMIT {
             return Err(AllocError);
         }
+        let nodes = Vec::with_capacity(alloc, room)?;
         Ok(Pool {
             nodes,
             free: NOWHERE,
