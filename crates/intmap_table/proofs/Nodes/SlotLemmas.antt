@@ -219,21 +219,12 @@ module _ {P : Type 0} where
       } in
       subst (λ ps. IsSlotSet a (Filled l p) ps d (Filled l p)) (sym (ap (λ ps. ps ++ q ∷ []) left)) (Slot-first a l p p (set h.before j r ++ q ∷ []) d l whole)
 
-  -- the first pair was r
-  pub record IsFront (a : Pool P) (s : Slot P) (r : P) (b : Pool P) (t : Slot P) : Type 0 where
-    pub left : List P
-    pub pairs : row_in a.nodes s ≡ r ∷ left
-    pub row : IsSlotSet a s left b t
-
-  pub Front-only : (a : Pool P) (l : ℕ) (p : P) → IsChain a.nodes l → node_limit ≤ l → IsFront a (Filled l p) p a Empty
+  -- the pairs behind the first one of a slot are left: none, or those that another first one is taken out of
+  pub Front-only : (a : Pool P) (l : ℕ) (p : P) → IsChain a.nodes l → node_limit ≤ l → IsSlotSet a (Filled l p) (chain_of a.nodes l) a Empty
   Front-only a l p is last =
       let none = Chain-beyond a.nodes l is last in
       let len = ap length none in
-      record {
-        left = [];
-        pairs = ap (λ ps. p ∷ ps) none;
-        row = record { is = tt; pairs = refl; spares = λ t misses k n q passes at. at; held = omega (arith, len) };
-      }
+      record { is = tt; pairs = sym none; spares = λ t misses k n q passes at. at; held = omega (arith, len) }
 
   cut_front : (a : Pool P) (l : ℕ) (q : P) (b : Pool P) (m : ℕ) → (cut : IsCut a l 0 q b m) → cut.before ≡ []
   cut_front a l q b m cut = nil cut.before cut.len
@@ -242,14 +233,12 @@ module _ {P : Type 0} where
       nil [] e = refl
       nil (p ∷ ps) e = absurd (omega arith)
 
-  pub Front-rest : (a : Pool P) (l : ℕ) (p q : P) (b : Pool P) (m : ℕ) → IsCut a l 0 q b m → IsFront a (Filled l p) p b (Filled m q)
+  pub Front-rest : (a : Pool P) (l : ℕ) (p q : P) (b : Pool P) (m : ℕ) → IsCut a l 0 q b m → IsSlotSet a (Filled l p) (chain_of a.nodes l) b (Filled m q)
   Front-rest a l p q b m cut =
       let none = cut_front a l q b m cut in
-      record {
-        left = q ∷ cut.behind;
-        pairs = ap (λ ps. p ∷ ps) (cut.pairs ∙ ap (λ xs. xs ++ q ∷ cut.behind) none);
-        row = Slot-first a l p q cut.behind b m (subst (λ ps. IsChainSet a l ps b m) (ap (λ xs. xs ++ cut.behind) none) cut.chain);
-      }
+      let chain : chain_of a.nodes l ≡ q ∷ cut.behind = cut.pairs ∙ ap (λ xs. xs ++ q ∷ cut.behind) none in
+      subst (λ ps. IsSlotSet a (Filled l p) ps b (Filled m q)) (sym chain)
+      (Slot-first a l p q cut.behind b m (subst (λ ps. IsChainSet a l ps b m) (ap (λ xs. xs ++ cut.behind) none) cut.chain))
 
   -- the pair at place i was r, and those behind it moved up
   pub Remove-front : (a : Pool P) (s : Slot P) (r : P) (b : Pool P) (t : Slot P) (left : List P) → row_in a.nodes s ≡ r ∷ left → IsSlotSet a s left b t → (i : ℕ) → i ≡ 0

@@ -10,9 +10,10 @@ ghost use Rattle.intmap_table.specs.Tables.Walked.{AreWalked, IsStarted, IsUnlin
 
 use crate::kept::Kept;
 use crate::key::IntKey;
-use crate::linked::chain::{seek, take_behind};
+use crate::linked::chain::seek;
 use crate::linked::node::{NODE_LIMIT, NOWHERE};
 use crate::linked::pool::Pool;
+use crate::linked::row;
 use crate::linked::slot::Slot;
 use crate::table::closure_calls::keeps_pair;
 use crate::table::stored::Stored;
@@ -41,43 +42,6 @@ fn unlink<P, A: Allocator>(
     }
     pool.set_link(before, next);
     pair
-}
-
-/// Removes the first pair of a slot. The others move up by one place.
-#[inline(always)]
-fn unlink_first<P, A: Allocator>(slot: &mut Slot<P>, link: usize, pool: &mut Pool<P, A>) -> P
-    requires filled { (p : P) × (slot.old ≡ Filled link p) }
-    requires leads { IsChain pool.old.nodes link }
-    ensures value { slot.old ≡ Filled link result }
-    ensures row { (first : P) → IsSlotSet pool.old (Filled link first)
-        (chain_of pool.old.nodes link) pool.new slot.new }
-    ensures room { pool.old.room ≤ pool.new.room }
-{
-    if link >= NODE_LIMIT {
-        return slot.take();
-    }
-    unlink_first_of_several(slot, link, pool)
-}
-
-/// Removes the first pair of a slot that holds others, which move up by one place.
-#[inline(never)]
-fn unlink_first_of_several<P, A: Allocator>(
-    slot: &mut Slot<P>,
-    link: usize,
-    pool: &mut Pool<P, A>,
-) -> P
-    requires filled { (p : P) × (slot.old ≡ Filled link p) }
-    requires leads { IsChain pool.old.nodes link }
-    requires several { 0 < length (chain_of pool.old.nodes link) }
-    ensures value { slot.old ≡ Filled link result }
-    ensures row { (first : P) → IsSlotSet pool.old (Filled link first)
-        (chain_of pool.old.nodes link) pool.new slot.new }
-    ensures room { pool.old.room ≤ pool.new.room }
-{
-    let mut link = link;
-    let second = take_behind(&mut link, pool);
-    slot.set_link(link);
-    slot.replace(second)
 }
 
 /// Keeps the pairs behind the first one of a slot for which the closure returns true, in their
@@ -138,7 +102,7 @@ pub(crate) fn retain<K: IntKey, V: Drop, A: Allocator, F: FnMut(K, &V) -> bool>(
             }
             return retain_behind(slot, link, pool, f) + 1;
         }
-        unlink_first(slot, link, pool);
+        row::take_front_linked(slot, link, pool);
     }
     0
 }
@@ -246,7 +210,7 @@ pub(crate) fn extract<K: IntKey, V, A: Allocator, F: FnMut(K, &mut V) -> bool>(
         return extract_behind(slot, link, pool, place, f);
     }
     if slot.pick(f) {
-        return Some(unlink_first(slot, link, pool));
+        return Some(row::take_front_linked(slot, link, pool));
     }
     *place = 1;
     extract_behind(slot, link, pool, place, f)

@@ -2,7 +2,7 @@
 ghost use Rattle.std.specs.Prelude.{◌≡◌, ◌+◌, ◌<◌, ◌≤◌, [], ◌∷◌, ◌++◌, List, drop, length, position, swap_remove, take, slice_index_or, IfOk, IfErr, IsOk, OnErr, OnOk};
 ghost use Rattle.intmap_table.specs.Classes.{same_key};
 ghost use Rattle.intmap_table.specs.Reach.{through_first};
-ghost use Rattle.intmap_table.specs.Tables.Nodes.{node_limit, row_in, IsSlot, IsSlotSet};
+ghost use Rattle.intmap_table.specs.Tables.Nodes.{Filled, chain_of, node_limit, row_in, IsChain, IsSlot, IsSlotSet};
 ghost use Rattle.intmap_table.specs.Tables.Rows.{put_second, turned};
 
 use crate::key::IntKey;
@@ -178,24 +178,44 @@ pub(crate) fn take_front<P, A: Allocator>(slot: &mut Slot<P>, pool: &mut Pool<P,
     let Some((link, _)) = slot.get() else {
         unreachable!();
     };
+    take_front_linked(slot, link, pool)
+}
+
+/// Removes the first pair of a slot with this link. The others move up by one place.
+#[inline(always)]
+pub(crate) fn take_front_linked<P, A: Allocator>(
+    slot: &mut Slot<P>,
+    link: usize,
+    pool: &mut Pool<P, A>,
+) -> P
+    requires filled { (p : P) × (slot.old ≡ Filled link p) }
+    requires leads { IsChain pool.old.nodes link }
+    ensures value { slot.old ≡ Filled link result }
+    ensures row { (first : P) → IsSlotSet pool.old (Filled link first)
+        (chain_of pool.old.nodes link) pool.new slot.new }
+    ensures room { pool.old.room ≤ pool.new.room }
+{
     if link >= NODE_LIMIT {
         return slot.take();
     }
-    take_first_of_several(slot, pool)
+    take_first_of_several(slot, link, pool)
 }
 
 /// Removes the first pair of a slot that holds others, which move up by one place.
 #[inline(never)]
-fn take_first_of_several<P, A: Allocator>(slot: &mut Slot<P>, pool: &mut Pool<P, A>) -> P
-    requires leads { IsSlot pool.old.nodes slot.old }
-    requires several { 1 < length (row_in pool.old.nodes slot.old) }
-    ensures row { (row : List P) × (row_in pool.old.nodes slot.old ≡ result ∷ row)
-        × IsSlotSet pool.old slot.old row pool.new slot.new }
+fn take_first_of_several<P, A: Allocator>(
+    slot: &mut Slot<P>,
+    link: usize,
+    pool: &mut Pool<P, A>,
+) -> P
+    requires filled { (p : P) × (slot.old ≡ Filled link p) }
+    requires leads { IsChain pool.old.nodes link }
+    requires several { 0 < length (chain_of pool.old.nodes link) }
+    ensures value { slot.old ≡ Filled link result }
+    ensures row { (first : P) → IsSlotSet pool.old (Filled link first)
+        (chain_of pool.old.nodes link) pool.new slot.new }
     ensures room { pool.old.room ≤ pool.new.room }
 {
-    let Some((link, _)) = slot.get() else {
-        unreachable!();
-    };
     let mut link = link;
     let second = take_behind(&mut link, pool);
     slot.set_link(link);

@@ -3,9 +3,10 @@
 use crate::memory::prelude::*;
 use crate::proved::table::kept::Kept;
 use crate::proved::table::key::IntKey;
-use crate::proved::table::linked::chain::{seek, take_behind};
+use crate::proved::table::linked::chain::seek;
 use crate::proved::table::linked::node::{NODE_LIMIT, NOWHERE};
 use crate::proved::table::linked::pool::Pool;
+use crate::proved::table::linked::row;
 use crate::proved::table::linked::slot::Slot;
 use crate::proved::table::table::closure_calls::keeps_pair;
 use crate::proved::table::table::stored::Stored;
@@ -28,28 +29,6 @@ fn unlink<P, A: Allocator>(
     }
     pool.set_link(before, next);
     pair
-}
-
-/// Removes the first pair of a slot. The others move up by one place.
-#[inline(always)]
-fn unlink_first<P, A: Allocator>(slot: &mut Slot<P>, link: usize, pool: &mut Pool<P, A>) -> P {
-    if link >= NODE_LIMIT {
-        return slot.take();
-    }
-    unlink_first_of_several(slot, link, pool)
-}
-
-/// Removes the first pair of a slot that holds others, which move up by one place.
-#[inline(never)]
-fn unlink_first_of_several<P, A: Allocator>(
-    slot: &mut Slot<P>,
-    link: usize,
-    pool: &mut Pool<P, A>,
-) -> P {
-    let mut link = link;
-    let second = take_behind(&mut link, pool);
-    slot.set_link(link);
-    slot.replace(second)
 }
 
 /// Keeps the pairs behind the first one of a slot for which the closure returns true, in their
@@ -92,7 +71,7 @@ pub(in crate::proved::table) fn retain<K: IntKey, V, A: Allocator, F: FnMut(K, &
             }
             return retain_behind(slot, link, pool, f) + 1;
         }
-        unlink_first(slot, link, pool);
+        row::take_front_linked(slot, link, pool);
     }
     0
 }
@@ -162,7 +141,7 @@ pub(in crate::proved::table) fn extract<K: IntKey, V, A: Allocator, F: FnMut(K, 
         return extract_behind(slot, link, pool, place, f);
     }
     if slot.pick(f) {
-        return Some(unlink_first(slot, link, pool));
+        return Some(row::take_front_linked(slot, link, pool));
     }
     *place = 1;
     extract_behind(slot, link, pool, place, f)

@@ -128,18 +128,29 @@ pub(in crate::proved::table) fn take_front<P, A: Allocator>(slot: &mut Slot<P>, 
     let Some((link, _)) = slot.get() else {
         unreachable!();
     };
+    take_front_linked(slot, link, pool)
+}
+
+/// Removes the first pair of a slot with this link. The others move up by one place.
+#[inline(always)]
+pub(in crate::proved::table) fn take_front_linked<P, A: Allocator>(
+    slot: &mut Slot<P>,
+    link: usize,
+    pool: &mut Pool<P, A>,
+) -> P {
     if link >= NODE_LIMIT {
         return slot.take();
     }
-    take_first_of_several(slot, pool)
+    take_first_of_several(slot, link, pool)
 }
 
 /// Removes the first pair of a slot that holds others, which move up by one place.
 #[inline(never)]
-fn take_first_of_several<P, A: Allocator>(slot: &mut Slot<P>, pool: &mut Pool<P, A>) -> P {
-    let Some((link, _)) = slot.get() else {
-        unreachable!();
-    };
+fn take_first_of_several<P, A: Allocator>(
+    slot: &mut Slot<P>,
+    link: usize,
+    pool: &mut Pool<P, A>,
+) -> P {
     let mut link = link;
     let second = take_behind(&mut link, pool);
     slot.set_link(link);

@@ -58,8 +58,8 @@ module _ (g : _) (c : After-pick g) where
   slot : c.pick.new.self ≡ Filled c.in-Some.link c.pick.ensures.2
   slot = c.pick.ensures.4 ∙ ap (λ l. Filled l c.pick.ensures.2) link
 
-pub unlink_first-requires-clause-filled : goal.unlink_first-requires-clause-filled
-unlink_first-requires-clause-filled g c = (c.pick.ensures.2, slot g (goal.at.unlink_first-requires-clause-filled g c).After-pick)
+pub take_front_linked-requires-clause-filled : goal.take_front_linked-requires-clause-filled
+take_front_linked-requires-clause-filled g c = (c.pick.ensures.2, slot g (goal.at.take_front_linked-requires-clause-filled g c).After-pick)
 
 pub returns-then-pick-clause-step : goal.returns-then-pick-clause-step
 returns-then-pick-clause-step g c =
@@ -68,13 +68,13 @@ returns-then-pick-clause-step g c =
     let pool = c.args.pool.now in
     let p = c.in-Some.field-0-1.now in
     let chain = chain_of pool.nodes c.in-Some.link in
-    let two : Filled c.in-Some.link c.unlink_first.result ≡ Filled c.in-Some.link c.pick.ensures.2 = sym c.unlink_first.ensures.value ∙ slot g at in
-    let same : c.unlink_first.result ≡ c.pick.ensures.2 = cc in
+    let two : Filled c.in-Some.link c.take_front_linked.result ≡ Filled c.in-Some.link c.pick.ensures.2 = sym c.take_front_linked.ensures.value ∙ slot g at in
+    let same : c.take_front_linked.result ≡ c.pick.ensures.2 = cc in
     let front = front g first in (
       chain,
-      slot_is pool (Filled c.in-Some.link p) c.unlink_first.new.slot chain chain c.unlink_first.new.pool c.args.slot.now c.unlink_first.new.slot (c.unlink_first.ensures.row p) c.in-Some.ensures.some refl refl,
-      subst (λ L. ExtractsBehind (PicksAt g.F.FnMut) c.args.f.now L c.args.place.now (Some c.unlink_first.result) c.pick.new.f chain c.args.place.now) (sym (row g first))
-          (first_goes (PicksAt g.F.FnMut) (TakesPairMut g.F.FnMut) c.args.f.now c.pick.new.f p c.pick.ensures.2 chain c.unlink_first.result c.args.place.now front (rw c.if-pick.true at (call g at)) same),
+      slot_is pool (Filled c.in-Some.link p) c.take_front_linked.new.slot chain chain c.take_front_linked.new.pool c.args.slot.now c.take_front_linked.new.slot (c.take_front_linked.ensures.row p) c.in-Some.ensures.some refl refl,
+      subst (λ L. ExtractsBehind (PicksAt g.F.FnMut) c.args.f.now L c.args.place.now (Some c.take_front_linked.result) c.pick.new.f chain c.args.place.now) (sym (row g first))
+          (first_goes (PicksAt g.F.FnMut) (TakesPairMut g.F.FnMut) c.args.f.now c.pick.new.f p c.pick.ensures.2 chain c.take_front_linked.result c.args.place.now front (rw c.if-pick.true at (call g at)) same),
       omega (arith, front),
     )
 

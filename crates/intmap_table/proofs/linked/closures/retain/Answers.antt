@@ -87,8 +87,8 @@ returns-then-keeps_pair-clause-row g c =
 pub loop-link-smaller : goal.loop-link-smaller
 loop-link-smaller g c =
     let at = (goal.at.loop-link-smaller g c).In-Some in
-    let out = c.unlink_first.ensures.row c.in-Some.first.now in
-    smaller_rest (row_in c.loop-link.pool.nodes c.loop-link.slot) c.in-Some.first.now (chain_of c.loop-link.pool.nodes c.in-Some.link) (row_in c.unlink_first.new.pool.nodes c.unlink_first.new.slot) (left g at) out.pairs
+    let out = c.take_front_linked.ensures.row c.in-Some.first.now in
+    smaller_rest (row_in c.loop-link.pool.nodes c.loop-link.slot) c.in-Some.first.now (chain_of c.loop-link.pool.nodes c.in-Some.link) (row_in c.take_front_linked.new.pool.nodes c.take_front_linked.new.slot) (left g at) out.pairs
 
 pub loop-link-preserved : goal.loop-link-preserved
 loop-link-preserved g c =
@@ -98,16 +98,16 @@ loop-link-preserved g c =
     let first = c.in-Some.first.now in
     let chain = chain_of pool.nodes c.in-Some.link in
     let all = row_in c.args.pool.now.nodes c.args.slot.now in
-    let out = c.unlink_first.ensures.row first in
+    let out = c.take_front_linked.ensures.row first in
     let now = out.pairs in
-    let set = slot_is pool (Filled c.in-Some.link first) c.unlink_first.new.slot chain (row_in c.unlink_first.new.pool.nodes c.unlink_first.new.slot) c.unlink_first.new.pool c.loop-link.slot c.unlink_first.new.slot out c.in-Some.ensures.some now refl in
+    let set = slot_is pool (Filled c.in-Some.link first) c.take_front_linked.new.slot chain (row_in c.take_front_linked.new.pool.nodes c.take_front_linked.new.slot) c.take_front_linked.new.pool c.loop-link.slot c.take_front_linked.new.slot out c.in-Some.ensures.some now refl in
     let call = rw c.if-keeps_pair.false at c.keeps_pair.ensures in
     let room = loop.room in
-    let more = c.unlink_first.ensures.room in
+    let more = c.take_front_linked.ensures.room in
     let split = loop.gone.1 ∙ ap (λ L. loop.gone.0 ++ L) (left g at) in
     record {
       gone = (loop.gone.0 ++ first ∷ [], subst (λ L. all ≡ (loop.gone.0 ++ first ∷ []) ++ L) (sym now) (gone_more all loop.gone.0 first chain split));
-      row = Slot-then c.args.pool.now c.args.slot.now loop.gone.0 (row_in pool.nodes c.loop-link.slot) (row_in c.unlink_first.new.pool.nodes c.unlink_first.new.slot) pool c.loop-link.slot c.unlink_first.new.pool c.unlink_first.new.slot
+      row = Slot-then c.args.pool.now c.args.slot.now loop.gone.0 (row_in pool.nodes c.loop-link.slot) (row_in c.take_front_linked.new.pool.nodes c.take_front_linked.new.slot) pool c.loop-link.slot c.take_front_linked.new.pool c.take_front_linked.new.slot
           loop.gone.1 loop.row set;
       callable = subst (TakesEach (KeepsAt g.F.FnMut) (TakesPair g.F.FnMut) c.keeps_pair.new.f) (sym now)
           (TakesEach-next (KeepsAt g.F.FnMut) (TakesPair g.F.FnMut) c.loop-link.f c.keeps_pair.new.f first c.keeps_pair.result chain (callable g at) c.keeps_pair.ensures);

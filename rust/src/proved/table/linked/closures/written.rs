@@ -1,10 +1,11 @@
 //! `retain` by a closure that may write the values.
-use super::{unlink, unlink_first};
+use super::unlink;
 use crate::memory::alloc::Allocator;
 use crate::proved::table::IntKey;
 use crate::proved::table::kept::Kept;
 use crate::proved::table::linked::node::NOWHERE;
 use crate::proved::table::linked::pool::Pool;
+use crate::proved::table::linked::row;
 use crate::proved::table::linked::slot::Slot;
 use crate::proved::table::table::stored::Stored;
 
@@ -20,7 +21,7 @@ pub(in crate::proved::table) fn retain_mut<K: IntKey, V, A: Allocator, F: FnMut(
         if slot.pick(f) {
             return retain_behind(slot, link, pool, f) + 1;
         }
-        unlink_first(slot, link, pool);
+        row::take_front_linked(slot, link, pool);
     }
     0
 }
