@@ -1,6 +1,5 @@
 //! Closures are called at the pairs of one slot.
 ghost use Rattle.std.specs.Prelude.{◌≡◌, ◌+◌, ◌-◌, ◌^◌, ◌<◌, ◌≤◌, ◌∷◌, ℕ, List, drop, length};
-ghost use Rattle.std.specs.Map.{keys_of};
 ghost use Rattle.intmap_table.specs.Picking.{AsksAt, ExtractsBehind, PicksAt};
 ghost use Rattle.intmap_table.specs.Retaining.{KeepsAt, Retains, TakesPair};
 ghost use Rattle.intmap_table.specs.Taking.{TakesEach};
@@ -118,8 +117,6 @@ pub(crate) fn write_each<K: IntKey, V, A: Allocator, F: FnMut(K, &mut V)>(
         (row_in pool.old.nodes slot.old) }
     ensures row { (row : List (K × V)) × IsSlotSet pool.old slot.old row pool.new slot.new
         × Writes (WritesAt F.FnMut) f.old (row_in pool.old.nodes slot.old) row f.new }
-    ensures keys { keys_of (row_in pool.new.nodes slot.new)
-        ≡ keys_of (row_in pool.old.nodes slot.old) }
     ensures room { pool.new.room ≡ pool.old.room }
 {
     let Some((link, _)) = slot.get() else {

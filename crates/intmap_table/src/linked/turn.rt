@@ -9,8 +9,7 @@ use std::alloc::Allocator;
 /// Turns the chain of a link round: the new link leads through the same pairs, the last one first.
 /// Each node of the chain gets another link, once.
 pub(crate) fn turn<P, A: Allocator>(pool: &mut Pool<P, A>, link: usize) -> usize
-    requires leads { IsChain pool.old.nodes link }
-    requires fits { link < 2 ^ 48 }
+    requires { IsChain pool.old.nodes link }
     ensures chain { IsChainSet pool.old link (reverse (chain_of pool.old.nodes link))
         pool.new result }
     ensures fits { result < 2 ^ 48 }

@@ -1,9 +1,7 @@
 use Rattle.std.proofs.Common.{◌≡◌, ◌∷◌, refl, sym, ap, ◌∙◌, subst}
-use Rattle.std.specs.Map.{keys_of}
 use Rattle.intmap_table.specs.Taking.{TakesEach}
 use Rattle.intmap_table.specs.Writes.{TakesPairMut, Writes, WritesAt}
 use Rattle.intmap_table.specs.Tables.Nodes.{Filled, chain_of, row_in}
-use Rattle.intmap_table.proofs.WritesLemmas.{keys_of-Writes}
 use Rattle.intmap_table.proofs.TakingLemmas.{TakesEach-first, TakesEach-next}
 use Rattle.intmap_table.proofs.Nodes.SlotLemmas.{Slot-first, slot_is}
 use Rattle.intmap_table.proofs.Nodes.PairsWrittenLemmas.{Written-start, Written-asks, Written-on, Written-end}
@@ -99,8 +97,3 @@ returns-clause-row g c =
       set,
       subst (λ L. Writes (WritesAt g.F.FnMut) c.args.f.now L ((old.0, value) ∷ end.0) c.loop-next.f) (sym (row g in_some)) (value, c.write.new.f, end.0, call g at, end.2, refl),
     )
-
-pub returns-clause-keys : goal.returns-clause-keys
-returns-clause-keys g c =
-    let done = returns-clause-row g c in
-    ap keys_of done.1.pairs ∙ keys_of-Writes (WritesAt g.F.FnMut) c.args.f.now c.loop-next.f (row_in c.args.pool.now.nodes c.args.slot.now) done.0 done.2

@@ -3,7 +3,7 @@ use Rattle.intmap_table.proofs.Nodes.TurnLemmas.{Turned-start, Turned-some, Turn
 use Rattle.intmap_table.proofs.linked.turn.turn.Goals as goal
 
 pub loop-left-init : goal.loop-left-init
-loop-left-init g c = record { turned = Turned-start c.args.pool.now c.args.link c.requires.leads; fits = omega arith }
+loop-left-init g c = record { turned = Turned-start c.args.pool.now c.args.link c.requires; fits = omega arith }
 
 pub link-next-requires : goal.link-next-requires
 link-next-requires g c =
