@@ -45,7 +45,7 @@ fn masked_index_of<K: IntKey>(key: &K, mask: usize) -> usize
     requires { IsCapacity (mask + 1) }
     ensures slot { result ≡ slot_number K.number_of key.now (mask + 1) }
     ensures within { result ≤ mask }
-    ensures key { K.is_valid key.now }
+    ensures known { K.is_valid key.now }
 {
     (key.number().wrapping_mul(MULTIPLIER) & mask as u64) as usize
 }
@@ -55,7 +55,7 @@ fn index_of<K: IntKey>(key: &K, slots: usize) -> usize
     requires { IsCapacity slots }
     ensures slot { result ≡ slot_number K.number_of key.now slots }
     ensures within { result < slots }
-    ensures key { K.is_valid key.now }
+    ensures known { K.is_valid key.now }
 {
     masked_index_of(key, slots - 1)
 }
@@ -118,7 +118,7 @@ impl<K: IntKey, X, A: Allocator> Table<K, X, A> {
     fn index_of(&self, key: &K) -> usize
         ensures slot { result ≡ slot_number K.number_of key.now self.now.capacity }
         ensures within { result < self.now.capacity }
-        ensures key { K.is_valid key.now }
+        ensures known { K.is_valid key.now }
     {
         masked_index_of(key, self.slots.mask())
     }
