@@ -131,7 +131,7 @@ impl<P, A: Allocator> Pool<P, A> {
         ensures succeeds { 0 < self.old.room → IsOk result }
     {
         if self.spare == 0 {
-            return self.append(link, pair);
+            return self.add_new(link, pair);
         }
         let at = self.free;
         let Some(next) = self.nodes[at].next_free() else {
@@ -145,7 +145,7 @@ impl<P, A: Allocator> Pool<P, A> {
 
     /// Puts a pair with a link into a new node behind the others, none of which may be free, and
     /// returns which. If an allocation fails, it returns the pair.
-    pub(crate) fn append(&mut self, link: usize, pair: P) -> Result<usize, P>
+    pub(crate) fn add_new(&mut self, link: usize, pair: P) -> Result<usize, P>
         requires fits { link < 2 ^ 48 }
         requires none { self.old.held ≡ length self.old.nodes }
         ensures at { IfOk result (λ at. at ≡ self.old.held) }

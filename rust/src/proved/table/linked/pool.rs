@@ -75,7 +75,7 @@ impl<P, A: Allocator> Pool<P, A> {
     #[inline(always)]
     pub(in crate::proved::table) fn add(&mut self, link: usize, pair: P) -> Result<usize, P> {
         if self.spare == 0 {
-            return self.append(link, pair);
+            return self.add_new(link, pair);
         }
         let at = self.free;
         let Some(next) = self.nodes[at].next_free() else {
@@ -89,7 +89,7 @@ impl<P, A: Allocator> Pool<P, A> {
 
     /// Puts a pair with a link into a new node behind the others, none of which may be free, and
     /// returns which. If an allocation fails, it returns the pair.
-    pub(in crate::proved::table) fn append(&mut self, link: usize, pair: P) -> Result<usize, P> {
+    pub(in crate::proved::table) fn add_new(&mut self, link: usize, pair: P) -> Result<usize, P> {
         let at = self.nodes.len();
         if at == NODE_LIMIT || self.nodes.reserve(1).is_err() {
             return Err(pair);

@@ -37,7 +37,7 @@ fn clone_chain<K: IntKey, X: Clone, A: Allocator>(
     let mut link = from;
     while let Some((next, pair)) = pool.get(link) {
         let copy = clone_pair(pair)?;
-        match made.append(link_behind(next, made.held()), copy) {
+        match made.add_new(link_behind(next, made.held()), copy) {
             Ok(_) => {}
             Err(_) => return Err(AllocError),
         }

@@ -13,7 +13,7 @@ use crate::proved::table::table::stored::Stored;
 use crate::memory::alloc::{AllocError, Allocator};
 
 /// Whether one of the pairs that a link leads through goes to slot `target` among `mask + 1`.
-fn goes_from<K: IntKey, X, A: Allocator>(
+fn any_goes_to<K: IntKey, X, A: Allocator>(
     pool: &Pool<(Stored<K>, X), A>,
     from: usize,
     mask: usize,
@@ -42,7 +42,7 @@ fn goes_to<K: IntKey, X, A: Allocator>(
     if masked_index_of(first.0.key(), mask) == target {
         return true;
     }
-    goes_from(pool, link, mask, target)
+    any_goes_to(pool, link, mask, target)
 }
 
 /// The slot that the first pair of an old slot goes to among `mask + 1`.

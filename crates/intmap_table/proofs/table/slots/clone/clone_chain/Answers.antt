@@ -17,7 +17,7 @@ loop-next-smaller g c =
 pub loop-next-preserved : goal.loop-next-preserved
 loop-next-preserved g c =
     Cloned-next g.X.Clone.is_clone c.args.pool.now.nodes c.args.from c.loop-next.link c.args.made.now c.held-first.result c.loop-next.made c.in-Some.next c.in-Some.pair.now c.in_ok-copy.copy c.in-Ok.field-0 c.link_behind.result
-    c.append.new.self c.loop-next.invariant c.in-Some.ensures.some c.in_ok-copy.ensures c.in-Ok.ensures.ok c.in-Ok.ensures.at c.in-Ok.ensures.len (λ below. c.link_behind.ensures.on below ∙ ap (λ n. n + 1) c.held.ensures.held)
+    c.add_new.new.self c.loop-next.invariant c.in-Some.ensures.some c.in_ok-copy.ensures c.in-Ok.ensures.ok c.in-Ok.ensures.at c.in-Ok.ensures.len (λ below. c.link_behind.ensures.on below ∙ ap (λ n. n + 1) c.held.ensures.held)
     c.link_behind.ensures.ends
 
 pub returns-clause-chain : goal.returns-clause-chain

@@ -6,8 +6,8 @@ use Rattle.intmap_table.specs.Walk.{slot_of}
 use Rattle.intmap_table.specs.Tables.Nodes.{chain_of}
 use Rattle.intmap_table.proofs.Nodes.PathLemmas.{IsNext, Chain-next, Chain-end}
 use Rattle.intmap_table.proofs.Nodes.PlacedLemmas.{first-there, first-elsewhere}
-use Rattle.intmap_table.proofs.table.slots.grow.goes_from.Goals as goal
-use Rattle.intmap_table.proofs.table.slots.grow.goes_from.Goals.{After-masked_index_of}
+use Rattle.intmap_table.proofs.table.slots.grow.any_goes_to.Goals as goal
+use Rattle.intmap_table.proofs.table.slots.grow.any_goes_to.Goals.{After-masked_index_of}
 
 module _ (g : _) (c : After-masked_index_of g) where
   -- the node's pair is the first of those that are left

@@ -1,7 +1,7 @@
 use Rattle.std.proofs.Common.{length, ◌≡◌, ◌+◌}
 use Rattle.intmap_table.specs.Walk.{slot_of}
 use Rattle.intmap_table.specs.Tables.Nodes.{chain_of, IsChain}
-use Rattle.intmap_table.proofs.table.slots.grow.goes_from.Given as goal
+use Rattle.intmap_table.proofs.table.slots.grow.any_goes_to.Given as goal
 
 -- the link leads through what is left, and none of those before goes to the slot
 abbrev pub invariant-loop-next : goal.invariant-loop-next
