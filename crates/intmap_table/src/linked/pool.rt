@@ -181,9 +181,7 @@ impl<P, A: Allocator> Pool<P, A> {
         }
         self.nodes.reserve_exact(new)
     }
-}
 
-impl<P: Drop, A: Allocator> Pool<P, A> {
     /// A pool without a node, which has room for `room` pairs.
     pub(crate) fn with_room(alloc: A, room: usize) -> Result<Pool<P, A>, AllocError>
         ensures nodes { IfOk result (λ made. made.nodes ≡ []) }

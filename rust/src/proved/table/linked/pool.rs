@@ -109,9 +109,7 @@ impl<P, A: Allocator> Pool<P, A> {
         }
         self.nodes.reserve_exact(new)
     }
-}
 
-impl<P, A: Allocator> Pool<P, A> {
     /// A pool without a node, which has room for `room` pairs.
     pub(in crate::proved::table) fn with_room(alloc: A, room: usize) -> Result<Pool<P, A>, AllocError> {
         if room > NODE_LIMIT {
