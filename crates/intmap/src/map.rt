@@ -128,6 +128,7 @@ impl<K: IntKey, V, A: Allocator + Copy> IntMap<K, V, A> {
     }
 
     /// The key of the pair at a place of a slot.
+    #[inline(always)]
     pub(crate) fn key_at(&self, slot: usize, place: usize) -> &K
         requires { IsFound K.number_of self.now.walk self.now.capacity slot place }
         ensures { Some result.now
@@ -137,6 +138,7 @@ impl<K: IntKey, V, A: Allocator + Copy> IntMap<K, V, A> {
     }
 
     /// Where the pair at a place of a slot is, with its key.
+    #[inline(always)]
     pub(crate) fn location(&self, slot: usize, place: usize) -> Location<K>
         requires { IsFound K.number_of self.now.walk self.now.capacity slot place }
         ensures key { Some result.key
@@ -148,6 +150,7 @@ impl<K: IntKey, V, A: Allocator + Copy> IntMap<K, V, A> {
     }
 
     /// The value of a located pair.
+    #[inline(always)]
     pub(crate) fn value_at(&self, at: Location<K>) -> &V
         requires { IsAt K.number_of self.now.walk self.now.capacity at }
         ensures value { value_of K.number_of self.now.walk at.key ≡ Some result.now }
@@ -156,6 +159,7 @@ impl<K: IntKey, V, A: Allocator + Copy> IntMap<K, V, A> {
     }
 
     /// A mutable reference to the value of a located pair.
+    #[inline(always)]
     pub(crate) fn value_mut_at(&mut self, at: Location<K>) -> &mut V
         requires { IsAt K.number_of self.old.walk self.old.capacity at }
         ensures* writes_back { sem 𝓛 (map_lends K.row V.row A.row K.IntKey.own K.PartialEq

@@ -22,7 +22,7 @@ impl<'a, K: IntKey, V, A: Allocator + Copy> OccupiedEntry<'a, K, V, A> {
     }
 
     /// The value of the key.
-    #[inline]
+    #[inline(always)]
     pub fn get(&self) -> &V
         ensures value { entry_value (Occupied self.now) ≡ Some result.now }
     {
@@ -32,7 +32,7 @@ impl<'a, K: IntKey, V, A: Allocator + Copy> OccupiedEntry<'a, K, V, A> {
 
     /// A mutable reference to the value of the key. It can't outlive the entry; `into_mut` returns
     /// one that lasts as long as the map is borrowed.
-    #[inline]
+    #[inline(always)]
     pub fn get_mut(&mut self) -> &mut V
         ensures* writes_back { sem 𝓛 (occupied_lends K.row V.row A.row A.Allocator
             self.entry result) }
@@ -52,7 +52,7 @@ impl<'a, K: IntKey, V, A: Allocator + Copy> OccupiedEntry<'a, K, V, A> {
     }
 
     /// A mutable reference to the value of the key, for as long as the map is borrowed.
-    #[inline]
+    #[inline(always)]
     pub fn into_mut(self) -> &'a mut V
         ensures* writes_back { sem 𝓛 (entry_lends K.row V.row A.row A.Allocator
             (Occupied self.entry) result) }

@@ -61,6 +61,7 @@ impl<K: IntKey, V, A: Allocator + Copy> IntMap<K, V, A> {
     /// // no step
     /// map.get_counted(1, &mut steps)     // None
     /// ```
+    #[inline(always)]
     pub fn get_counted(&self, key: K, steps: &mut Steps) -> Option<&V>
         ensures value { option_copied result ≡ value_of K.number_of self.now.walk key }
         ensures counted { steps.new

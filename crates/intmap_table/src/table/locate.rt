@@ -48,6 +48,7 @@ impl<K: IntKey, X, A: Allocator> Table<K, X, A> {
     }
 
     /// The key of the pair at a place of a slot.
+    #[inline(always)]
     pub fn key_at(&self, slot: usize, place: usize) -> &K
         requires { IsFound K.number_of self.now.walk self.now.capacity slot place }
         ensures { Some result.now

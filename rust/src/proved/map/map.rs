@@ -73,22 +73,26 @@ impl<K: IntKey, V, A: Allocator + Copy> IntMap<K, V, A> {
     }
 
     /// The key of the pair at a place of a slot.
+    #[inline(always)]
     pub(in crate::proved::map) fn key_at(&self, slot: usize, place: usize) -> &K {
         self.table.key_at(slot, place)
     }
 
     /// Where the pair at a place of a slot is, with its key.
+    #[inline(always)]
     pub(in crate::proved::map) fn location(&self, slot: usize, place: usize) -> Location<K> {
         let key = *self.key_at(slot, place);
         Location { key, slot, place }
     }
 
     /// The value of a located pair.
+    #[inline(always)]
     pub(in crate::proved::map) fn value_at(&self, at: Location<K>) -> &V {
         self.table.value_at(at).get()
     }
 
     /// A mutable reference to the value of a located pair.
+    #[inline(always)]
     pub(in crate::proved::map) fn value_mut_at(&mut self, at: Location<K>) -> &mut V {
         self.table.value_mut_at(at).get_mut()
     }

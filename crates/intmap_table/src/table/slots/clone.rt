@@ -34,23 +34,21 @@ fn link_behind(link: usize, held: usize) -> usize
     if link < NODE_LIMIT { held + 1 } else { NOWHERE }
 }
 
-/// Puts clones of the pairs that a link leads through into new nodes of `made`, in their order, and
-/// returns the link to them.
+/// Puts clones of the pairs that a link leads through, of which there is one or more, into new nodes
+/// of `made`, in their order, and returns the link to them.
 fn clone_chain<K: IntKey, X: Clone, A: Allocator>(
     pool: &Pool<(Stored<K>, X), A>,
     from: usize,
     made: &mut Pool<(Stored<K>, X), A>,
 ) -> Result<usize, AllocError>
     requires leads { IsChain pool.now.nodes from }
+    requires some { from < node_limit }
     requires none { made.old.held ≡ length made.old.nodes }
     ensures fits { IfOk result (λ link. link < 2 ^ 48) }
     ensures none { OnOk result (made.new.held ≡ length made.new.nodes) }
     ensures chain { IfOk result (λ link.
         IsChainClone X.is_clone (chain_of pool.now.nodes from) made.old made.new link) }
 {
-    if from >= NODE_LIMIT {
-        return Ok(NOWHERE);
-    }
     let first = made.held();
     let mut link = from;
     while let Some((next, pair)) = pool.get(link) {
@@ -82,6 +80,9 @@ fn clone_slot<K: IntKey, X: Clone, A: Allocator>(
         return Ok(Slot::empty());
     };
     let copy = clone_pair(pair)?;
+    if link >= NODE_LIMIT {
+        return Ok(Slot::filled(NOWHERE, copy));
+    }
     let link = clone_chain(pool, link, made)?;
     Ok(Slot::filled(link, copy))
 }

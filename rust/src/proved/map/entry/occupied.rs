@@ -14,7 +14,7 @@ impl<'a, K: IntKey, V, A: Allocator + Copy> OccupiedEntry<'a, K, V, A> {
     }
 
     /// The value of the key.
-    #[inline]
+    #[inline(always)]
     pub fn get(&self) -> &V {
         let at = self.map.location(self.slot, self.place);
         self.map.value_at(at)
@@ -22,7 +22,7 @@ impl<'a, K: IntKey, V, A: Allocator + Copy> OccupiedEntry<'a, K, V, A> {
 
     /// A mutable reference to the value of the key. It can't outlive the entry; `into_mut` returns
     /// one that lasts as long as the map is borrowed.
-    #[inline]
+    #[inline(always)]
     pub fn get_mut(&mut self) -> &mut V {
         let slot = self.slot;
         let place = self.place;
@@ -31,7 +31,7 @@ impl<'a, K: IntKey, V, A: Allocator + Copy> OccupiedEntry<'a, K, V, A> {
     }
 
     /// A mutable reference to the value of the key, for as long as the map is borrowed.
-    #[inline]
+    #[inline(always)]
     pub fn into_mut(self) -> &'a mut V {
         let OccupiedEntry { map, slot, place } = self;
         let at = map.location(slot, place);

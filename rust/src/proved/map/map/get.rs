@@ -21,6 +21,7 @@ impl<K: IntKey, V, A: Allocator + Copy> IntMap<K, V, A> {
     /// The same as [`get`](IntMap::get), but each comparison of a stored key with the sought one is
     /// counted in `steps`. The keys that agree with the sought one modulo the capacity are compared
     /// in iteration order, up to the key itself. It never fails.
+    #[inline(always)]
     pub fn get_counted(&self, key: K, steps: &mut Steps) -> Option<&V> {
         let Ok(at) = self.table.locate(key, steps) else {
             return None;

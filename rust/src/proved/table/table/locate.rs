@@ -30,6 +30,7 @@ impl<K: IntKey, X, A: Allocator> Table<K, X, A> {
     }
 
     /// The key of the pair at a place of a slot.
+    #[inline(always)]
     pub fn key_at(&self, slot: usize, place: usize) -> &K {
         self.slots.key_at(slot, place).key()
     }

@@ -1,14 +1,11 @@
 use Rattle.std.proofs.Common.{◌+◌, length, ap, ◌∙◌, arith}
 use Rattle.intmap_table.proofs.Nodes.PathLemmas.{Chain-next}
-use Rattle.intmap_table.proofs.Nodes.CloneLemmas.{Cloned-start, Cloned-next, Cloned-all, Cloned-none}
+use Rattle.intmap_table.proofs.Nodes.CloneLemmas.{Cloned-start, Cloned-next, Cloned-all}
 use Rattle.intmap_table.proofs.table.slots.clone.clone_chain.Goals as goal
-
-pub returns-then-from-ge-NODE_LIMIT-clause-chain : goal.returns-then-from-ge-NODE_LIMIT-clause-chain
-returns-then-from-ge-NODE_LIMIT-clause-chain g c = Cloned-none g.X.Clone.is_clone c.args.pool.now.nodes c.args.from c.args.made.now c.requires.leads (omega (arith, c.if-from-ge-NODE_LIMIT.true))
 
 pub loop-next-init : goal.loop-next-init
 loop-next-init g c =
-    Cloned-start g.X.Clone.is_clone c.args.pool.now.nodes c.args.from c.args.made.now c.held-first.result c.requires.leads (omega (arith, c.if-from-ge-NODE_LIMIT.false)) c.held-first.ensures.held c.requires.none
+    Cloned-start g.X.Clone.is_clone c.args.pool.now.nodes c.args.from c.args.made.now c.held-first.result c.requires.leads c.requires.some c.held-first.ensures.held c.requires.none
 
 pub loop-next-smaller : goal.loop-next-smaller
 loop-next-smaller g c =
