@@ -46,8 +46,8 @@ abbrev pub filled_slots_of : State → ℕ
 filled_slots_of m = load_of itself m.walk m.capacity
 
 -- n has as many pairs as m, and each key has the same value in both, or none
-abbrev pub BindSame : State → State → Type 0
-BindSame m n = ((q : ℕ) → bound_to n q ≡ bound_to m q) × (length n.walk ≡ length m.walk)
+abbrev pub HaveSameBindings : State → State → Type 0
+HaveSameBindings m n = ((q : ℕ) → bound_to n q ≡ bound_to m q) × (length n.walk ≡ length m.walk)
 
 -- `same` says whether each key has the same value in both maps, or none
 abbrev pub AreEqual : State → State → Bool → Type 0
@@ -116,7 +116,7 @@ MakesNone additional status =
 -- there are at least as many slots as the pairs and this number make; or the call failed
 abbrev pub Reserves : State → State → ℕ → ℤ → Type 0
 Reserves m n additional status =
-    ((status ≡ ok_status) × IsReservation itself m additional n × BindSame m n)
+    ((status ≡ ok_status) × IsReservation itself m additional n × HaveSameBindings m n)
     ⊎ Fails (MayRefuseReserve m.capacity (length m.walk + additional)) m n status
 
 -- there was no memory for a first map, which was to have room for this number of pairs, or these would be too many
@@ -128,7 +128,7 @@ MakesNoneWithRoom more status =
 -- there is room for this number of pairs more, which ids that follow one another find without a failure
 pub record GainsRoom (m n : State) (more : ℕ) : Type 0 where
   pub made : IsRoomMade itself m more n
-  pub same : BindSame m n
+  pub same : HaveSameBindings m n
   pub room : HasRoomInRow itself n.walk n.capacity n.factor more
 
 -- there is this room; or the call failed
@@ -146,5 +146,5 @@ MakesRoomToShare m n more status =
 -- the load factor is F, and met; or the call failed
 abbrev pub SetsFactor : State → State → ℕ → ℤ → Type 0
 SetsFactor m n F status =
-    ((status ≡ ok_status) × IsNewFactor itself m F n × BindSame m n)
+    ((status ≡ ok_status) × IsNewFactor itself m F n × HaveSameBindings m n)
     ⊎ Fails (MayRefuseFactor m.capacity (length m.walk) F) m n status

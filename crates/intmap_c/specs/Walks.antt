@@ -9,7 +9,7 @@ use Rattle.intmap_c.specs.Answers.{no_pair}
 use Rattle.intmap_c.specs.Calls.{State, itself}
 
 -- the first pair of the walk from the cursor on is returned, and the cursor is behind it; or none is left, and the cursor stays
-pub record Steps (m : State) (at to : Cursor) (found : FoundPair) : Type 0 where
+pub record TakesStep (m : State) (at to : Cursor) (found : FoundPair) : Type 0 where
   pub told :
       ((found.status ≡ present_status) × (drop (passed itself m at) m.walk ≡ (found.pair.key, found.pair.value) ∷ drop (passed itself m to) m.walk)
       × (passed itself m to ≡ passed itself m at + 1))

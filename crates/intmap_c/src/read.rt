@@ -7,7 +7,7 @@ ghost use Rattle.std.specs.Borrow.{sem};
 ghost use Rattle.intmap_c.specs.Answers.{value_found};
 ghost use Rattle.intmap_c.specs.Calls.{AreEqual, Clones, bound_to, filled_slots_of, map_of};
 ghost use Rattle.intmap_c.specs.Loans.{Loan, is_lent};
-ghost use Rattle.intmap_c.specs.Walks.{Steps};
+ghost use Rattle.intmap_c.specs.Walks.{TakesStep};
 
 use crate::answer::{FoundPair, FoundValue, OK};
 use crate::handle::{Handle, take};
@@ -176,7 +176,7 @@ pub unsafe extern "C" fn intmap_contains_key(word: &Word, key: u64) -> bool
 
 /// Returns what [`intmap_step`] returns.
 fn step(lent: LentMap<'_>, at: &mut Cursor) -> FoundPair
-    ensures { Steps (map_of lent.entry.value) at.old at.new result }
+    ensures { TakesStep (map_of lent.entry.value) at.old at.new result }
 {
     match lent.map() {
         None => FoundPair::of(None),
@@ -195,7 +195,7 @@ pub unsafe extern "C" fn intmap_step(word: &Word, at: &mut Cursor) -> FoundPair
     ghost loan: { Loan }
     requires* lent { sem 𝓛 (is_lent loan word.now.at) }
     ensures* kept { sem 𝓛 (is_lent loan word.now.at) }
-    ensures step { Steps (map_of loan.value) at.old at.new result }
+    ensures step { TakesStep (map_of loan.value) at.old at.new result }
 {
     let lent = LentMap {
         at: word.at,

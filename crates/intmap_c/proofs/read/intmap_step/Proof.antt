@@ -5,7 +5,7 @@ use Rattle.intmap_c.proofs.ReaderWords.{sets, lands_as, agg, sub, whole, plain, 
 use Rattle.intmap_c.proofs.ReaderWords.{proved, id⊢, flft, named, load, addr, through, look_in, RefOf, mut_vals, mut_Tells, shr_vals, shr_Tells}
 use Rattle.intmap_c.proofs.ReaderWords.{lasts, gave_ref, Goes-gave_ref, map_of, Word, ptr_fits, lent_fits, opens_word, ◌∵◌, qed, split, fsplit, owns}
 use Rattle.intmap_c.proofs.ReaderWords.{types_at, nothing, calls_at, triple_of, use2, is_lent, lends}
-use Rattle.intmap_c.specs.Walks.{Steps}
+use Rattle.intmap_c.specs.Walks.{TakesStep}
 use Rattle.intmap_table.specs.contracts.table.walk.Cursor.{the_row as Cursor}
 use Rattle.intmap_c.specs.contracts.answer.FoundPair as found
 use Rattle.intmap_c.proofs.answer.FoundPair.TheLaws as found_laws
@@ -38,5 +38,5 @@ intmap_step_spec 𝓤 𝓛 𝓜 𝓡 wired =
     -- [what the callee is lent; what stays lent; the token of the loan; that of the `&`; the word; what else is passed; the other tokens]
     move ! (0 ∷ 5 ∷ []) $ join ! $ move ! (2 ∷ 5 ∷ []) $ join ! $ join ! $ nothing ! $ move ! (1 ∷ 0 ∷ []) $ use2 𝓛 (raw (G.pre z)) (id⊢ 𝓤 _) $
     calls_at ! (framed 𝓤 𝓛.H 𝓜 𝓣) G (met 𝓤 𝓛 𝓜 𝓡 (code.calls-intmap_c::read::step 𝓡.env wired)) z (and_then ! (get ! refl) (and_then ! (get ! refl) (no_more !))) (λ v.
-    gives_back ! tt loan p (‵ (flft κs.1.0 qs.1.0) ⊛ ‵ ftrue) found.the_row (lasts g.ended z.0.0 z.0.3) (λ ws u. Steps (map_of loan.value) a.1.0.now ws.1.0 u) v (W.post y v) (λ u ws. ends_at 𝓛 f.ended stayed c y v u (tt, ws.1) (tt, (tt, tt))) (λ u is.
+    gives_back ! tt loan p (‵ (flft κs.1.0 qs.1.0) ⊛ ‵ ftrue) found.the_row (lasts g.ended z.0.0 z.0.3) (λ ws u. TakesStep (map_of loan.value) a.1.0.now ws.1.0 u) v (W.post y v) (λ u ws. ends_at 𝓛 f.ended stayed c y v u (tt, ws.1) (tt, (tt, tt))) (λ u is.
     lands_as ! refl refl ((found_laws.the_row_laws.lawful 𝓛).typed u (v ∷ []) is).0 $ returns ! (look_at ! 0 refl) $ free_all ! refl $ keep ! (0 ∷ []) $ done !)))))
