@@ -19,7 +19,7 @@
 //     grep -v '^// Compilers: ' intmap.c | sha256sum
 //
 // Compilers: rattle-kit-13f logic dac8208d650f15bf; clang version 22.1.8
-// Sources: fad5455f6a3f9b69f9096243c420077b41c6766dce1b8e180bbeeb46d8ddad02
+// Sources: 04ca35cffd2dde87a85bf76596d980a7726e9b73553fc26922c0e060adbd7042
 //
 // SPDX-License-Identifier: MIT
 //
@@ -538,18 +538,18 @@ enum {
 #define NODE_LIMIT UINT64_C(281470681743360)
 #define NOWHERE UINT64_C(281474976710655)
 #define NOWHERE_HIGH 65535
+#define NOWHERE_LOW 4294967295u
 #define NO_MEMORY 4294967295u
 #define TOO_LARGE 4294967294u
 #define GREATEST_CAPACITY UINT64_C(9223372036854775808)
-#define NOWHERE_LOW 4294967295u
 #define MOST_FIRST_PAIRS UINT64_C(8393268553537845985)
 
 static ALWAYS_INLINE uint64_t chain_seek(char *pool, uint64_t from, uint64_t place);
 static ALWAYS_INLINE struct byte_address intmap_get_counted(char *map, uint64_t key);
-static ALIGNED NOINLINE struct word_word row_take_first_of_several(char *slot, char *pool);
+static ALIGNED NOINLINE struct word_word row_take_first_of_several(char *slot, uint64_t link, char *pool);
 static ALWAYS_INLINE uint64_t chain_swap_behind(uint64_t link, char *pool, uint64_t place, uint64_t a3, uint64_t a4);
 static ALWAYS_INLINE void slots_clone(char *result, char *map);
-static ALWAYS_INLINE void pool_append(char *result, char *nodes_at, uint64_t link, uint64_t a3, uint64_t a4);
+static ALWAYS_INLINE void pool_add_new(char *result, char *nodes_at, uint64_t link, uint64_t a3, uint64_t a4);
 static COLD bool vec_grow_amortized(char *nodes_at);
 static ALIGNED uint32_t make_keep(char *handle, char *made);
 static ALIGNED void intmap_of_slots(char *result, uint64_t slots);
@@ -557,7 +557,7 @@ static ALIGNED void slots_new(char *result, uint64_t capacity, uint64_t room);
 static ALIGNED NOINLINE struct byte_address handle_make_first(void);
 static ALIGNED NOINLINE void intmap_add_growing(char *result, char *map, uint64_t len, uint64_t slot, uint64_t key, uint64_t value);
 static ALIGNED void slots_move_all(char *map, char *new_);
-static ALIGNED NOINLINE struct word_word row_take_first_of_several_2(char *slot, char *pool);
+static ALIGNED NOINLINE struct word_word row_take_first_of_several_2(char *slot, uint64_t link, char *pool);
 static ALIGNED NOINLINE void row_put_behind_first(char *slot, char *pool, uint64_t a2, uint64_t a3);
 static ALWAYS_INLINE uint64_t chain_last_in(char *pool, uint64_t from);
 static ALWAYS_INLINE struct word_word chain_last_in_2(char *pool, uint64_t from);
@@ -662,11 +662,7 @@ static ALWAYS_INLINE struct byte_address intmap_get_counted(char *map, uint64_t 
 
 // Removes the first pair of a slot that holds others, which move up by one place.
 // intmap_table::linked::row::take_first_of_several, in crates/intmap_table/src/linked/row.rt
-static ALIGNED NOINLINE struct word_word row_take_first_of_several(char *slot, char *pool) {
-    if (load8(slot + SLOT_HAS_PAIR) != 1) {
-        abort(); // The proof excludes this.
-    }
-    uint64_t link = link_of(load16(slot + SLOT_HIGH), load32(slot + SLOT_LOW));
+static ALIGNED NOINLINE struct word_word row_take_first_of_several(char *slot, uint64_t link, char *pool) {
     char *node = load_address(pool + POOL_NODES) + (link * NODE_SIZE);
     if (load8(node + NODE_HAS_PAIR) != 1) {
         abort(); // The proof excludes this.
@@ -711,11 +707,11 @@ static ALWAYS_INLINE uint64_t chain_swap_behind(uint64_t link, char *pool, uint6
 // The same keys in the same slots, with clones of their values.
 // intmap_table::table::slots::Slots::clone, in crates/intmap_table/src/table/slots/clone.rt
 static ALWAYS_INLINE void slots_clone(char *result, char *map) {
-    char *r19, *r9_45_0_ph34, *r26, *r31;
+    char *r19, *r9_45_0_ph34, *r26;
     uint64_t r7_pre_phi33;
     char *dangling = (char *)no_bytes;
-    uint64_t r14_room[3];
-    char *r14 = (char *)r14_room;
+    uint64_t r13_room[3];
+    char *r13 = (char *)r13_room;
     uint64_t r0_27_room[5];
     char *r0_27 = (char *)r0_27_room;
     uint64_t nodes_at_room[5];
@@ -780,72 +776,64 @@ arm_5:;
     uint64_t nodes_len = load64(map + INT_MAP_NODES_LEN);
     uint64_t spare = load64(map + INT_MAP_SPARE);
     uint64_t r10 = nodes_len - spare;
-    if (nodes_len != spare) {
-        if (r10 < TOO_MANY(24)) {
+    if (r10 <= NODE_LIMIT) {
+        char *r31;
+        if (nodes_len == spare) {
+            r31 = dangling;
+        } else {
             struct word_word block_3 = rattle_alloc(r10 * 24, 8);
-            if ((block_3.first & 1) != 0) {
-                char *r8_2 = (char *)(uintptr_t)block_3.second;
-                if (r10 <= NODE_LIMIT) {
-                    r31 = r8_2;
-                    goto arm_8;
-                }
-                rattle_dealloc(r8_2);
+            if ((block_3.first & 1) == 0) {
+                goto arm_9;
             }
+            r31 = (char *)(uintptr_t)block_3.second;
         }
-        memset(r0_27, 0, 40);
-        if (!r12_2) {
-            rattle_dealloc(r26);
-        }
-        if (!r12) {
-            rattle_dealloc(r19);
-        }
-        store8(result + MADE_SLOTS_HAS_FAILED, 1);
-        memset(result + MADE_SLOTS_MASK, 0, 56);
-        memcpy(result + MADE_SLOTS_NODES, r0_27, POOL_SIZE);
-        return;
-    }
-    r31 = dangling;
-arm_8:;
-    store_address(nodes_at + POOL_NODES, r31);
-    store64(nodes_at + POOL_NODES_LEN, 0);
-    store64(nodes_at + POOL_NODES_ROOM, r10);
-    store64(nodes_at + POOL_FREE, NOWHERE);
-    store64(nodes_at + POOL_SPARE, 0);
-    char *slots = load_address(map + INT_MAP_SLOTS);
-    uint64_t slots_len_2 = load64(map + INT_MAP_SLOTS_LEN);
-    if (slots_len_2 != 0) {
-        uint64_t index = 0;
-        for (;;) {
-            uint64_t key_2, value_2;
-            uint16_t r48, r48_2;
-            uint32_t r48_3;
-            uint64_t r111 = index * SLOT_SIZE;
-            char *slot = slots + r111;
-            if (load8(slot + SLOT_HAS_PAIR) == 1) {
-                uint64_t r0;
-                uint16_t high = load16(slot + SLOT_HIGH);
-                uint32_t low = load32(slot + SLOT_LOW);
-                uint64_t value = load64(slot + SLOT_VALUE);
-                uint64_t key = load64(slot + SLOT_KEY);
-                if (high == NOWHERE_HIGH) {
-                    r0 = NOWHERE;
-                } else {
-                    uint64_t r10_2 = load64(nodes_at + POOL_NODES_LEN) - load64(nodes_at + POOL_SPARE);
-                    uint64_t at = link_of(high, low);
-                    for (;;) {
-                        if (load64(map + INT_MAP_NODES_LEN) <= at) {
-                            r0 = r10_2;
-                            break;
-                        }
-                        char *node = load_address(map + INT_MAP_NODES) + (at * NODE_SIZE);
-                        if (load8(node + NODE_HAS_PAIR) != 1) {
-                            r0 = r10_2;
-                            break;
-                        }
-                        uint16_t high_2 = load16(node + NODE_HIGH);
-                        uint64_t link = link_of(high_2, load32(node + NODE_LOW));
-                        pool_append(r14, nodes_at, (high_2 == NOWHERE_HIGH) ? NOWHERE : ((load64(nodes_at + POOL_NODES_LEN) + 1) - load64(nodes_at + POOL_SPARE)), load64(node + NODE_KEY), load64(node + NODE_VALUE));
-                        if (load8(r14) != 0) {
+        store_address(nodes_at + POOL_NODES, r31);
+        store64(nodes_at + POOL_NODES_LEN, 0);
+        store64(nodes_at + POOL_NODES_ROOM, r10);
+        store64(nodes_at + POOL_FREE, NOWHERE);
+        store64(nodes_at + POOL_SPARE, 0);
+        char *slots = load_address(map + INT_MAP_SLOTS);
+        uint64_t slots_len_2 = load64(map + INT_MAP_SLOTS_LEN);
+        if (slots_len_2 != 0) {
+            uint64_t index = 0;
+            for (;;) {
+                uint64_t key_2, value_2;
+                uint16_t r48, r48_2;
+                uint32_t r48_3;
+                uint64_t r111 = index * SLOT_SIZE;
+                char *slot = slots + r111;
+                if (load8(slot + SLOT_HAS_PAIR) == 1) {
+                    uint16_t high = load16(slot + SLOT_HIGH);
+                    uint64_t value = load64(slot + SLOT_VALUE);
+                    uint64_t key = load64(slot + SLOT_KEY);
+                    if (high == NOWHERE_HIGH) {
+                        key_2 = key;
+                        value_2 = value;
+                        r48 = 1;
+                        r48_2 = NOWHERE_HIGH;
+                        r48_3 = NOWHERE_LOW;
+                    } else {
+                        uint64_t r10_2 = load64(nodes_at + POOL_NODES_LEN) - load64(nodes_at + POOL_SPARE);
+                        uint64_t at = link_of(high, load32(slot + SLOT_LOW));
+                        for (;;) {
+                            if (load64(map + INT_MAP_NODES_LEN) <= at) {
+                                break;
+                            }
+                            char *node = load_address(map + INT_MAP_NODES) + (at * NODE_SIZE);
+                            uint8_t has_pair = load8(node + NODE_HAS_PAIR);
+                            if (has_pair == 1) {
+                                uint16_t high_2 = load16(node + NODE_HIGH);
+                                uint64_t link = link_of(high_2, load32(node + NODE_LOW));
+                                pool_add_new(r13, nodes_at, (high_2 == NOWHERE_HIGH) ? NOWHERE : ((load64(nodes_at + POOL_NODES_LEN) + 1) - load64(nodes_at + POOL_SPARE)), load64(node + NODE_KEY), load64(node + NODE_VALUE));
+                                if (load8(r13) == 0) {
+                                    at = link;
+                                    continue;
+                                }
+                            } else {
+                                if (has_pair == 0) {
+                                    break;
+                                }
+                            }
                             memset(r0_27, 0, 40);
                             if (load64(nodes_at + POOL_NODES_ROOM) != 0) {
                                 rattle_dealloc(load_address(nodes_at + POOL_NODES));
@@ -861,78 +849,88 @@ arm_8:;
                             memcpy(result + MADE_SLOTS_NODES, r0_27, POOL_SIZE);
                             return;
                         }
-                        at = link;
+                        key_2 = key;
+                        value_2 = value;
+                        r48 = 1;
+                        r48_2 = (uint16_t)(r10_2 >> 32);
+                        r48_3 = (uint32_t)r10_2;
                     }
+                } else {
+                    key_2 = 0;
+                    value_2 = 0;
+                    r48 = 0;
+                    r48_2 = 0;
+                    r48_3 = 0;
                 }
-                key_2 = key;
-                value_2 = value;
-                r48 = 1;
-                r48_2 = (uint16_t)(r0 >> 32);
-                r48_3 = (uint32_t)r0;
-            } else {
-                key_2 = 0;
-                value_2 = 0;
-                r48 = 0;
-                r48_2 = 0;
-                r48_3 = 0;
+                char *r22 = r19 + r111;
+                store16(r22, r48);
+                store16(r22 + 2, r48_2);
+                store32(r22 + 4, r48_3);
+                store64(r22 + 8, key_2);
+                store64(r22 + 16, value_2);
+                uint64_t next_index = index + 1;
+                if (next_index == slots_len_2) {
+                    break;
+                }
+                index = next_index;
             }
-            char *r22 = r19 + r111;
-            store16(r22, r48);
-            store16(r22 + 2, r48_2);
-            store32(r22 + 4, r48_3);
-            store64(r22 + 8, key_2);
-            store64(r22 + 16, value_2);
-            uint64_t next_index = index + 1;
-            if (next_index == slots_len_2) {
-                break;
-            }
-            index = next_index;
         }
+        uint64_t mask = load64(map + INT_MAP_MASK);
+        store8(result + MADE_SLOTS_HAS_FAILED, 0);
+        store64(result + MADE_SLOTS_MASK, mask);
+        store_address(result + MADE_SLOTS_WORDS, r26);
+        store64(result + MADE_SLOTS_WORDS_LEN, words_len);
+        store64(result + MADE_SLOTS_WORDS_ROOM, words_len);
+        store_address(result + MADE_SLOTS_SLOTS, r19);
+        store64(result + MADE_SLOTS_SLOTS_LEN, slots_len_2);
+        store64(result + MADE_SLOTS_SLOTS_ROOM, slots_len);
+        memcpy(result + MADE_SLOTS_NODES, nodes_at, POOL_SIZE);
+        return;
     }
-    uint64_t mask = load64(map + INT_MAP_MASK);
-    store8(result + MADE_SLOTS_HAS_FAILED, 0);
-    store64(result + MADE_SLOTS_MASK, mask);
-    store_address(result + MADE_SLOTS_WORDS, r26);
-    store64(result + MADE_SLOTS_WORDS_LEN, words_len);
-    store64(result + MADE_SLOTS_WORDS_ROOM, words_len);
-    store_address(result + MADE_SLOTS_SLOTS, r19);
-    store64(result + MADE_SLOTS_SLOTS_LEN, slots_len_2);
-    store64(result + MADE_SLOTS_SLOTS_ROOM, slots_len);
-    memcpy(result + MADE_SLOTS_NODES, nodes_at, POOL_SIZE);
+arm_9:;
+    memset(r0_27, 0, 40);
+    if (!r12_2) {
+        rattle_dealloc(r26);
+    }
+    if (!r12) {
+        rattle_dealloc(r19);
+    }
+    store8(result + MADE_SLOTS_HAS_FAILED, 1);
+    memset(result + MADE_SLOTS_MASK, 0, 56);
+    memcpy(result + MADE_SLOTS_NODES, r0_27, POOL_SIZE);
 }
 
-// Puts a pair with a link into a new node behind the others, if none is free, and returns which.
-// intmap_table::linked::pool::Pool::append, in crates/intmap_table/src/linked/pool.rt
-static ALWAYS_INLINE void pool_append(char *result, char *nodes_at, uint64_t link, uint64_t a3, uint64_t a4) {
-    uint64_t nodes_len_2;
+// Puts a pair with a link into a new node behind the others, none of which may be free, and returns which.
+// intmap_table::linked::pool::Pool::add_new, in crates/intmap_table/src/linked/pool.rt
+static ALWAYS_INLINE void pool_add_new(char *result, char *nodes_at, uint64_t link, uint64_t a3, uint64_t a4) {
     uint64_t nodes_len = load64(nodes_at + POOL_NODES_LEN);
-    if (load64(nodes_at + POOL_NODES_ROOM) == nodes_len) {
-        bool r24 = vec_grow_amortized(nodes_at);
-        if ((nodes_len != NODE_LIMIT) & r24) {
+    if (nodes_len != NODE_LIMIT) {
+        uint64_t nodes_len_2;
+        if (load64(nodes_at + POOL_NODES_ROOM) == nodes_len) {
+            bool r24 = vec_grow_amortized(nodes_at);
+            if (!r24) {
+                goto join_5;
+            }
             nodes_len_2 = load64(nodes_at + POOL_NODES_LEN);
-            goto after_1;
-        }
-    } else {
-        if (nodes_len != NODE_LIMIT) {
+        } else {
             nodes_len_2 = nodes_len;
-            goto after_1;
         }
+        char *r22 = load_address(nodes_at + POOL_NODES) + (nodes_len_2 * 24);
+        store16(r22, 1);
+        store16(r22 + 2, (uint16_t)(link >> 32));
+        store32(r22 + 4, (uint32_t)link);
+        store64(r22 + 8, a3);
+        store64(r22 + 16, a4);
+        store64(nodes_at + POOL_NODES_LEN, nodes_len_2 + 1);
+        store64(result, 0);
+        store64(result + 8, nodes_len);
+        store64(result + 16, 0);
+        return;
     }
+join_5:;
     store64(result, 1);
     store64(result + 8, a3);
     store64(result + 16, a4);
-    return;
-after_1:;
-    char *r22 = load_address(nodes_at + POOL_NODES) + (nodes_len_2 * 24);
-    store16(r22, 1);
-    store16(r22 + 2, (uint16_t)(link >> 32));
-    store32(r22 + 4, (uint32_t)link);
-    store64(r22 + 8, a3);
-    store64(r22 + 16, a4);
-    store64(nodes_at + POOL_NODES_LEN, nodes_len_2 + 1);
-    store64(result, 0);
-    store64(result + 8, nodes_len);
-    store64(result + 16, 0);
 }
 
 // std_alloc::vec::Vec::grow_amortized, in Rattle's library std_alloc
@@ -1047,7 +1045,7 @@ static ALIGNED uint32_t make_keep(char *handle, char *made) {
 // intmap::map::IntMap::of_slots, in crates/intmap/src/map/build.rt
 static ALIGNED void intmap_of_slots(char *result, uint64_t slots) {
     uint64_t r15, r4_0, r4_2, r4_4, r4_5, slots_2, r4_7, r4_8, r4_9;
-    char *r15_2, *r12_452_0_ph197, *r4_3, *r4_6, *dangling_2;
+    char *r15_2, *r12_451_0_ph199, *r4_3, *r4_6, *dangling_2;
     uint8_t r3_2;
     u128 r17;
     char *dangling = (char *)no_bytes;
@@ -1057,7 +1055,7 @@ static ALIGNED void intmap_of_slots(char *result, uint64_t slots) {
     if (slots == 0) {
         r15 = 0;
         r15_2 = dangling;
-        r12_452_0_ph197 = dangling;
+        r12_451_0_ph199 = dangling;
         r4_0 = 0;
     } else {
         uint64_t r3;
@@ -1121,7 +1119,7 @@ static ALIGNED void intmap_of_slots(char *result, uint64_t slots) {
         memset(r8, 0, r19);
         r15 = r3 + 1;
         r15_2 = r8_2;
-        r12_452_0_ph197 = r8;
+        r12_451_0_ph199 = r8;
         r4_0 = r4_0_2;
     }
     r17 = u128_less_one(u128_mul(u128_of(slots), u128_of(910u)));
@@ -1131,7 +1129,7 @@ static ALIGNED void intmap_of_slots(char *result, uint64_t slots) {
     r4_3 = r15_2;
     r4_4 = r15;
     r4_5 = r4_0;
-    r4_6 = r12_452_0_ph197;
+    r4_6 = r12_451_0_ph199;
     slots_2 = slots;
     dangling_2 = dangling;
     r4_7 = NOWHERE;
@@ -1159,7 +1157,7 @@ join_4:;
 // intmap_table::table::slots::Slots::new, in crates/intmap_table/src/table/slots.rt
 static ALIGNED void slots_new(char *result, uint64_t capacity, uint64_t room) {
     uint64_t r4_0, r15_2;
-    char *r12_452_0_ph197, *r15, *r18;
+    char *r12_451_0_ph199, *r15;
     char *dangling = (char *)no_bytes;
     bool r12 = capacity == 0;
     if (!r12) {
@@ -1186,7 +1184,7 @@ static ALIGNED void slots_new(char *result, uint64_t capacity, uint64_t room) {
                 }
                 store64(r8_2 + (r3 << 3), 0);
                 r4_0 = r4_0_2;
-                r12_452_0_ph197 = r8;
+                r12_451_0_ph199 = r8;
                 r15 = r8_2;
                 r15_2 = r3 + 1;
                 goto arm_5;
@@ -1197,48 +1195,46 @@ static ALIGNED void slots_new(char *result, uint64_t capacity, uint64_t room) {
         return;
     }
     r4_0 = 0;
-    r12_452_0_ph197 = dangling;
+    r12_451_0_ph199 = dangling;
     r15 = dangling;
     r15_2 = 0;
 arm_5:;
-    if (room != 0) {
-        if (room < TOO_MANY(24)) {
+    if (room <= NODE_LIMIT) {
+        char *r18;
+        if (room == 0) {
+            r18 = dangling;
+        } else {
             struct word_word block_3 = rattle_alloc(room * 24, 8);
-            if ((block_3.first & 1) != 0) {
-                char *r8_3 = (char *)(uintptr_t)block_3.second;
-                if (room <= NODE_LIMIT) {
-                    r18 = r8_3;
-                    goto arm_8;
-                }
-                rattle_dealloc(r8_3);
+            if ((block_3.first & 1) == 0) {
+                goto arm_9;
             }
+            r18 = (char *)(uintptr_t)block_3.second;
         }
         if (!r12) {
-            rattle_dealloc(r15);
-            rattle_dealloc(r12_452_0_ph197);
+            memset(r12_451_0_ph199, 0, capacity * 24);
         }
-        store8(result + MADE_SLOTS_HAS_FAILED, 1);
-        memset(result + MADE_SLOTS_MASK, 0, SLOTS_SIZE);
+        store8(result + MADE_SLOTS_HAS_FAILED, 0);
+        store64(result + MADE_SLOTS_MASK, capacity - 1);
+        store_address(result + MADE_SLOTS_WORDS, r15);
+        store64(result + MADE_SLOTS_WORDS_LEN, r15_2);
+        store64(result + MADE_SLOTS_WORDS_ROOM, r4_0);
+        store_address(result + MADE_SLOTS_SLOTS, r12_451_0_ph199);
+        store64(result + MADE_SLOTS_SLOTS_LEN, capacity);
+        store64(result + MADE_SLOTS_SLOTS_ROOM, capacity);
+        store_address(result + MADE_SLOTS_NODES, r18);
+        store64(result + MADE_SLOTS_NODES_LEN, 0);
+        store64(result + MADE_SLOTS_NODES_ROOM, room);
+        store64(result + MADE_SLOTS_FREE, NOWHERE);
+        store64(result + MADE_SLOTS_SPARE, 0);
         return;
     }
-    r18 = dangling;
-arm_8:;
+arm_9:;
     if (!r12) {
-        memset(r12_452_0_ph197, 0, capacity * 24);
+        rattle_dealloc(r15);
+        rattle_dealloc(r12_451_0_ph199);
     }
-    store8(result + MADE_SLOTS_HAS_FAILED, 0);
-    store64(result + MADE_SLOTS_MASK, capacity - 1);
-    store_address(result + MADE_SLOTS_WORDS, r15);
-    store64(result + MADE_SLOTS_WORDS_LEN, r15_2);
-    store64(result + MADE_SLOTS_WORDS_ROOM, r4_0);
-    store_address(result + MADE_SLOTS_SLOTS, r12_452_0_ph197);
-    store64(result + MADE_SLOTS_SLOTS_LEN, capacity);
-    store64(result + MADE_SLOTS_SLOTS_ROOM, capacity);
-    store_address(result + MADE_SLOTS_NODES, r18);
-    store64(result + MADE_SLOTS_NODES_LEN, 0);
-    store64(result + MADE_SLOTS_NODES_ROOM, room);
-    store64(result + MADE_SLOTS_FREE, NOWHERE);
-    store64(result + MADE_SLOTS_SPARE, 0);
+    store8(result + MADE_SLOTS_HAS_FAILED, 1);
+    memset(result + MADE_SLOTS_MASK, 0, SLOTS_SIZE);
 }
 
 // Makes a new map, for which there may be no memory.
@@ -1522,7 +1518,7 @@ static ALIGNED void slots_move_all(char *map, char *new_) {
 loop_2:;
     for (;;) {
         uint64_t r1_4, r1_5;
-        struct word_word r18;
+        struct word_word r10;
         if (r1_2 == 0) {
             uint64_t words_len = load64(map + INT_MAP_WORDS_LEN);
             char *words = load_address(map + INT_MAP_WORDS);
@@ -1560,24 +1556,25 @@ loop_2:;
         }
         uint64_t key = load_key(slot + SLOT_KEY);
         uint64_t index = (key * MULTIPLIER) & load64(new_ + SLOTS_MASK);
-        if (load16(slot + SLOT_HIGH) == NOWHERE_HIGH) {
+        uint16_t high = load16(slot + SLOT_HIGH);
+        if (high == NOWHERE_HIGH) {
             uint64_t value = load64(slot + SLOT_VALUE);
             memset(slot, 0, SLOT_SIZE);
-            r18 = made_word_word(key, value);
+            r10 = made_word_word(key, value);
         } else {
-            struct word_word r24 = row_take_first_of_several_2(slot, map + INT_MAP_NODES);
-            r18 = r24;
+            struct word_word r16 = row_take_first_of_several_2(slot, link_of(high, load32(slot + SLOT_LOW)), map + INT_MAP_NODES);
+            r10 = r16;
         }
         char *slot_2 = load_address(new_ + SLOTS_SLOTS) + (index * SLOT_SIZE);
         uint8_t has_pair = load8(slot_2 + SLOT_HAS_PAIR);
         if (has_pair == 1) {
-            row_put_behind_first(slot_2, new_ + SLOTS_NODES, r18.first, r18.second);
+            row_put_behind_first(slot_2, new_ + SLOTS_NODES, r10.first, r10.second);
         } else {
             store16(slot_2 + SLOT_HAS_PAIR, 1);
             store16(slot_2 + SLOT_HIGH, NOWHERE_HIGH);
             store32(slot_2 + SLOT_LOW, NOWHERE_LOW);
-            store64(slot_2 + SLOT_KEY, r18.first);
-            store64(slot_2 + SLOT_VALUE, r18.second);
+            store64(slot_2 + SLOT_KEY, r10.first);
+            store64(slot_2 + SLOT_VALUE, r10.second);
             if (has_pair != 0) {
                 abort(); // The proof excludes this.
             }
@@ -1586,7 +1583,8 @@ loop_2:;
         store64(r9, load64(r9) | ((uint64_t)1 << (index & 63)));
         for (;;) {
             uint64_t key_2, index_2;
-            struct word_word r18_2;
+            uint16_t high_2;
+            struct word_word r10_2;
             char *slot_3, *r9_2;
             uint8_t has_pair_2;
             switch (load8(slot + SLOT_HAS_PAIR)) {
@@ -1597,24 +1595,25 @@ loop_2:;
             case 1:
                 key_2 = load_key(slot + SLOT_KEY);
                 index_2 = (key_2 * MULTIPLIER) & load64(new_ + SLOTS_MASK);
-                if (load16(slot + SLOT_HIGH) == NOWHERE_HIGH) {
+                high_2 = load16(slot + SLOT_HIGH);
+                if (high_2 == NOWHERE_HIGH) {
                     uint64_t value_2 = load64(slot + SLOT_VALUE);
                     memset(slot, 0, SLOT_SIZE);
-                    r18_2 = made_word_word(key_2, value_2);
+                    r10_2 = made_word_word(key_2, value_2);
                 } else {
-                    struct word_word r24_2 = row_take_first_of_several_2(slot, map + INT_MAP_NODES);
-                    r18_2 = r24_2;
+                    struct word_word r16_2 = row_take_first_of_several_2(slot, link_of(high_2, load32(slot + SLOT_LOW)), map + INT_MAP_NODES);
+                    r10_2 = r16_2;
                 }
                 slot_3 = load_address(new_ + SLOTS_SLOTS) + (index_2 * SLOT_SIZE);
                 has_pair_2 = load8(slot_3 + SLOT_HAS_PAIR);
                 if (has_pair_2 == 1) {
-                    row_put_behind_first(slot_3, new_ + SLOTS_NODES, r18_2.first, r18_2.second);
+                    row_put_behind_first(slot_3, new_ + SLOTS_NODES, r10_2.first, r10_2.second);
                 } else {
                     store16(slot_3 + SLOT_HAS_PAIR, 1);
                     store16(slot_3 + SLOT_HIGH, NOWHERE_HIGH);
                     store32(slot_3 + SLOT_LOW, NOWHERE_LOW);
-                    store64(slot_3 + SLOT_KEY, r18_2.first);
-                    store64(slot_3 + SLOT_VALUE, r18_2.second);
+                    store64(slot_3 + SLOT_KEY, r10_2.first);
+                    store64(slot_3 + SLOT_VALUE, r10_2.second);
                     if (has_pair_2 != 0) {
                         abort(); // The proof excludes this.
                     }
@@ -1631,11 +1630,7 @@ loop_2:;
 
 // Removes the first pair of a slot that holds others, which move up by one place.
 // intmap_table::linked::row::take_first_of_several, in crates/intmap_table/src/linked/row.rt
-static ALIGNED NOINLINE struct word_word row_take_first_of_several_2(char *slot, char *pool) {
-    if (load8(slot + SLOT_HAS_PAIR) != 1) {
-        abort(); // The proof excludes this.
-    }
-    uint64_t link = link_of(load16(slot + SLOT_HIGH), load32(slot + SLOT_LOW));
+static ALIGNED NOINLINE struct word_word row_take_first_of_several_2(char *slot, uint64_t link, char *pool) {
     char *node = load_address(pool + POOL_NODES) + (link * NODE_SIZE);
     if (load8(node + NODE_HAS_PAIR) != 1) {
         abort(); // The proof excludes this.
@@ -1676,7 +1671,7 @@ static ALIGNED NOINLINE void row_put_behind_first(char *slot, char *pool, uint64
     uint32_t low = load32(slot + SLOT_LOW);
     uint64_t spare = load64(pool + POOL_SPARE);
     if (spare == 0) {
-        pool_append(r0, pool, link_of(high, low), a2, a3);
+        pool_add_new(r0, pool, link_of(high, low), a2, a3);
         if (load8(r0) != 0) {
             abort(); // The proof excludes this.
         }
@@ -2441,6 +2436,7 @@ loop_2_2:;
         uint64_t r40 = (r1_10 - 1) & r1_10;
         char *slot = load_address(map + INT_MAP_SLOTS) + ((r1_11 + r27) * SLOT_SIZE);
         for (;;) {
+            uint16_t high;
             switch (load8(slot + SLOT_HAS_PAIR)) {
             case 0:
                 r1_3 = r40;
@@ -2449,10 +2445,11 @@ loop_2_2:;
                 r1_6 = r1_13;
                 goto loop_2_2;
             case 1:
-                if (load16(slot + SLOT_HIGH) == NOWHERE_HIGH) {
+                high = load16(slot + SLOT_HIGH);
+                if (high == NOWHERE_HIGH) {
                     memset(slot, 0, SLOT_SIZE);
                 } else {
-                    row_take_first_of_several(slot, map + INT_MAP_NODES);
+                    row_take_first_of_several(slot, link_of(high, load32(slot + SLOT_LOW)), map + INT_MAP_NODES);
                 }
                 break;
             default:
@@ -2476,7 +2473,7 @@ static ALWAYS_INLINE char *do_intmap_cut(char *result, char *handle, char *at) {
         r6_3 = 0;
     } else {
         uint16_t high_2;
-        uint64_t r305762, r3_0_2, r115, words_len, r1, r1_2, r1_3, x13, x14, r49, index;
+        uint64_t r305863, r3_0_2, r115, words_len, r1, r1_2, r1_3, x13, x14, r49, index;
         char *slot_3, *nodes_at, *slot_4, *r9;
         struct word_word r19, r19_2;
         uint32_t r8_2;
@@ -2522,10 +2519,10 @@ static ALWAYS_INLINE char *do_intmap_cut(char *result, char *handle, char *at) {
                     switch (place) {
                     case 0:
                         high_2 = high;
-                        r305762 = slot;
+                        r305863 = slot;
                         slot_3 = slot_2;
                         nodes_at = map + INT_MAP_NODES;
-                        goto arm_1_2;
+                        goto after_row_take_front_2;
                     case 1:
                         node_2 = load_address(map + INT_MAP_NODES) + (link * NODE_SIZE);
                         if (load8(node_2 + NODE_HAS_PAIR) != 1) {
@@ -2628,25 +2625,25 @@ static ALWAYS_INLINE char *do_intmap_cut(char *result, char *handle, char *at) {
             abort(); // The proof excludes this.
         }
         high_2 = load16(slot_4 + SLOT_HIGH);
-        r305762 = index;
+        r305863 = index;
         slot_3 = slot_4;
         nodes_at = map + INT_MAP_NODES;
-    arm_1_2:;
+    after_row_take_front_2:;
         if (high_2 == NOWHERE_HIGH) {
             uint64_t key_4 = load64(slot_3 + SLOT_KEY);
             uint64_t value_4 = load64(slot_3 + SLOT_VALUE);
             memset(slot_3, 0, SLOT_SIZE);
             r19_2 = made_word_word(key_4, value_4);
         } else {
-            struct word_word r24 = row_take_first_of_several(slot_3, nodes_at);
+            struct word_word r16 = row_take_first_of_several(slot_3, link_of(high_2, load32(slot_3 + SLOT_LOW)), nodes_at);
             if (load8(slot_3 + SLOT_HAS_PAIR) != 0) {
-                r19 = r24;
+                r19 = r16;
                 goto x12;
             }
-            r19_2 = r24;
+            r19_2 = r16;
         }
-        r9 = load_address(map + INT_MAP_WORDS) + ((r305762 >> 3) & UINT64_C(0x1FFFFFFFFFFFFFF8));
-        store64(r9, load64(r9) & (~((uint64_t)1 << (r305762 & 63))));
+        r9 = load_address(map + INT_MAP_WORDS) + ((r305863 >> 3) & UINT64_C(0x1FFFFFFFFFFFFFF8));
+        store64(r9, load64(r9) & (~((uint64_t)1 << (r305863 & 63))));
         r19 = r19_2;
     x12:;
         store64(map + INT_MAP_LEN, load64(map + INT_MAP_LEN) - 1);
@@ -3150,7 +3147,7 @@ arm_2_2:;
                     uint64_t at_6 = chain_last_in(map + INT_MAP_NODES, link_3);
                     uint64_t spare_2 = load64(map + INT_MAP_SPARE);
                     if (spare_2 == 0) {
-                        pool_append(r0_2, map + INT_MAP_NODES, NOWHERE, key, more);
+                        pool_add_new(r0_2, map + INT_MAP_NODES, NOWHERE, key, more);
                         if (load8(r0_2) != 0) {
                             goto after_IntMap_add;
                         }
@@ -3204,7 +3201,7 @@ arm_2_2:;
                     r4_0 = free;
                     goto arm_5_3;
                 }
-                pool_append(r0, map + INT_MAP_NODES, NOWHERE, key, more);
+                pool_add_new(r0, map + INT_MAP_NODES, NOWHERE, key, more);
                 if (load8(r0) == 0) {
                     r4_0 = load64(r0 + 8);
                     goto arm_5_3;
@@ -3322,7 +3319,7 @@ static ALWAYS_INLINE uint32_t do_intmap_find_or_insert(char *handle, uint64_t ke
                     uint64_t at_2 = chain_last_in(map + INT_MAP_NODES, link_3);
                     uint64_t spare_2 = load64(map + INT_MAP_SPARE);
                     if (spare_2 == 0) {
-                        pool_append(r0_2, map + INT_MAP_NODES, NOWHERE, key, value);
+                        pool_add_new(r0_2, map + INT_MAP_NODES, NOWHERE, key, value);
                         if (load8(r0_2) != 0) {
                             goto arm_2_thread;
                         }
@@ -3376,7 +3373,7 @@ static ALWAYS_INLINE uint32_t do_intmap_find_or_insert(char *handle, uint64_t ke
                     r4_0_2 = free;
                     goto arm_5_3;
                 }
-                pool_append(r0, map + INT_MAP_NODES, NOWHERE, key, value);
+                pool_add_new(r0, map + INT_MAP_NODES, NOWHERE, key, value);
                 if (load8(r0) == 0) {
                     r4_0_2 = load64(r0 + 8);
                     goto arm_5_3;
@@ -3536,7 +3533,7 @@ arm_2_2:;
                     uint64_t at_3 = chain_last_in(map + INT_MAP_NODES, link_3);
                     uint64_t spare_2 = load64(map + INT_MAP_SPARE);
                     if (spare_2 == 0) {
-                        pool_append(r0_2, map + INT_MAP_NODES, NOWHERE, key, value);
+                        pool_add_new(r0_2, map + INT_MAP_NODES, NOWHERE, key, value);
                         if (load8(r0_2) != 0) {
                             goto after_IntMap_add;
                         }
@@ -3590,7 +3587,7 @@ arm_2_2:;
                     r4_0 = free;
                     goto arm_5_3;
                 }
-                pool_append(r0, map + INT_MAP_NODES, NOWHERE, key, value);
+                pool_add_new(r0, map + INT_MAP_NODES, NOWHERE, key, value);
                 if (load8(r0) == 0) {
                     r4_0 = load64(r0 + 8);
                     goto arm_5_3;
@@ -3753,7 +3750,7 @@ after_figures_reserve_insertions:;
     return r4_0;
 }
 
-// Makes slots for the pairs and `additional` more, and returns `OK`.
+// Makes slots, and returns `OK`.
 // intmap_reserve_slots, in crates/intmap_c/src/figures.rt
 static ALWAYS_INLINE uint32_t do_intmap_reserve_slots(char *handle, uint64_t additional) {
     char *map;
