@@ -17,22 +17,20 @@
 //!
 //! You want | Take
 //! ---|---
-//! the fastest map for keys of any kind, or little memory | std's or hashbrown's with a hasher that multiplies. With random keys an insertion here takes 2.5 to 4.2 times std's time, a look-up 1.3 to 4.2, a removal 0.7 to 1.8, a step of `iter` 1.5 to 4, and a map 1.6 to 1.9 times std's bytes
-//! to clone, collect, drain, clear or drop whole maps | the same. Here `clone` takes 2.5 to 40 times std's time, `clear` 20 to 120, `into_iter` and `drain` 2 to 14, `collect` 2 to 7.5, and `extend` of a new map by random keys 5 to 13. A `drop` goes through the slots only if values have something to drop
-//! ids with hardly a gap, inserted in order | this. A look-up of a present id takes 0.5 to 1.05 of std's time, a removal 0.3 to 0.8, an insertion 0.5 to 0.95 but 0.9 to 1.9 where room was made, and a map 1.4 times std's bytes. Of 20,000 ids, look-ups of absent ones in shuffled order take 1.4 to 2 times std's time
-//! ids with gaps or a stray key, or inserted in another order | std's, or measure. Here an insertion takes 1.6 to 1.9 times std's time with a tenth of the ids missing, 1.9 to 3 times in shuffled order, and 4 to 6.3 times with half of the ids missing or with even ids. A look-up of a present id takes, beside a stray key whose slot is taken, 0.65 to 2.3 times std's time, and an insertion 1.1 to 1.3
+//! many insertions of random keys, or little memory | std's or hashbrown's with a hasher that multiplies. With random keys an insertion here takes 2.3 to 2.5 times std's time, or 1.3 to 1.4 where room was made, a look-up 1.3 to 2.1, a removal 0.8 to 1.0, a step of `iter` 2.2 to 2.3, and a map 1.6 to 1.9 times std's bytes
+//! to clone, collect, drain or clear whole maps | the same. Here `clone` takes 3 to 17 times std's time, and `into_iter` and `drain` 3.5 to 6. `clear` goes through all pairs. `extend` reserves nothing ahead. A `drop` goes through the slots only if values have something to drop
+//! ids with hardly a gap | this. A look-up of a present id takes 0.5 to 0.7 of std's time, a removal 0.4, an insertion 0.8 to 1.1, or 0.6 to 0.7 where room was made, and a map 1.4 times std's bytes. Of 20,000 ids, look-ups of absent ones in shuffled order take 1.5 to 2.0 times std's time
+//! ids with more gaps, or inserted in another order | measure. Here an insertion takes 1.4 times std's time with half of the ids missing, 1.6 times in shuffled order, and 1.0 with even ids. A look-up takes 0.8, 0.7 and 1.6 times std's time
 //! a program that goes on when memory fails | this: it returns the failure and the value, and the map is as it was. std's has `try_reserve` alone
 //! the same order on every run and machine | this, or `indexmap` (in order of insertion), or `BTreeMap` (sorted)
 //! look-ups, removals and growth that are proved | this
-//! to go on with code for `intmap` 2.0.0 | this, by [one `use` line](original). The insertion of a new key takes 0.15 to 0.75 of its time, that of a present one 0.3 to 1.45, a removal 0.3 to 2.1
+//! to go on with code for `intmap` 2.0.0 | this, by [one `use` line](original). The insertion of a new key takes 0.15 to 0.5 of its time, that of a present one 0.4 to 1.1, a removal 0.5 to 1.7, `clear` 2 to 5.2
 //! 32-bit targets, a hasher of your own, keys that strangers choose | std's; [`int_key!`] says what a secret is worth
 //!
 //! Each figure is the time or the bytes of this map by those of the other, where none is named
-//! std's with a multiplying hasher. It is the range of what several programs found with 1,000 and
-//! 20,000 keys and values of type `u64`. A time is the least of many rounds in which the maps took
-//! turns, on machines that were mostly busy. Bytes were counted at the allocator. The times are those
-//! of version 1.0.0: since then random keys take less time, and to insert ids in order takes 1.6
-//! times as long.
+//! std's with a multiplying hasher, with 1,000 and 20,000 keys and values of type `u64`. A time is
+//! the least of several rounds in which the maps took turns, on a quiet virtual machine on
+//! 2026-12-01. Bytes were counted at the allocator.
 //!
 //! The traits of serde are in the crate `intmap_proved_serde`.
 //!
