@@ -55,8 +55,8 @@ void *pool_realloc(void *block, size_t size) {
 enum { STACK_WORDS = 1 << 15, PAINT = 0x5A };
 static uint64_t stack[STACK_WORDS] __attribute__((aligned(1 << 16)));
 
-// Makes calls that take much, with and without pairs that share a slot. Then it writes how many bytes were used
-// below its own frame.
+// Makes calls that take much stack, with and without pairs that share a slot. Then it writes how
+// many bytes were used below its own frame.
 static void *make_calls(void *taken) {
     uint64_t failed = 0, key;
     for (int kind = 0; kind < 3; kind++) {

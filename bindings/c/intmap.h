@@ -43,9 +43,9 @@
 //   with the map, whatever that call does.
 // - There is enough stack. A call takes less than 2,000 bytes of it if intmap.c is compiled with
 //   -O1, -O2, -O3 or -Os, and less than 8,000 otherwise, besides what functions of the C library
-//   take. `make check` measures this. On x86-64, calls took some 900 bytes with gcc 12 -O2, 800 with
-//   clang 14 -O2, 5,300 with gcc 12 -O0 and 6,200 with clang 14 -O0. A sanitizer makes them take
-//   more.
+//   take. `make check` measures this with -O2 and with -O0. On x86-64, calls took some 900 bytes
+//   with gcc 12 -O2, 800 with clang 14 -O2, 5,300 with gcc 12 -O0 and 6,200 with clang 14 -O0. A
+//   sanitizer makes them take more.
 //
 // THREADS. Any number of threads may make calls with `const intmap *` at once, as long as no other
 // call has the map. A call with `intmap *` has the map alone: the calls before it have ended, and
@@ -434,8 +434,8 @@ INTMAP_NONNULL INTMAP_MUST_USE intmap_status intmap_reserve(intmap *map, size_t 
 // Makes room for `more` insertions of any keys: does what intmap_reserve does, and requests memory
 // for as many nodes. The next insertions of as many new keys then request no memory, so they can't
 // fail, whatever is looked up, written or removed between them. This holds until a call makes room,
-// sets the load factor or puts another map into the word, and not of a copy by intmap_clone. That
-// these insertions request no memory is tested, and not proved.
+// sets the load factor or puts another map into the word. A copy that intmap_clone makes doesn't
+// have this room. That these insertions request no memory is tested, and not proved.
 //
 // The nodes take 24 bytes for each of the `more` pairs. The call returns what intmap_reserve
 // returns, and INTMAP_NO_MEMORY also if the nodes are refused.
