@@ -32,9 +32,9 @@
 ///
 /// Whoever chooses the keys can choose thousands of one slot, and then each call compares thousands
 /// of keys. With `scrambled by` and a secret, [`scramble`](crate::scramble) makes a key's number of
-/// the secret and the number of the field. So the secret decides which keys share a slot. It is an
-/// expression, which each call on a key evaluates. It must be the same number as long as there are
-/// maps with such keys, so take a `static`:
+/// the secret and the number of the field. So the secret decides which keys share a slot. The
+/// secret is an expression, which each call on a key evaluates. It must be the same number as long
+/// as there are maps with such keys, so take a `static`:
 ///
 /// ```
 /// use intmap_proved::{IntMap, int_key};
@@ -77,8 +77,8 @@ macro_rules! int_key {
     )+ };
 }
 
-/// Returns the number that a secret puts in the place of a number. For each secret, different
-/// numbers stay different. The cost is *O*(1).
+/// Scrambles a number by a secret. For each secret, different numbers stay different. The cost is
+/// *O*(1).
 ///
 /// # What is known of it
 ///

@@ -59,8 +59,9 @@ pub use crate::proved::map::IntKey;
 /// hand. The cost is *O*(*m*^2) for *m* keys.
 ///
 /// # Errors
-/// The first key that breaks a rule, behind an earlier key with which it does. Both are one key if
-/// its number changes, or if it isn't equal to itself.
+/// Two keys that break a rule. The second is the first of the slice that breaks one with a key
+/// before it, or alone: then both are that key, whose number changes or which isn't equal to
+/// itself.
 ///
 /// ```
 /// use intmap_proved::{IntKey, check_keys};

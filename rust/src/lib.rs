@@ -1,8 +1,8 @@
 //! A map and a set for integer keys, whose core is machine-checked against its contract.
 //!
-//! It gives your value back when memory fails, and visits its pairs in the same order on every run.
-//! It is `no_std` with `alloc`, and has no `unsafe` and no dependency. It is fast on ids that count
-//! up with hardly a gap.
+//! If an allocation fails, a call such as [`try_insert`](IntMap::try_insert) gives your value back.
+//! Iteration has the same order on every run. The crate is `no_std` with `alloc`, and has no
+//! `unsafe` and no dependency. It is fast on ids that count up with hardly a gap.
 //!
 //! ```
 //! use intmap_proved::IntMap;
@@ -17,9 +17,9 @@
 //!
 //! You want | Take
 //! ---|---
-//! many insertions of random keys, or little memory | std's or hashbrown's with a hasher that multiplies. With random keys an insertion here takes 2.3 to 2.5 times std's time, or 1.3 to 1.4 where room was made, a look-up 1.3 to 2.1, a removal 0.8 to 1.0, a step of `iter` 2.2 to 2.3, and a map 1.6 to 1.9 times std's bytes
+//! many insertions of random keys, or little memory | std's or hashbrown's with a hasher that multiplies. With random keys an insertion here takes 2.3 to 2.5 times std's time, or 1.3 to 1.4 where room was made, a look-up of a present key 1.3 to 2.1 and of an absent one 2.4 to 2.9, a removal 0.8 to 1.0, a step of `iter` 2.2 to 2.3, and a map 1.6 to 1.9 times std's bytes
 //! to clone, collect, drain or clear whole maps | the same. Here `clone` takes 3 to 17 times std's time, and `into_iter` and `drain` 3.5 to 6. `clear` goes through all pairs. `extend` reserves nothing ahead. A `drop` goes through the slots only if values have something to drop
-//! ids with hardly a gap | this. A look-up of a present id takes 0.5 to 0.7 of std's time, a removal 0.4, an insertion 0.8 to 1.1, or 0.6 to 0.7 where room was made, and a map 1.4 times std's bytes. Of 20,000 ids, look-ups of absent ones in shuffled order take 1.5 to 2.0 times std's time
+//! ids with hardly a gap | this. A look-up of a present id takes 0.5 to 0.7 of std's time, a removal 0.3 to 0.5, an insertion 0.8 to 1.1, or 0.6 to 0.7 where room was made, and a map 1.4 times std's bytes. Of 20,000 ids, look-ups of absent ones in shuffled order take 1.5 to 2.0 times std's time
 //! ids with more gaps, or inserted in another order | measure. Here an insertion takes 1.4 times std's time with half of the ids missing, 1.6 times in shuffled order, and 1.0 with even ids. A look-up takes 0.8, 0.7 and 1.6 times std's time
 //! a program that goes on when memory fails | this: it returns the failure and the value, and the map is as it was. std's has `try_reserve` alone
 //! the same order on every run and machine | this, or `indexmap` (in order of insertion), or `BTreeMap` (sorted)
@@ -27,10 +27,10 @@
 //! to go on with code for `intmap` 2.0.0 | this, by [one `use` line](original). The insertion of a new key takes 0.15 to 0.5 of its time, that of a present one 0.4 to 1.1, a removal 0.5 to 1.7, `clear` 2 to 5.2
 //! 32-bit targets, a hasher of your own, keys that strangers choose | std's; [`int_key!`] says what a secret is worth
 //!
-//! Each figure is the time or the bytes of this map by those of the other, where none is named
-//! std's with a multiplying hasher, with 1,000 and 20,000 keys and values of type `u64`. A time is
-//! the least of several rounds in which the maps took turns, on a quiet virtual machine on
-//! 2026-12-01. Bytes were counted at the allocator.
+//! Each figure is this map's time or bytes divided by the other map's. If no other map is named, it
+//! is std's with a multiplying hasher. Keys and values were `u64`, and maps had 1,000 and 20,000
+//! pairs. A time is the least of several rounds in which the maps took turns, on a virtual machine
+//! on 2026-12-01. Bytes were counted at the allocator.
 //!
 //! The traits of serde are in the crate `intmap_proved_serde`.
 //!
@@ -43,8 +43,8 @@
 //! - `capacity`, `with_capacity(128)` and `reserve(128)` count slots: 128 pairs may double them.
 //!   [`with_room_for`](IntMap::with_room_for) and [`reserve_pairs`](IntMap::reserve_pairs) count
 //!   pairs, [`reserve_members`](IntSet::reserve_members) members. Keys that share a slot still
-//!   allocate. Behind [`reserve_insertions(128)`](IntMap::reserve_insertions) the insertions of 128
-//!   new keys of any kind allocate nothing.
+//!   allocate. After [`reserve_insertions(128)`](IntMap::reserve_insertions), insertions of 128 new
+//!   keys of any kind allocate nothing.
 //! - [`iter_mut`](IntMap::iter_mut) and [`values_mut`](IntMap::values_mut) cost *O*(*n* + *c*) before
 //!   their first step if keys share a slot: [`for_each_mut`](IntMap::for_each_mut) doesn't.
 //! - `new`, `default` and `mem::take` allocate, so no map is a constant. A map that begins with
@@ -56,7 +56,7 @@
 //!   the stored one. Keys that keep to the rules of [`IntKey`] don't show it.
 //! - `retain` can't change values: [`retain_mut`](IntMap::retain_mut) can.
 //! - `try_insert` fails for want of memory, not for a present key.
-//! - The `Debug` text of iterators that can't be cloned has no items: mostly a count of those left.
+//! - The `Debug` text of an iterator that can't be cloned has no items. Most say how many are left.
 //! - There is no hasher, and no `get_disjoint_unchecked_mut`. A set has no `load_rate`,
 //!   `collisions` or `assert_count`. A struct with a field `IntMap<K, V>` needs no bound, but needs
 //!   `K: IntKey` to derive `Clone`, `Debug` or `PartialEq`.
@@ -74,8 +74,9 @@
 //! names the proved call and the clauses of its contract, which stand in the crates `intmap` and
 //! `intmap_set` of the repository that this copy came from. The text above the line says in words
 //! what these clauses say of the answer, of what the call leaves, and of failures. "Proved in part"
-//! marks code by hand over the proved calls that the line names. Except for the calls of the next
-//! paragraph, a call without such a line only makes the call that its text links. What holds of
+//! marks code by hand over the proved calls that the line names. Except for those of the next
+//! paragraph, a method of a map, a set or an entry without such a line only makes the call that its
+//! text links. Implementations of traits have no such line: see the README's table. What holds of
 //! every map is proved of each call too: no key is there twice, the pairs are in the order of their
 //! slots, the capacity is a power of two from 2 to 2^63, and the load factor is met at the last
 //! length at which insertions check it.

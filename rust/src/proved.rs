@@ -2,10 +2,10 @@
 //!
 //! `tools/erase` of the repository writes these modules. What is private to a crate there is
 //! private to a module here. The files `written` and `mending` among them are written by hand, and
-//! are tested, not proved. Each `written` is for mutable references to several values, or for calls
-//! of a set that the proved set lacks, and each `mending` for a map that a panic has left in the
-//! middle of a call. Items that no call of the crate reaches aren't here. Imports and style are as
-//! the sources have them.
+//! are tested, not proved. Each `written` is for mutable references to several values, for iterators
+//! without items, or for calls of a set that the proved set lacks. Each `mending` is for a map that
+//! a panic has left in the middle of a call. Items that no call of the crate reaches aren't here.
+//! Imports and style are as the sources have them.
 #![allow(unused_imports, unstable_name_collisions)]
 #![allow(clippy::style, clippy::complexity, clippy::perf)]
 

@@ -54,8 +54,9 @@
 //! # Ok::<(), serde_json::Error>(())
 //! ```
 //!
-//! The text has the keys as they are. Their order in it depends on the secret, so don't show it to
-//! who may learn the secret from it: [`scramble`](intmap_proved::scramble) is no cipher.
+//! The text has the keys unscrambled, but their order depends on the secret. So don't show the text
+//! to strangers, who may learn the secret from it: [`scramble`](intmap_proved::scramble) is no
+//! cipher.
 mod read;
 
 use intmap_proved::{IntKey, IntMap, IntSet};

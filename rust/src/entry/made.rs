@@ -38,8 +38,8 @@ impl<'a, K: IntKey, V> Entry<'a, K, V> {
         self.try_or_insert_with(|| value)
     }
 
-    /// The same as [`or_insert`](Self::or_insert), with the value that `make` returns. It is called
-    /// only if the key is absent. [`try_or_insert_with`](Self::try_or_insert_with) returns a
+    /// The same as [`or_insert`](Self::or_insert), with the value that `make` returns. `make` is
+    /// called only if the key is absent. [`try_or_insert_with`](Self::try_or_insert_with) returns a
     /// failure.
     ///
     /// ```

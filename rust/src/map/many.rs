@@ -44,8 +44,8 @@ impl<K: IntKey, V> IntMap<K, V> {
     }
 
     /// Removes all pairs. The capacity, the load factor and the memory stay. Values are dropped in
-    /// iteration order, where the drop of a map drops those of all first pairs of slots before the
-    /// others. If the drop of a value panics, the map stays whole, without the pairs up to that
+    /// iteration order, unlike by the drop of a map, which drops the first value of each slot before
+    /// all others. If the drop of a value panics, the map stays whole, without the pairs up to that
     /// one. The cost is *O*(*n* + *c*).
     ///
     /// Proved of `IntMap::clear`: `state`, `updates`, `len`.

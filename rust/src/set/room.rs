@@ -123,7 +123,7 @@ impl<K: IntKey> IntSet<K> {
         guarded!(&mut self.set, |set| set.reserve_insertions(additional))
     }
 
-    /// Returns the load factor, as [`IntMap::get_load_factor`](crate::IntMap::get_load_factor).
+    /// Returns the load factor, as [`IntMap::get_load_factor`](crate::IntMap::get_load_factor) does.
     ///
     /// Proved in part: it is [`load_factor_thousandths`](IntSet::load_factor_thousandths), divided
     /// by hand.
