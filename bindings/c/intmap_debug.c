@@ -39,8 +39,8 @@ static uint64_t debug_count;
 // Handles count up from here, where no processor has memory.
 static const uint64_t FIRST_HANDLE = (uint64_t)0xDEB0 << 48;
 
-// Stands for the map of a word without one, which no call changes. Each thread has its own, since
-// calls write all the same that there is none.
+// Stands for the map of a word that has none. No call gives it a map, but calls write to it all the
+// same that there is none. So each thread has its own.
 static __thread debug_record debug_none = {INTMAP_INIT, NULL, 0};
 
 static void debug_end(const char *call, const char *what) {

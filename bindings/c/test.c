@@ -785,7 +785,7 @@ static void test_insertions(unsigned kind, uint64_t factor) {
     end_test();
 }
 
-// Small maps of random keys with several load factors grow often, in each form of slots.
+// Small maps of random keys with several load factors grow often.
 static void test_small_maps(unsigned kind) {
     for (uint64_t secret = 0; secret < 50; secret++) {
         call_make(4);
