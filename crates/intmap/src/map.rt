@@ -37,8 +37,9 @@ use std::marker::Model;
 ///
 /// Contracts see a map as a [`MapState`](../specs/Map.antt): its walk, its number of slots, its
 /// load factor in thousandths, and two counts. One counts the pairs that insertions put into larger
-/// tables, the other the keys that calls by `&mut` compared. Only contracts see the counts: they
-/// take no memory.
+/// tables, the other the keys that calls by `&mut` compared, except steps of
+/// [`get_disjoint_mut`](IntMap::get_disjoint_mut). Only contracts see the counts: they take no
+/// memory.
 #[derive(Drop)]
 pub struct IntMap<K: IntKey, V, A: Allocator + Copy = Global> {
     table: Table<K, Kept<V>, A>,
@@ -94,8 +95,8 @@ impl<K: IntKey, V, A: Allocator + Copy> IntMap<K, V, A> {
         self.table.capacity()
     }
 
-    /// Does nothing. Its contract says what holds of every map, for a function that calls nothing
-    /// else of which a proof could learn that.
+    /// Does nothing. Its contract says what holds of every map. A function calls it if it makes no
+    /// other call whose contract says so.
     #[inline(always)]
     pub(crate) fn known(&self)
         ensures valid { IsMap K.number_of K.is_valid self.now }
@@ -170,7 +171,7 @@ impl<K: IntKey, V, A: Allocator + Copy> IntMap<K, V, A> {
         self.table.value_mut_at(at).get_mut()
     }
 
-    /// Removes a located pair. The last pair of its slot takes its place.
+    /// Removes a located pair, and returns its value. The last pair of its slot takes its place.
     #[inline(always)]
     pub(crate) fn take_at(&mut self, at: Location<K>) -> V
         requires { IsAt K.number_of self.old.walk self.old.capacity at }
@@ -184,8 +185,9 @@ impl<K: IntKey, V, A: Allocator + Copy> IntMap<K, V, A> {
         kept.into_value()
     }
 
-    /// Removes a located pair and puts the pair of its key and this value at the end of the slot.
-    /// The last pair of the slot takes the place of the removed one. It allocates nothing.
+    /// Removes a located pair, puts the pair of its key and this value at the end of the slot, and
+    /// returns the old value. The last pair of the slot takes the place of the removed one. It
+    /// allocates nothing.
     #[inline(always)]
     pub(crate) fn replace_at(&mut self, at: Location<K>, value: V) -> V
         requires { IsAt K.number_of self.old.walk self.old.capacity at }

@@ -74,8 +74,8 @@ impl<K: IntKey, V: Drop, A: Allocator + Copy> IntMap<K, V, A> {
 
     /// An empty map with room for `pairs` pairs, and a load factor of 909 thousandths. Its number
     /// of slots is the least power of two, from 2 on, in which so many pairs meet the load factor.
-    /// It is what [`reserve_pairs`](IntMap::reserve_pairs) makes of two slots, but allocates the
-    /// slots once.
+    /// [`reserve_pairs`](IntMap::reserve_pairs) makes the same of an empty map of two slots, but
+    /// this call allocates the slots once.
     ///
     /// Insertions of keys that follow one another, such as ids, then don't fail, as
     /// [`reserve_pairs`](IntMap::reserve_pairs) says. Other keys may share a slot, and then

@@ -55,9 +55,9 @@ impl<K: IntKey, V: Drop, A: Allocator + Copy> IntMap<K, V, A> {
     }
 
     /// Makes room for `additional` pairs more: at once, whatever the length is, the capacity
-    /// becomes the least of itself and its doublings at which as many pairs more meet the load
-    /// factor. The next `additional` insertions of absent keys then leave the capacity, as long as
-    /// the load factor stays.
+    /// becomes the least of itself and its doublings that meets the load factor with these pairs.
+    /// The next `additional` insertions of absent keys then leave the capacity, as long as the load
+    /// factor stays.
     ///
     /// Keys that follow one another, such as ids, are then inserted without failure: each has a
     /// slot of its own, as long as they and the keys of the map lie within as many numbers in a row
@@ -65,9 +65,9 @@ impl<K: IntKey, V: Drop, A: Allocator + Copy> IntMap<K, V, A> {
     /// [`reserve_insertions`](IntMap::reserve_insertions) makes room for such keys too.
     ///
     /// It fails with [`Cause::TooLarge`] if and only if there would be more than 2^64 - 1 pairs, or
-    /// no capacity up to 2^63 meets the load factor, and otherwise with [`Cause::Memory`] if an
-    /// allocation fails. If the present capacity meets the load factor, it allocates nothing. A
-    /// failed call leaves the map as it was.
+    /// no capacity up to 2^63 meets the load factor with them, and otherwise with
+    /// [`Cause::Memory`] if an allocation fails. If the present capacity meets it with them, the
+    /// call allocates nothing. A failed call leaves the map as it was.
     ///
     /// ```text
     /// let mut map: IntMap<u64, char> = IntMap::with_capacity(alloc, 16)?;

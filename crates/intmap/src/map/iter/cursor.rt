@@ -15,10 +15,11 @@ impl<K: IntKey, V, A: Allocator + Copy> IntMap<K, V, A> {
     /// A walk begins with [`Cursor::start`]. Any cursor will do, whatever happened to the map
     /// since: it is before the pair at its place in its slot or, if the slot has no such pair,
     /// before the slots behind. So after an insertion or a removal in a slot that was passed, the
-    /// walk goes on as before. A removal in the cursor's own slot may move a pair to a place that
-    /// was passed, and it isn't shown then. After an insertion that made the map grow, pairs are in
-    /// other slots, and some may be shown again or not at all. The call allocates nothing and never
-    /// fails.
+    /// walk goes on as before. In the cursor's own slot, a removal may move a pair to a place that
+    /// was passed, and the walk doesn't show it then. The insertion of a present key may do so too,
+    /// and puts its own pair last, so the walk may show that pair again. Once the map has grown,
+    /// pairs are in other slots, and the walk may show some again or not at all. The call allocates
+    /// nothing and never fails.
     ///
     /// Each call goes past the pairs of the cursor's slot, to count them. So a whole walk takes
     /// time in the numbers of pairs and slots, and in the square of the pairs of each crowded slot.

@@ -8,7 +8,7 @@ use crate::memory::alloc::Allocator;
 
 impl<K: IntKey, V, A: Allocator + Copy> IntMap<K, V, A> {
     /// The number of slots that hold a pair, which is the number of different residues of the keys
-    /// modulo the capacity. It counts one bit a slot, a word of 64 at a time, and never fails.
+    /// modulo the capacity. It counts bits, one for each slot, in words of 64. It never fails.
     pub fn load(&self) -> u64 {
         self.table.load() as u64
     }
