@@ -17,12 +17,12 @@ use Rattle.intmap_run.specs.declared.answer.Answer.TheVariants as answer
 use Rattle.intmap.specs.Growing.{ListReserves, MayRefuseReserve, ListSetsFactor, MayRefuseFactor}
 use Rattle.intmap.specs.PlainLists.{PlainList, empty_list, Stands, looked_up, ListInserts, ListInsertsAll, ListInsertsUpTo, RefusalIsDue}
 
--- To check by hand what `RunsFrom` says, read these files in this order:
--- Classes of intmap_table: the constant is odd, a capacity is a power of two from 2 to 2^63, `agrees` compares remainders.
+-- To check by hand what `RunsFrom` says, read these files in this order. Classes, Bindings, Walk, Reach and Figures are of intmap_table:
+-- Classes: `multiplier` is odd, a capacity is a power of two from 2 to 2^63, `agrees` compares remainders.
 -- Bindings: which pair moves at `take_key`, and that `put_pair` puts the new one last. `Takes` of Removals says the same of a removal
 --   without a recursion; the law `removals_fill_the_hole` joins both.
 -- Walk: a list stands for a map if its walk is the map's. Reach: the sought key counts.
--- Growth: at which lengths the load is tested, that `MeetsLoad` rounds down, and that `IsWanted` takes the least doubling.
+-- Growth: at which lengths the load is checked, that `MeetsLoad` rounds down, and that `IsWanted` takes the least doubling.
 -- Map of intmap: only an absent key is out of range (`IsOutOfRange`); the first capacity is 4, the first load factor 909.
 -- PlainLists: what a look-up and an insertion that grows add to the counts. `RefusalIsDue`: an absent key alone; `TooLarge` exactly out of
 --   range; never `Memory` if the capacity stays and the slot is empty.

@@ -2,9 +2,9 @@
 //!
 //! `run` makes one call on an `IntMap`, or on an entry of it, for each `Command`, and returns one
 //! `Answer` per command. A `Judge` says what is seen of values on the way, and which pairs stay.
-//! Whatever the commands are, the answers and the map at the end are the same as for a plain list
-//! of pairs. This holds of every list that stands for the map at the start. `laws` shows why any
-//! such list will do.
+//! Whatever the commands are, the answers are ones that the rules for a plain list of pairs allow,
+//! and the list at the end stands for the map at the end. This holds of every list that stands for
+//! the map at the start. `laws` shows why any such list will do.
 #![tactic(auto)]
 
 mod answer;

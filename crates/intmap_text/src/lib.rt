@@ -4,9 +4,9 @@
 //! a text to its end, runs the commands in its lines on an empty map, and writes one line for each
 //! answer. The caller provides the reader, the writers and the allocator: a program passes the real
 //! streams, a test passes streams in memory or streams that fail. Keys and values are `u64`. The
-//! contracts say which bytes are a command, and fix each byte of the answers of a call that
-//! succeeds. Of a failed call they say at most that it wrote no answer, and outside of this crate
-//! nothing of the text that `serve` writes on `faults`.
+//! contracts say which bytes are a command, and fix each byte of an answer that a successful call
+//! writes. Of the output of a failed call they say at most that it is as it was, and outside of
+//! this crate nothing of the text that `serve` then writes on `faults`.
 #![tactic(auto)]
 
 mod command;
