@@ -1,8 +1,8 @@
-//! Texts by number, from a source for the kit's `HashMap<u64, String>`. Only three things were
-//! changed: the types, the places of `?`, and keys, which are passed by value here.
+//! Texts by number, from a source for the kit's `HashMap<u64, String>`. In the bodies only three
+//! things were changed: the types, the places of `?`, and keys, which are passed by value here.
 //!
-//! A call that returns a `Result` fails if there is no memory or the map would be too large.
-//! `first_length` never fails.
+//! A call that returns a `Result` fails if there is no memory or the map would be too large, except
+//! `first_length`, which never fails.
 ghost use Rattle.std.specs.Prelude.{◌≡◌, IfOk, OnOk, Some, unwrap_or, string_len};
 ghost use Rattle.std.specs.Map.{keys_of, values_of};
 ghost use Rattle.std.specs.String.{string_bytes};

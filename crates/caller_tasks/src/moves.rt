@@ -137,8 +137,8 @@ pub fn move_number<A: Allocator + Copy>(
 }
 
 /// Moves an owned value to another map, and returns whether the key was present. Every other key
-/// keeps its value in both maps. The key shares its slot with none, so the value goes back if it
-/// can't be inserted there, and nothing is lost.
+/// keeps its value in both maps. The key's slot must hold exactly one pair: then the value can go
+/// back if the other map doesn't take it, and nothing is lost.
 ///
 /// It fails if the insertion fails. Each key then has the value that it had.
 pub fn move_owned<V: Drop, A: Allocator + Copy>(

@@ -66,7 +66,8 @@ pub fn are_equal<K: IntKey, A: Allocator + Copy>(
     *first == *second
 }
 
-/// How many members of the group are missing in a part of it, or `None` if it is no part.
+/// How many members of the group are missing from a part of it, or `None` if `part` isn't a subset
+/// of the group.
 pub fn count_missing<K: IntKey, A: Allocator + Copy>(
     part: &IntSet<K, A>,
     group: &IntSet<K, A>,

@@ -33,9 +33,9 @@ struct Counts {
     left: Cell<u64>,
     /// The bytes above which an allocation fails.
     most: Cell<u64>,
-    /// How many allocations were made to fail since `fail_above`.
+    /// How many allocations were made to fail since `new` or the last `fail_above`.
     failures: Cell<u64>,
-    /// The bytes that were granted since `fail_above`, before the first of these failures.
+    /// The bytes that were granted since then, before the first of these failures.
     granted: Cell<u64>,
     /// The blocks that were returned and not handed back.
     blocks: Cell<u64>,
@@ -74,15 +74,15 @@ impl<B: Allocator> FailingAlloc<B> {
         self.counts.granted.set(0);
     }
 
-    /// Returns how many allocations were made to fail since the last `fail_above`, by it or by
-    /// `arm`.
+    /// Returns how many allocations were made to fail since `new` or the last `fail_above`, by
+    /// `new`, `arm` or `fail_above`.
     pub fn failures(&self) -> u64 {
         self.counts.failures.get()
     }
 
-    /// Returns how many bytes were granted since the last `fail_above`: before the first allocation
-    /// that was made to fail since, or in all if none was. A block that was handed back counts too,
-    /// and one that moved to a larger place counts with all bytes of both.
+    /// Returns how many bytes were granted since `new` or the last `fail_above`: before the first
+    /// allocation that was made to fail since, or in all if none was. A block that was handed back
+    /// counts too, and one that moved to a larger place counts with all bytes of both.
     pub fn granted_bytes(&self) -> u64 {
         self.counts.granted.get()
     }

@@ -78,7 +78,8 @@ pub enum Command<K, V, A: Allocator = Global> {
     /// `assert_count`: counts the pairs that the slots hold. The answer is `Flag`: whether `len` is
     /// their number, which is always true.
     AssertCount,
-    /// `iter`: the answer is `Walk` with all pairs, slot by slot.
+    /// `iter`: the answer is `Walk` with each key and what the judge sees of its value, slot by
+    /// slot.
     ///
     /// It fails with `Memory` if there is no memory for the list, before a value is looked at.
     Walk,

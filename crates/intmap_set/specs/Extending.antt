@@ -46,13 +46,13 @@ module _ {K : Type 0} (number : K → ℕ) (is_valid : K → Type 0) where
     pub may_refuse : RefusalIsDue number (list_of (as_map before)) refused.key refused.cause
     pub after : t ≡ looked_up number before refused.key
 
-  -- the keys were inserted in turn, and none failed, into an empty set with the given room
+  -- the keys were inserted in turn, and none failed, into a set as `with_capacity` makes it of the number `room`
   pub record IsCollected (room : ℕ) (ks : List K) (s : SetState K) : Type 0 where
     pub slots : ℕ
     pub power : IsLeastPower (max room least_capacity) slots
     pub extended : IsExtended (empty_set slots) ks s
 
-  -- the keys were inserted in turn into an empty set with the given room, up to one that is out of range
+  -- the keys were inserted in turn into a set as `with_capacity` makes it of the number `room`, up to one that is out of range
   pub record LeavesRange (room : ℕ) (ks : List K) : Type 0 where
     pub before : List K
     pub next : K

@@ -35,8 +35,8 @@ fn answer_of(alloc: Global, call: &str) -> Result<String, AllocError> {
     }
 }
 
-// What a row is answered. A call that is refused for want of memory is made once more. The answer
-// then tells of both calls, and between them whether what the call reads is as it was.
+// The answers of rows. A call that fails for want of memory is made once more. The answer then has
+// the results of both calls, and between them whether what the call reads is as it was.
 
 // the map that is read from a text, with its slots, its keys and the text that is written of it,
 // or why there is none
@@ -192,8 +192,8 @@ fn both_ways(
     format!(in alloc; "{slots} slots, {pairs} pairs, sum {sum}, {written}")
 }
 
-// a sum that tells the order of the pairs: each key, and then its value, is added to 31 times what
-// there is
+// a sum that depends on the order of the pairs: each key, and then its value, is added to 31 times
+// what there is
 fn sum_of(map: &IntMap<u64, Value>) -> u64 {
     let mut sum = 0u64;
     for (key, value) in map {

@@ -1,4 +1,4 @@
-//! New sets, and the insertion of a key.
+//! New sets, the insertion of a key, and reservations.
 ghost use Rattle.std.specs.Prelude.{◌≡◌, ◌↔◌, ◌+◌, ◌^◌, ◌<◌, max, length, not, Err, IfOk, IfErr, OnOk, OnErr, IsOk, MatchBool};
 ghost use Rattle.intmap.specs.Growing.{MayRefuseReserve, MayRefuseRoom, MeetsFactor, NeedsTooMuchRoom};
 ghost use Rattle.intmap.specs.Growth.{IsLeastPower, IsWanted, NeedsTooMuch};

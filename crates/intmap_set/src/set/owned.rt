@@ -16,9 +16,9 @@ impl<K: IntKey, A: Allocator + Copy> IntSet<K, A> {
     /// them aren't counted.
     ///
     /// It fails with [`Cause::Memory`] if an allocation fails. It fails with [`Cause::TooLarge`]
-    /// only if so many members exceed 909 thousandths of 2^63 slots. A failed call drops what it
-    /// made. The same holds for the other three calls. As a difference and an intersection have no
-    /// more members than one of the sets, these two never fail with [`Cause::TooLarge`].
+    /// only if the members of the union exceed 909 thousandths of 2^63 slots. A failed call drops
+    /// what it made. The same holds for the other three calls. As a difference and an intersection
+    /// have no more members than one of the sets, these two never fail with [`Cause::TooLarge`].
     ///
     /// ```text
     /// let first = IntSet::from_iter(alloc, [1, 2, 3].into_iter())?;
@@ -124,7 +124,7 @@ impl<K: IntKey, A: Allocator + Copy> IntSet<K, A> {
     ///
     /// It stops at the first insertion that fails, as [`extend`](IntSet::extend) does, and returns
     /// that member with the cause and the number of members before it. Those stay members of this
-    /// set. Each member that was tried was searched for and counted, that one too.
+    /// set. The search for each member that was tried is counted, also for the one that failed.
     ///
     /// ```text
     /// let mut set = IntSet::from_iter(alloc, [1, 2].into_iter())?;

@@ -1,4 +1,4 @@
-//! New sets, and the insertion of a key.
+//! New sets, the insertion of a key, and reservations.
 
 use crate::memory::prelude::*;
 use crate::proved::set::set::IntSet;
