@@ -27,8 +27,8 @@ pub fn set_price(prices: &mut IntMap<u64, u64>, id: u64, price: u64) -> Result<(
 /// Puts further settings over the present ones. Each setting then has its last value among the
 /// further ones, or, if they don't name it, the value that it had.
 ///
-/// It fails if an insertion fails, and returns that setting. The settings before it are then in the
-/// table, those behind it aren't.
+/// It fails if an insertion fails, and returns that setting. The settings before it were then put
+/// into the table, and those behind it weren't.
 pub fn put_over<V: Drop, A: Allocator + Copy>(
     settings: &mut IntMap<u64, V, A>,
     further: Vec<(u64, V), A>,

@@ -108,8 +108,8 @@ pub struct Symbol {
     pub value: u64,
 }
 
-/// Removes the first name of this depth, if there is one, and returns it. It was declared. No other
-/// name is removed.
+/// Removes the first declared name of this depth, if there is one, and returns it. No other name is
+/// removed.
 pub fn forget_one(names: &mut IntMap<u64, Symbol>, depth: u64) -> Option<(u64, Symbol)>
     ensures first { result ≡ slice_get (filter (λ name. name.1.depth == depth) names.old.walk) 0 }
     ensures declared { IfSome result (λ name. IsSome (value_at names.old.walk name.0)) }
@@ -124,8 +124,8 @@ pub fn forget_one(names: &mut IntMap<u64, Symbol>, depth: u64) -> Option<(u64, S
     left.next()
 }
 
-/// Leaves the scopes of this depth: removes the names that they declared, and returns their number.
-/// Each other name stands for what it stood for, and the others keep their order.
+/// Leaves the scopes of this depth: removes the names that they declared, and returns how many
+/// there were. The other names stand for what they stood for, and keep their order.
 pub fn leave_scope(names: &mut IntMap<u64, Symbol>, depth: u64) -> usize
     ensures names { (name : ℕ) (symbol : Symbol) → value_at names.old.walk name ≡ Some symbol
         → value_at names.new.walk name ≡ cond (not (symbol.depth == depth)) (Some symbol) None }

@@ -84,7 +84,7 @@ pub fn count_missing<K: IntKey, A: Allocator + Copy>(
     Some(all - some)
 }
 
-/// How many members of the first set are absent from the second, by how many both have.
+/// How many members of the first set are absent from the second, computed from how many both have.
 pub fn count_apart<K: IntKey, A: Allocator + Copy>(
     first: &IntSet<K, A>,
     second: &IntSet<K, A>,
@@ -96,7 +96,7 @@ pub fn count_apart<K: IntKey, A: Allocator + Copy>(
     all - first.intersection(second).count()
 }
 
-/// How many keys exactly one of two sets has, by how many both have.
+/// How many keys exactly one of two sets has, computed from how many both have.
 pub fn count_unshared<K: IntKey, A: Allocator + Copy>(
     first: &IntSet<K, A>,
     second: &IntSet<K, A>,

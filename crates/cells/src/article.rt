@@ -28,7 +28,7 @@ impl IntKey for Article {
     }
 }
 
-/// The price of an article, once it was noted in a list of its own.
+/// Notes the price of an article in a map of its own, and returns the price that the map then has.
 ///
 /// It fails if there is no memory.
 pub fn noted_price(alloc: Global, number: u32, price: u64) -> Result<Option<u64>, Cause>

@@ -1,4 +1,4 @@
--- What calls return to C, and with which map.
+-- What calls return to C, and what a failed call leaves.
 use Rattle.std.specs.Prelude.{◌≡◌, ◌⊎◌, ℕ, ℤ, Option, None, Some}
 use Rattle.intmap.specs.declared.refusal.Cause.{Cause}
 use Rattle.intmap_c.specs.Statuses.{present_status, absent_status, no_memory_status, too_large_status, failed_status}

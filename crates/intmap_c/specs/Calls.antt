@@ -125,7 +125,7 @@ MakesNoneWithRoom more status =
     ((status ≡ too_large_status) × NeedsTooMuchRoom first_capacity more first_factor)
     ⊎ ((status ≡ no_memory_status) × (NeedsTooMuchRoom first_capacity more first_factor → ⊥))
 
--- there is room for this number of pairs more, which ids that follow one another find without a failure
+-- there are slots for this number of pairs more, each key has its value, and as many new ids have room as `HasRoomInRow` says
 pub record GainsRoom (m n : State) (more : ℕ) : Type 0 where
   pub made : IsRoomMade itself m more n
   pub same : HaveSameBindings m n

@@ -19,7 +19,7 @@ report_of fault.Memory = codes "no memory" ++ 10 ∷ []
 report_of fault.Input = codes "input failed" ++ 10 ∷ []
 report_of fault.Output = codes "output failed" ++ 10 ∷ []
 
--- how reading a text may fail: it is no list of commands, with the number of its first line that is none, or there is no memory
+-- why a text has no answers: it spells no list of commands, with the number of its first line that is no command, or there is no memory
 abbrev pub IsRefused : Type 0 → List ℕ → Fault → Type 0
 IsRefused A text (fault.NotACommand n) = SpellsNone A text × IsFirstUnknown A text n
 IsRefused A text fault.Memory = ⊤

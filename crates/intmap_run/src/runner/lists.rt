@@ -178,8 +178,8 @@ fn take_front<K: IntKey, V: Drop, A: Allocator + Copy>(
     Ok(pairs)
 }
 
-/// The walk of the sizes of slots. It fails if there is no memory for the map of them, or for its
-/// walk.
+/// The pairs of the map that `collisions` makes, in the order of its walk. It fails if there is no
+/// memory for that map or for the list.
 fn all_sizes<K: IntKey, V: Drop, A: Allocator + Copy>(
     alloc: A,
     map: &IntMap<K, V, A>,
