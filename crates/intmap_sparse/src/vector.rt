@@ -72,7 +72,9 @@ impl<A: Allocator + Copy> SparseVec<A> {
     ///
     /// It fails only if the place isn't stored and the value isn't 0: with [`Cause::TooLarge`] if
     /// and only if the vector already stores 2^64 - 1 places or growth needs more than 2^63 slots,
-    /// and otherwise with [`Cause::Memory`] if an allocation fails. A failed call changes nothing.
+    /// and otherwise with [`Cause::Memory`] if an allocation fails. It never fails with `Memory` if
+    /// the number of slots stays and no stored place has the same slot. A failed call changes
+    /// nothing.
     ///
     /// ```text
     /// let mut vector = SparseVec::new(alloc)?;
@@ -108,8 +110,9 @@ impl<A: Allocator + Copy> SparseVec<A> {
     /// It fails with [`SparseCause::Overflow`] if and only if the sum isn't an `i64`. Otherwise it
     /// fails only if the place isn't stored and the sum isn't 0: with [`SparseCause::TooLarge`] if
     /// and only if the vector already stores 2^64 - 1 places or growth needs more than 2^63 slots,
-    /// and otherwise with [`SparseCause::Memory`] if an allocation fails. A failed call changes
-    /// nothing.
+    /// and otherwise with [`SparseCause::Memory`] if an allocation fails. It never fails with
+    /// `Memory` if the number of slots stays and no stored place has the same slot. A failed call
+    /// changes nothing.
     ///
     /// ```text
     /// let mut vector = SparseVec::new(alloc)?;
