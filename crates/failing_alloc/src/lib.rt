@@ -29,7 +29,7 @@ pub struct FailingAlloc<B: Allocator> {
 /// What a `FailingAlloc` counts.
 #[derive(Drop)]
 struct Counts {
-    /// How many allocations away the failing one is, 0 if none will fail.
+    /// How many allocations away the one is that `new` or `arm` makes fail, 0 if there is none.
     left: Cell<u64>,
     /// The bytes above which an allocation fails.
     most: Cell<u64>,
@@ -61,7 +61,7 @@ impl<B: Allocator> FailingAlloc<B> {
     }
 
     /// Starts the count again: from here on, allocation number `failing` fails, counted from 1. At
-    /// 0 none fails.
+    /// 0 none fails by its number.
     pub fn arm(&self, failing: u64) {
         self.counts.left.set(failing);
     }
