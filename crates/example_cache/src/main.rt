@@ -32,7 +32,7 @@ impl Cache {
         Ok(Cache {
             limit,
             time: 0,
-            texts: IntMap::with_capacity(alloc, limit)?,
+            texts: IntMap::with_room_for(alloc, limit)?,
         })
     }
 

@@ -8,7 +8,7 @@ use std::fmt;
 /// Why [`SparseVec::add`](crate::SparseVec::add) failed.
 #[derive(Clone, Copy, PartialEq, Eq, Debug)]
 pub enum SparseCause {
-    /// An allocation failed.
+    /// An insertion failed with [`Cause::Memory`].
     Memory,
     /// The vector would store more than 2^64 - 1 places, or need more than 2^63 slots.
     TooLarge,
