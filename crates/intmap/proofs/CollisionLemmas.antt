@@ -73,7 +73,7 @@ module _ {X : Type 0} (slot : ℕ → List X) where
       omega (arith, first, part, all, len)
 
   module _ (C n : ℕ) (below : n < C) (m : MapState ℕ ℕ) (tally : IsTally (collision_sizes_below n) m) where
-    -- no count is as great as the number of slots
+    -- each count is below 2^64 - 1
     pub count-below : C ≤ 2 ^ 63 → (q count : ℕ) → value_of (λ k. k) m.walk q ≡ Some count → count < 2 ^ 64 - 1
     count-below most q count bound =
         let here = found (list_any (λ k. k == q) (collision_sizes_below n)) (times q (collision_sizes_below n)) count (sym bound ∙ tally.counts q ∙ value_of-tally_of (collision_sizes_below n) q) in

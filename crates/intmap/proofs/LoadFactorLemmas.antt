@@ -178,7 +178,7 @@ IsLoaded-larger C D n F some le loaded four =
 pub IsNext-changes : (C n F D : ℕ) → F < n * 1000 / C → MeetsLoad D n F → D ≢ C
 IsNext-changes C n F D over meets same = let m : MeetsLoad C n F = subst (λ c. MeetsLoad c n F) same meets in omega (arith, over, m)
 
--- within the threshold no more than 2^63 slots are asked for
+-- if the next capacity is one that a table may have, no more than 2^63 slots are needed
 pub NeedsTooMuch-none : (C n F D : ℕ) → IsCapacity D → IsNext C n F D → NeedsTooMuch (IsNext C n F) → ⊥
 NeedsTooMuch-none C n F D cap next much = not_needed (IsNext C n F) (IsNext-unique C n F) D next (capacity-greatest D cap) much
 

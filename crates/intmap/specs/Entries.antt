@@ -43,7 +43,7 @@ module _ {K V A : Type 0} {g : key.Ghosts K} {e : eq.Ghosts K} where
   abbrev pub entry_value : Entry K V A g e → Option V
   entry_value x = value_of g.number_of (entry_map x).walk (entry_key x)
 
-  -- the pairs of the map with its capacity and load factor
+  -- the pairs of the map with its capacity, its load factor and both counts
   abbrev pub entry_list : Entry K V A g e → PlainList K V
   entry_list x = list_of (entry_map x)
 

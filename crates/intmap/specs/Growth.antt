@@ -24,7 +24,7 @@ pub record IsWanted (C n F D : ℕ) : Type 0 where
 abbrev pub NeedsTooMuch : (ℕ → Type 0) → Type 0
 NeedsTooMuch needs = (D : ℕ) × needs D × (2 ^ 63 < D)
 
--- numbers of pairs up to the threshold meet the load F in C slots, and no greater one does
+-- of the numbers of pairs below 2^64, those up to the threshold meet the load F in C slots, and no greater one does
 abbrev pub IsThreshold : ℕ → ℕ → ℕ → Type 0
 IsThreshold C F threshold = (n : ℕ) → n < 2 ^ 64 → (n ≤ threshold → MeetsLoad C n F) × (threshold < n → F < n * 1000 / C)
 
@@ -32,7 +32,7 @@ IsThreshold C F threshold = (n : ℕ) → n < 2 ^ 64 → (n ≤ threshold → Me
 abbrev pub IsNext : ℕ → ℕ → ℕ → ℕ → Type 0
 IsNext C n F D = MatchBool (is_due n) (IsWanted C n F D) (D ≡ C)
 
--- C, 2C, 4C, .., up to the greatest one that a length below 2^64 may need
+-- C, 2C, 4C, .., far enough for each length below 2^64
 abbrev pub doublings : ℕ → List ℕ
 doublings C = map (λ j. C * 2 ^ j) (range_with_len 0 76)
 

@@ -10,7 +10,7 @@ use Rattle.intmap_table.specs.Reach.{class_size, reach}
 use Rattle.intmap.specs.Growth.{MeetsLoad, IsNext, NeedsTooMuch, last_due}
 
 -- a map as contracts see it: its walk, capacity and load factor in thousandths; `placed`, how many pairs insertions put into larger
--- tables; and `compared`, how many keys were compared
+-- tables; and `compared`, how many keys the calls by `&mut` compared, except steps of `get_disjoint_mut`
 pub record MapState (K V : Type 0) : Type 0 where
   pub walk : List (K × V)
   pub capacity : ℕ

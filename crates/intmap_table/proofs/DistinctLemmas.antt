@@ -121,7 +121,7 @@ module _ {K V : Type 0} (number : K → ℕ) where
   length-walk_of L C below =
       length-sum_by (walk_of number L C) ∙ sum_by-classes (λ _. 1) (λ p. slot_number number p.0 C) L C (λ p. below p.0) ∙ sym (length-sum_by L)
 
-  -- no key is in an empty list
+  -- no key is twice in an empty list
   pub HasDistinctKeys-nil : (L : List (K × V)) → L ≡ [] → HasDistinctKeys number L
   HasDistinctKeys-nil L e = subst (HasDistinctKeys number) (sym e) (λ k. omega arith)
 

@@ -25,25 +25,25 @@ kept_lends V k r = Lends (kept_row V) V k r (λ v. v)
 abbrev pub pair_row : (K X : RattleType) → key.Ghosts K.Denot → eq.Ghosts K.Denot → RattleType
 pair_row K X g e = Tuple (stored_row K g e ∷ X ∷ [])
 
--- once it ends, the node behind n has that value in its pair
+-- once the loan named r ends, the node behind n has that value in its pair
 abbrev pub node_lends : (K X : RattleType) → key.Ghosts K.Denot → eq.Ghosts K.Denot → MutBor (Node (K.Denot × X.Denot)) → MutBor X.Denot → Fml
 node_lends K X g e n r = Lends (node_row (pair_row K X g e)) X n r (λ v. node_with n.now v)
 
--- the same of the first pair of a slot
+-- once the loan named r ends, the slot behind s has that value in its first pair
 abbrev pub slot_lends : (K X : RattleType) → key.Ghosts K.Denot → eq.Ghosts K.Denot → MutBor (Slot (K.Denot × X.Denot)) → MutBor X.Denot → Fml
 slot_lends K X g e s r = Lends (slot_row (pair_row K X g e)) X s r (λ v. slot_with s.now v)
 
--- once it ends, the pool behind p has that value in the pair of node i
+-- once the loan named r ends, the pool behind p has that value in the pair of node i
 abbrev pub pool_lends : (K X A : RattleType) → key.Ghosts K.Denot → eq.Ghosts K.Denot → allocator.Ghosts A.Denot
     → MutBor (Pool (K.Denot × X.Denot)) → ℕ → MutBor X.Denot → Fml
 pool_lends K X A g e a p i r = Lends (pool_row (pair_row K X g e) A a) X p r (λ v. record p.now { nodes = write_node p.now.nodes i v })
 
--- once it ends, the slots behind s have that value at place j of slot i
+-- once the loan named r ends, the slots behind s have that value at place j of slot i
 abbrev pub slots_lends : (K X A : RattleType) → key.Ghosts K.Denot → eq.Ghosts K.Denot → allocator.Ghosts A.Denot
     → MutBor (Contents K.Denot X.Denot) → ℕ → ℕ → MutBor X.Denot → Fml
 slots_lends K X A g e a s i j r = Lends (slots_row K X A g e a) X s r (λ v. record s.now { rows = write_rows s.now.rows i j v })
 
--- once it ends, the table behind t has that value at the key k
+-- once the loan named r ends, the table behind t has that value at the key k
 abbrev pub table_lends : (K X A : RattleType) → (g : key.Ghosts K.Denot) → eq.Ghosts K.Denot → allocator.Ghosts A.Denot
     → MutBor (Grid K.Denot X.Denot) → K.Denot → MutBor X.Denot → Fml
 table_lends K X A g e a t k r = Lends (table_row K X A g e a) X t r (λ v. record t.now { walk = write_value g.number_of t.now.walk k v })

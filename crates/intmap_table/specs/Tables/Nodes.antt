@@ -34,12 +34,12 @@ pub record Pool (P : Type 0) : Type 0 where
   pub room : ℕ
 
 module _ {P : Type 0} where
-  -- what the parts of a node are
+  -- the node that these parts make
   abbrev pub node_of : NodeForm P → Node P
   node_of (node_forms.Free high low) = Free (link_of high low)
   node_of (node_forms.Held high low p) = Held (link_of high low) p
 
-  -- what those of a slot are
+  -- the slot that these parts make
   abbrev pub slot_of_form : SlotForm P → Slot P
   slot_of_form slot_forms.Empty = Empty
   slot_of_form (slot_forms.Filled high low p) = Filled (link_of high low) p
@@ -58,7 +58,7 @@ module _ {P : Type 0} where
   Frees nodes f zero = f ≡ nowhere
   Frees nodes f (suc n) = (g : ℕ) × (f < length nodes) × (node_at nodes f ≡ Free g) × Frees nodes g n
 
-  -- nodes of which these are free
+  -- the nodes of a pool, of which `spare` are free, in a chain that begins at `free`
   pub record IsPool (nodes : List (Node P)) (free spare : ℕ) : Type 0 where
     pub few : length nodes ≤ node_limit
     pub frees : Frees nodes free spare

@@ -19,6 +19,7 @@ use intmap_table::lent::{Hole, Lent};
 use intmap_table::steps::Steps;
 use intmap_table::table::Table;
 use std::alloc::{Allocator, Global};
+use std::iter::FusedIterator;
 use std::marker::{Model, PhantomData};
 
 /// The values of several keys by mutable reference, made by
@@ -99,6 +100,8 @@ impl<'a, K: IntKey, V, A: Allocator + Copy> Iterator for DisjointMut<'a, K, V, A
         (self.keys.len(), Some(self.keys.len()))
     }
 }
+
+impl<'a, K: IntKey, V, A: Allocator + Copy> FusedIterator for DisjointMut<'a, K, V, A> {}
 
 impl<K: IntKey, V, A: Allocator + Copy> IntMap<K, V, A> {
     /// Lends the values of these keys, in the order of the keys, and shares the keys of the map and

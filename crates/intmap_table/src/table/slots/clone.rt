@@ -34,8 +34,8 @@ fn link_behind(link: usize, held: usize) -> usize
     if link < NODE_LIMIT { held + 1 } else { NOWHERE }
 }
 
-/// Puts clones of the pairs that a link leads through, of which there is one or more, into new nodes
-/// of `made`, in their order, and returns the link to them.
+/// Puts clones of the pairs that a link leads through, of which there is at least one, into new
+/// nodes of `made`, in their order, and returns the link to them.
 fn clone_chain<K: IntKey, X: Clone, A: Allocator>(
     pool: &Pool<(Stored<K>, X), A>,
     from: usize,

@@ -13,8 +13,8 @@ use crate::table::stored::Stored;
 use std::alloc::Allocator;
 
 impl<K: IntKey, X, A: Allocator> Slots<K, X, A> {
-    /// Puts a pair behind the first one of its slot, and counts it. If the slot holds a pair, there
-    /// is room for another.
+    /// Puts a pair behind the first one of its slot, or into the empty slot, and counts it. If the
+    /// slot holds a pair, there must be room for another.
     #[inline(always)]
     pub(super) fn put_second(&mut self, index: usize, pair: (Stored<K>, X), placed: &mut Steps)
         requires within { index < length self.old.rows }

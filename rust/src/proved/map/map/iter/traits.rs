@@ -1,5 +1,5 @@
-//! Clones and text of the iterators by reference, and `FusedIterator` for all iterators but
-//! `ExtractIf` and `DisjointMut`: once they are at the end, they stay there.
+//! Clones and text of the iterators by reference, and `FusedIterator` for all iterators over pairs,
+//! keys or values but `ExtractIf`: once they are at the end, they stay there.
 
 use crate::memory::prelude::*;
 use crate::proved::map::map::iter::{
