@@ -16,6 +16,7 @@ use Rattle.intmap_table.specs.Bindings.{take_key, put_pair}
 use Rattle.intmap_table.specs.Picking.{AsksAt, PicksAt}
 use Rattle.intmap_table.specs.Retaining.{KeepsAt, TakesPair}
 use Rattle.intmap_table.specs.Taking.{TakesEach, TakesEach-from}
+use Rattle.intmap_table.specs.Walk.{walk_of}
 use Rattle.intmap_table.specs.Writes.{WritesAt, TakesPairMut}
 use Rattle.intmap_table.proofs.ExtractLemmas.{ExtractsNext-end, ExtractsNext-filter}
 use Rattle.intmap_table.proofs.DistinctLemmas.{All-walk_of, All-take_key, All-put_pair}
@@ -30,6 +31,10 @@ module _ {K V : Type 0} (number : K → ℕ) (P : K × V → Type 0) where
   pub all_after_remove : (m n : MapState K V) (k : K) → n ≡ after_remove number m k → All P m.walk → All P n.walk
   all_after_remove m n k state all =
       subst (λ s. All P s.walk) (sym state) (All-walk_of number P (take_key number m.walk m.capacity k) m.capacity (All-take_key number P m.walk m.capacity k all))
+
+  -- what holds of all pairs of a list holds of all of its walk
+  pub all_in_walk : (L : List (K × V)) (C : ℕ) → All P L → All P (walk_of number L C)
+  all_in_walk L C all = All-walk_of number P L C all
 
 module _ {F K V : Type 0} where
   -- a closure that is always callable can be asked about each pair in turn
