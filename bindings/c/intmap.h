@@ -1,7 +1,7 @@
 // SPDX-License-Identifier: MIT
 // Copyright (c) 2026 the Dovaszing maintainers
 //
-// A hash map from 64-bit keys to 64-bit values, version 1.0.0. Each function that is declared here
+// A hash map from 64-bit keys to 64-bit values, version 1.1.0. Each function that is declared here
 // has a contract in crates/intmap_c of the repository, and its code there is proved to keep it.
 // Tests show the rest: what the functions do that are defined here, that calls succeed if malloc
 // does, which calls request no memory, that memory is given back, and how much stack calls take.
@@ -43,8 +43,8 @@
 //   with the map, whatever that call does.
 // - There is enough stack. A call takes less than 2,000 bytes of it if intmap.c is compiled with
 //   -O1, -O2, -O3 or -Os, and less than 8,000 otherwise, besides what functions of the C library
-//   take. `make check` measures this with -O2 and with -O0. On x86-64, calls took some 900 bytes
-//   with gcc 12 -O2, 800 with clang 14 -O2, 5,300 with gcc 12 -O0 and 6,200 with clang 14 -O0. A
+//   take. `make check` measures this with -O2 and with -O0. On x86-64, calls took some 800 bytes
+//   with gcc 12 -O2, 600 with clang 14 -O2, 2,500 with gcc 12 -O0 and 3,500 with clang 14 -O0. A
 //   sanitizer makes them take more.
 //
 // THREADS. Any number of threads may make calls with `const intmap *` at once, as long as no other
@@ -135,7 +135,7 @@
 #include <stdint.h>
 
 // The version of this header. intmap_version() is that of the code.
-#define INTMAP_VERSION 10000
+#define INTMAP_VERSION 10100
 
 #ifdef __cplusplus
 #define INTMAP_CALL noexcept

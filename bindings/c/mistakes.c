@@ -124,7 +124,7 @@ static void get_behind_next_map(void) {
     intmap_get(&copy, 1);
 }
 
-static void len_behind_with_capacity(void) {
+static void len_behind_with_slots(void) {
     make(&map);
     copy = map;
     need(intmap_with_slots(&map, 9) == INTMAP_OK);
@@ -340,7 +340,7 @@ static const struct {
     MISTAKE(compare_copy, "intmap_equal", COPY),
     MISTAKE(get_of_copy_beside_next_map, "intmap_get", COPY),
     MISTAKE(get_behind_next_map, "intmap_get", COPY),
-    MISTAKE(len_behind_with_capacity, "intmap_len", COPY),
+    MISTAKE(len_behind_with_slots, "intmap_len", COPY),
     MISTAKE(remove_behind_clone, "intmap_remove", COPY),
     MISTAKE(insert_into_any_word, "intmap_insert", UNKNOWN),
     MISTAKE(len_of_address, "intmap_len", UNKNOWN),

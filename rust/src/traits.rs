@@ -92,7 +92,7 @@ impl<K: IntKey, V> Index<K> for IntMap<K, V> {
 }
 
 /// Inserts each pair in turn, as [`IntMap::insert`] does, and reserves nothing ahead. A new map
-/// takes random keys in a quarter of the time if [`IntMap::with_room_for`] made it.
+/// takes random keys in a fifth to a third of the time if [`IntMap::with_room_for`] made it.
 /// [`IntMap::try_extend`] returns a failure.
 ///
 /// ```

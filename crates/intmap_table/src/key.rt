@@ -13,12 +13,13 @@ mod wide;
 /// unit, or use `row * WIDTH + column`.
 ///
 /// A `u8`, `u16`, `u32`, `u64` or `usize` is its own number. So is an `i32` or `i64` that isn't
-/// negative; a negative one has the number that is `2 ^ 64` more. Your own type becomes a type of
-/// keys by implementing this trait, as `Article` of the crate `cells` does. A file that has these
-/// lines begins with `ghost use Rattle.std.specs.Prelude.{◌^◌, ◌<◌, refl};` and
-/// `ghost use Rattle.std.proofs.Common.{ap};`.
+/// negative; a negative one has the number that is `2 ^ 64` more.
 ///
 /// ```text
+/// // A type of yours becomes a type of keys by implementing this trait, as `Article` of the crate
+/// // `cells` does. A file that has these lines begins with
+/// // `ghost use Rattle.std.specs.Prelude.{◌^◌, ◌<◌, refl};` and
+/// // `ghost use Rattle.std.proofs.Common.{ap};`.
 /// #[derive(Clone, Copy, PartialEq, Eq)]
 /// struct Article {
 ///     number: u32,
