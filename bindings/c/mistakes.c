@@ -158,8 +158,9 @@ static void len_of_next_handle(void) {
 }
 
 static void len_of_nothing(void) {
-    const intmap *volatile nowhere = NULL;
-    intmap_len(nowhere);
+    // through a pointer, since a sanitizer says something of its own of a null in a direct call
+    size_t (*volatile len)(const intmap *) = intmap_len;
+    len(NULL);
 }
 
 static void clone_to_itself(void) {

@@ -850,9 +850,26 @@ static void test_room_for(size_t factor, size_t len, size_t more) {
     end_test();
 }
 
-// Room for so many insertions of keys that are `step` apart, and share slots if that is a power of
-// two. They request nothing, whatever is removed between them.
-static void test_room_for_any(size_t factor, size_t len, size_t more, uint64_t step) {
+// What may come between intmap_reserve_insertions and the insertions.
+
+static void look_up(void) {
+    call_get(it->plain.len, 3);
+    call_equal();
+    check(it);
+}
+
+static void retain_some(void) {
+    call_retain(1);
+}
+
+static void cut_some(void) {
+    call_cut(it->plain.len / 3, it->plain.len / 2);
+}
+
+// Room for so many insertions of keys that are `step` apart, and share slots if that is a great
+// power of two. They request nothing, whatever is looked up, written or removed before and between them.
+static void test_room_for_any(size_t factor, size_t len, size_t more, uint64_t step,
+                              void (*change)(void)) {
     call_make(4);
     call_set_load_factor(factor);
     insert_some(len, step);
@@ -860,8 +877,11 @@ static void test_room_for_any(size_t factor, size_t len, size_t more, uint64_t s
         call_reserve_insertions(more);
     }
     size_t slots = intmap_capacity(&it->map), before = requests;
+    change();
     for (size_t at = len; at < len + more; at++) {
         call_insertion(at % INSERTIONS, at * step, at);
+        call_replace_or_add(at % 2, at * step, 3 * at);
+        call_at(at * step, at);
         if (at % 5 == 2) {
             call_remove(at * step);
             call_insertion(at % INSERTIONS, at * step, at);
@@ -891,11 +911,13 @@ static void test_room(void) {
                               1000, 1001, 2500, 40000, 4000000000, SIZE_MAX};
     const size_t lens[] = {0, 1, 2, 3, 4, 7, 8, 11, 29, 60, 130};
     const size_t mores[] = {0, 1, 2, 3, 4, 5, 8, 12, 27, 100};
+    void (*const changes[])(void) = {look_up, retain_some, cut_some, call_clear};
     for (size_t at = 0; at < sizeof factors / sizeof factors[0]; at++) {
         for (size_t first = 0; first < sizeof lens / sizeof lens[0]; first++) {
             for (size_t next = 0; next < sizeof mores / sizeof mores[0]; next++) {
                 test_room_for(factors[at], lens[first], mores[next]);
-                test_room_for_any(factors[at], lens[first], mores[next], 1 + next * 4095);
+                test_room_for_any(factors[at], lens[first], mores[next], (uint64_t)1 << 4 * next,
+                                  changes[(at + first + next) % 4]);
             }
         }
     }
