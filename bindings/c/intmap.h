@@ -11,8 +11,9 @@
 //
 //     cc -O2 program.c intmap.c
 //
-// A map is one word. Define it as INTMAP_INIT, which is an empty map. Hand its address to the
-// calls, and free it at the end:
+// A variable of type intmap is one machine word, called the word below. It leads to the map's
+// memory. Define it as INTMAP_INIT, which is an empty map. Hand its address to the calls, and free
+// the map at the end. With <inttypes.h> and <stdio.h>:
 //
 //     intmap map = INTMAP_INIT;
 //     if (intmap_failed(intmap_insert(&map, 21, 7).status)) {
@@ -33,7 +34,7 @@
 // - Before the first call with a word it is INTMAP_INIT, or all its bits are zero. After that only
 //   calls write it, and moves.
 // - A word isn't copied, since a copy is the same map. It may be moved to a word without memory, if
-//   its old place is then set to INTMAP_NONE, or never used again.
+//   its old place is then set to INTMAP_NONE, or never used again: intmap b = a; a = INTMAP_NONE;
 // - No signal handler makes a call, and neither does the forked child of a process with several
 //   threads. Nothing jumps out of a call: no longjmp, no exception, no cancellation of its thread.
 // - malloc, realloc and free belong to one allocator, make no call on a map, and align blocks as
@@ -67,7 +68,8 @@
 // advance.
 //
 // KEYS AND VALUES. Each 64-bit number is a key, and each is a value. intmap_from_pointer makes a
-// number of an address. No call follows the address, so the caller frees what it leads to.
+// number of an address. No call follows the address, so the caller frees what it leads to. If keys
+// are hashes of texts, two texts with equal hashes are one key: keep the text too, and compare it.
 //
 // COST. "Time in" a number is time proportional to that number. A call on one key takes time in the
 // pairs of the key's slot, which has about one, unless many keys share their low bits. Then shift
@@ -110,7 +112,7 @@
 //   map by then;
 // - a call with a word that no call wrote, unless its bits are by chance those of a word;
 // - a call with a null address of a word;
-// - intmap_clone with one map twice;
+// - intmap_clone with one map twice, if it has memory;
 // - a call on a map while another call on it hasn't ended, if one of them changes it: in another
 //   thread, in a signal handler, in malloc, or after a jump out of a call.
 //
@@ -121,7 +123,8 @@
 // no mistake: it is an empty map. Nor is a change between two calls of intmap_step, though the walk
 // may then miss pairs.
 //
-// Compile each file that has maps with INTMAP_DEBUG, by gcc or clang. No installed library notices
+// Compile each file that has maps with INTMAP_DEBUG, by gcc or clang. The calls of a file without
+// it aren't checked, and crash on a map that a file with it made. No installed library notices
 // anything, or has the names intmap_debug_.. that the calls then get. So compile intmap_debug.c,
 // which includes intmap.c, beside your files. The message names the call. A debugger shows where
 // the program made it. Each map takes 24 bytes more, in blocks of 1,536 bytes and more that are
@@ -301,9 +304,10 @@ INTMAP_NONNULL bool intmap_contains_key(const intmap *map, uint64_t key) INTMAP_
 
 // Inserts the pair, or gives a present key this value. It returns INTMAP_PRESENT with the value
 // before, or INTMAP_ABSENT if the key was absent. The pair is then the last of its slot. If the key
-// was present, the pair that was the last takes its old place. If the pairs, with a new one, exceed
-// the load factor, the slots are doubled until they don't. The load is checked only if the number
-// of these pairs is 4 to 7, 12 to 15, 20 to 23, and so on.
+// was present, the pair that was the last takes its old place. If the key is new and the pairs, the
+// new one counted, exceed the load factor, the slots are doubled until they don't. The load is
+// checked only if the pairs, the new one counted, are 4 to 7, 12 to 15, 20 to 23, and so on, as in
+// Rust's crate intmap, so that the same calls give the same capacities.
 //
 // For a present key it never fails, and requests no memory. For an absent key it returns
 // INTMAP_TOO_LARGE if and only if there are 2^64 - 1 pairs or growth needs more than 2^63 slots,
@@ -423,8 +427,8 @@ INTMAP_NONNULL INTMAP_MUST_USE intmap_status intmap_set_load_factor(intmap *map,
 // with these pairs. Insertions of as many new keys then add no slots, as long as the load factor
 // stays. But the insertion of a key whose slot holds a pair may request memory, and fail.
 //
-// Insertions of ids that follow one another can't fail then: as long as all keys of the map lie
-// within as many numbers in a row as there are slots, each has a slot of its own.
+// Insertions of ids that follow one another can't fail then: as long as the greatest key minus the
+// least, the new one counted, is below intmap_capacity, each key has a slot of its own.
 //
 // The call returns INTMAP_OK; INTMAP_TOO_LARGE if and only if that takes more than 2^63 slots, or
 // there would be more than 2^64 - 1 pairs; or INTMAP_NO_MEMORY, but never if the map has memory and
@@ -433,9 +437,16 @@ INTMAP_NONNULL INTMAP_MUST_USE intmap_status intmap_reserve(intmap *map, size_t 
 
 // Makes room for `more` insertions of any keys: does what intmap_reserve does, and requests memory
 // for as many nodes. The next insertions of as many new keys then request no memory, so they can't
-// fail, whatever is looked up, written or removed between them. This holds until a call makes room,
-// sets the load factor or puts another map into the word. A copy that intmap_clone makes doesn't
-// have this room. That these insertions request no memory is tested, and not proved.
+// fail: by intmap_insert, intmap_find_or_insert, intmap_add_or_insert or intmap_at_or_insert, and
+// whatever is looked up, written or removed between them, also by intmap_retain, intmap_cut or
+// intmap_clear. This holds until a call makes room, even for more pairs, or sets the load factor,
+// shrinks or frees the map, or puts another map into the word. So call it last. A copy that
+// intmap_clone makes doesn't have this room. That these insertions request no memory is tested, and
+// not proved. Their status must be read all the same:
+//
+//     if (intmap_failed(intmap_insert(&map, 21, 7).status)) {
+//         abort(); // there was room
+//     }
 //
 // The nodes take 24 bytes for each of the `more` pairs. The call returns what intmap_reserve
 // returns, and INTMAP_NO_MEMORY also if the nodes are refused.
