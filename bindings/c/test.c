@@ -850,7 +850,7 @@ static void test_room_for(size_t factor, size_t len, size_t more) {
     end_test();
 }
 
-// What may come between intmap_reserve_insertions and the insertions.
+// What may come behind intmap_reserve_insertions, before an insertion.
 
 static void look_up(void) {
     call_get(it->plain.len, 3);
@@ -877,8 +877,10 @@ static void test_room_for_any(size_t factor, size_t len, size_t more, uint64_t s
         call_reserve_insertions(more);
     }
     size_t slots = intmap_capacity(&it->map), before = requests;
-    change();
     for (size_t at = len; at < len + more; at++) {
+        if ((at - len) % 40 == 0) {
+            change();
+        }
         call_insertion(at % INSERTIONS, at * step, at);
         call_replace_or_add(at % 2, at * step, 3 * at);
         call_at(at * step, at);
