@@ -867,7 +867,8 @@ static void cut_some(void) {
 }
 
 // Room for so many insertions of keys that are `step` apart, and share slots if that is a great
-// power of two. They request nothing, whatever is looked up, written or removed before and between them.
+// power of two. They request nothing, whatever is looked up, written or removed before and between
+// them.
 static void test_room_for_any(size_t factor, size_t len, size_t more, uint64_t step,
                               void (*change)(void)) {
     call_make(4);
