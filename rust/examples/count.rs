@@ -1,4 +1,5 @@
-//! Counts the numbers that it reads, and prints each with its count, in the order of iteration.
+//! Counts the numbers that it reads, and prints each with its count, in the order of iteration. It
+//! stops at the first word that isn't a number.
 //!
 //! ```sh
 //! echo 7 21 7 3 21 7 | cargo run --offline --quiet --example count
