@@ -4,6 +4,10 @@
 /// `PartialEq` and `Eq`, so don't derive these yourself. Derive others above it, such as `Debug`. A
 /// key has the number of its field, so keys with equal numbers are equal.
 ///
+/// A struct in it has no generics and no name for its field, and ends with `;`. Its attributes go
+/// to the struct alone, not to the implementation of [`IntKey`](crate::IntKey). So put no `cfg` on
+/// it: put the `cfg` on the whole call of the macro.
+///
 /// ```
 /// use intmap_proved::{IntMap, int_key};
 ///
@@ -33,8 +37,8 @@
 /// Whoever chooses the keys can choose thousands of one slot, and then each call compares thousands
 /// of keys. With `scrambled by` and a secret, [`scramble`](crate::scramble) makes a key's number of
 /// the secret and the number of the field. So the secret decides which keys share a slot. The
-/// secret is an expression, which each call on a key evaluates. It must be the same number as long
-/// as there are maps with such keys, so take a `static`:
+/// secret is an expression of the type `u64`, which each call on a key evaluates. It must be the
+/// same number as long as there are maps with such keys, so take a `static`:
 ///
 /// ```
 /// use intmap_proved::{IntMap, int_key};
@@ -83,8 +87,8 @@ macro_rules! int_key {
 /// # What is known of it
 ///
 /// It is the mixing of SplitMix64 behind an exclusive or with the secret. In a test, fewer than 10
-/// of 1,000 keys with 12, 32 or 44 equal low bits share a slot. It is no cipher, and nobody has
-/// shown that someone without the secret can't choose many keys of one slot. Whoever sees the order
+/// of 1,000 keys with 12, 32 or 44 equal low bits share a slot. It is no cipher. Someone without
+/// the secret may still find many keys of one slot: no proof says otherwise. Whoever sees the order
 /// of iteration, or measures the time of calls, may learn the secret, or enough of it to choose
 /// such keys. Where that matters, or one secret serves many parties, take std's map with its
 /// `RandomState`.

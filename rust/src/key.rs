@@ -47,7 +47,42 @@ use core::num::{
 ///
 /// # Keys that strangers choose
 ///
-/// They may all share a slot. [`int_key!`](crate::int_key) scrambles their numbers by a secret.
+/// They may all share a slot. [`int_key!`](crate::int_key) scrambles their numbers by a secret. An
+/// implementation by hand can return [`scramble`](crate::scramble) of its number, or `int_key!` can
+/// wrap the type:
+///
+/// ```
+/// use intmap_proved::{IntKey, IntMap, int_key, scramble};
+/// # use std::hash::{BuildHasher, RandomState};
+/// # use std::sync::LazyLock;
+/// #
+/// # static SECRET: LazyLock<u64> = LazyLock::new(|| RandomState::new().hash_one(0));
+///
+/// #[derive(Clone, Copy, PartialEq, Eq)]
+/// struct Scrambled(u32, u32);
+///
+/// impl IntKey for Scrambled {
+///     fn number(&self) -> u64 {
+///         scramble(u64::from(self.0) << 32 | u64::from(self.1), *SECRET)
+///     }
+/// }
+///
+/// #[derive(Clone, Copy, PartialEq, Eq)]
+/// struct Place(u32, u32);
+///
+/// impl IntKey for Place {
+///     fn number(&self) -> u64 {
+///         u64::from(self.0) << 32 | u64::from(self.1)
+///     }
+/// }
+///
+/// int_key! {
+///     struct Wrapped(Place) scrambled by *SECRET;
+/// }
+///
+/// assert_eq!(IntMap::from([(Scrambled(1, 2), 'a')])[Scrambled(1, 2)], 'a');
+/// assert_eq!(IntMap::from([(Wrapped(Place(1, 2)), 'a')])[Wrapped(Place(1, 2))], 'a');
+/// ```
 ///
 /// # Numbers and slots
 ///

@@ -15,6 +15,12 @@
 //! assert_eq!(map.len(), 1);
 //! ```
 //!
+//! In the table, each figure is this map's time or bytes divided by the other map's. If no other
+//! map is named, it is std's with a hasher that multiplies. Keys and values were `u64`. For the
+//! times, maps had 1,000 and 20,000 pairs. A time is the least of several rounds in which the maps
+//! took turns, on a virtual machine on 2026-12-01. Bytes were counted at the allocator, and are
+//! those at most numbers of pairs: [Memory](IntMap#memory) has the exception.
+//!
 //! You want | Take
 //! ---|---
 //! many insertions of random keys, or little memory | std's or hashbrown's with a hasher that multiplies. With random keys an insertion here takes 2.3 to 2.5 times std's time, or 1.3 to 1.4 where room was made, a look-up of a present key 1.3 to 2.1 and of an absent one 2.4 to 2.9, a removal 0.8 to 1.0, a step of `iter` 2.2 to 2.3, and a map 1.6 to 1.9 times std's bytes
@@ -26,11 +32,6 @@
 //! look-ups, removals and growth that are proved | this
 //! to go on with code for `intmap` 2.0.0 | this, by [one `use` line](original). The insertion of a new key takes 0.15 to 0.5 of its time, that of a present one 0.4 to 1.1, a removal 0.5 to 1.7, `clear` 2 to 5.2
 //! 32-bit targets, a hasher of your own, keys that strangers choose | std's; [`int_key!`] says what a secret is worth
-//!
-//! Each figure is this map's time or bytes divided by the other map's. If no other map is named, it
-//! is std's with a multiplying hasher. Keys and values were `u64`, and maps had 1,000 and 20,000
-//! pairs. A time is the least of several rounds in which the maps took turns, on a virtual machine
-//! on 2026-12-01. Bytes were counted at the allocator.
 //!
 //! The traits of serde are in the crate `intmap_proved_serde`.
 //!
@@ -55,7 +56,10 @@
 //!   the old one. A map's `remove_entry` and a set's `take` return the key that was passed, std's
 //!   the stored one. Keys that keep to the rules of [`IntKey`] don't show it.
 //! - `retain` can't change values: [`retain_mut`](IntMap::retain_mut) can.
-//! - `try_insert` fails for want of memory, not for a present key.
+//! - `try_insert` fails for want of memory, not for a present key. `try_reserve` returns a
+//!   [`Cause`], not a `TryReserveError`.
+//! - [`and_modify`](Entry::and_modify) is `#[must_use]`: with no insertion behind it, `get_mut` does
+//!   the same.
 //! - The `Debug` text of an iterator that can't be cloned has no items. Most say how many are left.
 //! - There is no hasher, and no `get_disjoint_unchecked_mut`. A set has no `load_rate`,
 //!   `collisions` or `assert_count`. A struct with a field `IntMap<K, V>` needs no bound, but needs
@@ -72,14 +76,14 @@
 //!
 //! A call that makes a proved call has a line such as "Proved of `IntMap::get`: `value`". The line
 //! names the proved call and the clauses of its contract, which stand in the crates `intmap` and
-//! `intmap_set` of the repository that this copy came from. The text above the line says in words
-//! what these clauses say of the answer, of what the call leaves, and of failures. "Proved in part"
-//! marks code by hand over the proved calls that the line names. Except for those of the next
-//! paragraph, a method of a map, a set or an entry without such a line only makes the call that its
-//! text links. Implementations of traits have no such line: see the README's table. What holds of
-//! every map is proved of each call too: no key is there twice, the pairs are in the order of their
-//! slots, the capacity is a power of two from 2 to 2^63, and the load factor is met at the last
-//! length at which insertions check it.
+//! `intmap_set` of the repository that this copy came from. Nobody needs these names to use the
+//! crate: the text above the line says in words what the clauses say of the answer, of what the
+//! call leaves, and of failures. "Proved in part" marks code by hand over the proved calls that the
+//! line names. Except for those of the next paragraph, a method of a map, a set or an entry without
+//! such a line only makes the call that its text links. Implementations of traits have no such
+//! line: see the README's table. What holds of every map is proved of each call too: no key is
+//! there twice, the pairs are in the order of their slots, the capacity is a power of two from 2 to
+//! 2^63, and the load factor is met at the last length at which insertions check it.
 //!
 //! Not proved, but tested: mutable references to several values, which [`IntMap::iter_mut`],
 //! [`IntMap::values_mut`], `&mut map`, [`IntMap::retain_mut`] and [`IntMap::get_disjoint_mut`] hand
@@ -91,9 +95,10 @@
 //! A call that may allocate has two forms. [`try_insert`](IntMap::try_insert) returns the failure
 //! and hands the value back, and the map is as it was, but may keep memory that it was granted
 //! before. [`insert`](IntMap::insert) does what std's collections do: if an allocation fails, it
-//! calls `handle_alloc_error`, which ends the process with a message that names the size of one
-//! word, whatever was requested. If the map would need more than 2^63 slots, it panics. The
-//! operators of sets, such as `|`, and `clone_from` have no `try_` form: take
+//! calls `handle_alloc_error`, whose message names the size of one word, whatever was requested.
+//! That ends the process, or panics in a program without std: where the text of another call says
+//! that it ends the process, the same holds. If the map would need more than 2^63 slots, `insert`
+//! panics. The operators of sets, such as `|`, and `clone_from` have no `try_` form: take
 //! [`IntSet::try_from_iter`] of the members, and [`try_clone`](IntMap::try_clone). All other calls
 //! allocate nothing: lookups, removals, `retain`, `clear`, and all iterators.
 //!

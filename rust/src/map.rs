@@ -20,6 +20,9 @@ mod walk;
 /// [`shrink_to_fit`](IntMap::shrink_to_fit) make the capacity smaller, and `clone_from`, which
 /// takes that of its source.
 ///
+/// Lines that begin with "Proved" are for readers of the proof: the
+/// [crate's page](crate#what-is-proved) explains them.
+///
 /// # Cost
 ///
 /// In what the calls say of their cost, *n* is the number of pairs, *c* the capacity, and *s* the
@@ -43,14 +46,16 @@ mod walk;
 /// and `clear` give no memory back, but freed nodes serve all slots. Unless
 /// [`reserve_insertions`](IntMap::reserve_insertions) made room for more, there are at most four
 /// nodes, or twice as many as the most pairs that were behind the first ones of their slots at one
-/// time. So while new keys rose and old ones were removed at random, 10,000 live pairs of 56 bytes
-/// took 1.05 MB at first, and 1.18 MB after 10 and after 1000 times as many removals. Their
-/// [`clone`](Clone::clone) took 1.13 MB.
+/// time.
 ///
-/// With keys and values of 64 bits, std's map takes 0.53 to 0.61 of the bytes for random keys and
-/// 0.7 for ids without gaps, as counted at the allocator; more for a while, when it has grown and
-/// this map hasn't. An empty map allocates 104 bytes beside the 120 of
-/// [`IntMap`] itself, std's nothing beside its 48.
+/// In a run, a map held 10,000 pairs of 56 bytes, while new keys rose and old ones were removed at
+/// random. The map took 1.05 MB at first, 1.18 MB after 100,000 removals, and 1.18 MB after
+/// 10,000,000. Its [`clone`](Clone::clone) took 1.13 MB.
+///
+/// With keys and values of 64 bits, as counted at the allocator, this map takes at most numbers of
+/// pairs 1.6 to 1.9 times the bytes of std's for random keys, and 1.4 times for ids without gaps.
+/// But while std's map has grown and this map hasn't, this map may take less than std's. An empty
+/// map allocates 104 bytes beside the 120 of [`IntMap`] itself, std's nothing beside its 48.
 ///
 /// # Examples
 ///

@@ -71,7 +71,10 @@ impl<K: IntKey + Debug, V: Debug> Debug for IntMap<K, V> {
     }
 }
 
-/// `map[key]`, the value of the key. It panics if the key is absent; [`IntMap::get`] doesn't.
+/// `map[key]`, the value of the key.
+///
+/// # Panics
+/// If the key is absent. [`IntMap::get`] returns `None` then.
 ///
 /// ```
 /// let map = intmap_proved::IntMap::from([(21u64, 'a')]);

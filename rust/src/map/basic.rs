@@ -101,8 +101,10 @@ impl<K: IntKey, V> IntMap<K, V> {
     }
 
     /// Returns mutable references to the values of several keys at once, each `None` if its key is
-    /// absent. It panics if two of the keys are equal and present. The cost is *O*(*s*) for each of
-    /// the *m* keys, and *O*(*m* log *m*).
+    /// absent. The cost is *O*(*s*) for each of the *m* keys, and *O*(*m* log *m*).
+    ///
+    /// # Panics
+    /// If two of the keys are equal and present.
     ///
     /// Proved in part: the search for each key is proved. The references are lent by hand.
     ///

@@ -10,7 +10,8 @@ impl<K: IntKey, V> IntMap<K, V> {
     /// The new pair is the last one of its slot. The pair of a present key is removed first, and
     /// the last pair of the slot takes its place. Only a new key can make the map grow, and only if
     /// the map then has 4 to 7 pairs, 12 to 15, 20 to 23, and so on: if these exceed the load
-    /// factor, the capacity doubles until they don't.
+    /// factor, the capacity doubles until they don't. At other numbers of pairs the load isn't
+    /// checked. That is the rule of Rust's `intmap` 2.0.0, kept so that capacities are the same.
     ///
     /// The cost is *O*(*s*), and *O*(*n* + *c*) for an insertion that doubles the slots, or for
     /// which the [nodes](IntMap#memory) move to more memory. That is *O*(*s*) amortized. Where

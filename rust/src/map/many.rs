@@ -116,7 +116,7 @@ impl<K: IntKey, V> IntMap<K, V> {
 
     /// Inserts each pair in turn, as [`insert`](Self::insert) does and at its cost, up to the first
     /// one that fails. The pairs before that one stay in the map, and the rest of the iterator is
-    /// dropped.
+    /// dropped. Pass `iterator.by_ref()` to keep the rest.
     ///
     /// # Errors
     /// That of [`try_insert`](Self::try_insert), with the pair and the number of pairs before it.

@@ -8,10 +8,10 @@ use crate::refusal::{Cause, Refused, granted};
 use crate::room::{LEAST_SLOTS, slots_for};
 
 impl<K: IntKey, V> IntMap<K, V> {
-    /// Returns an empty map with room for so many pairs: the capacity is the least power of two,
+    /// Returns an empty map with room for `pairs` pairs: the capacity is the least power of two,
     /// from 2 on, in which they meet the load factor of a new map, 0.909. The cost is *O*(*c*).
     ///
-    /// Insertions of so many keys then add no slots. Keys that share a slot still allocate:
+    /// Insertions of `pairs` keys then add no slots. Keys that share a slot still allocate:
     /// [`reserve_insertions`](Self::reserve_insertions) makes room for them too. All slots are
     /// written at once. Where [`try_with_room_for`](Self::try_with_room_for) fails, this call
     /// panics or ends the process.
@@ -38,13 +38,13 @@ impl<K: IntKey, V> IntMap<K, V> {
         Ok(IntMap { map: Proved::with_room_for(Global, pairs)? })
     }
 
-    /// Makes room for `additional` pairs more: the capacity becomes the least of itself and its
-    /// doublings in which they and the present pairs meet the load factor. The cost is
-    /// *O*(*n* + *c*), or *O*(1) if the capacity stays.
+    /// Makes room for `additional` pairs more: the capacity doubles until the present pairs and
+    /// `additional` more meet the load factor. If they meet it already, the capacity stays. The
+    /// cost is *O*(*n* + *c*), or *O*(1) if the capacity stays.
     ///
-    /// Insertions of so many new keys then add no slots. Ids that follow one another share no slot
-    /// if they and the present keys lie within as many numbers in a row as there are slots. It is
-    /// proved that their insertions then can't fail. Keys that share a slot still allocate:
+    /// Insertions of `additional` new keys then add no slots. If the numbers of all keys, present
+    /// and new, lie among as many consecutive numbers as there are slots, no two keys share a slot,
+    /// and it is proved that these insertions can't fail. Keys that share a slot still allocate:
     /// [`reserve_insertions`](Self::reserve_insertions) makes room for them too. Where
     /// [`try_reserve_pairs`](Self::try_reserve_pairs) fails, this call panics or ends the process.
     ///
@@ -74,10 +74,10 @@ impl<K: IntKey, V> IntMap<K, V> {
     /// with another. The cost is *O*(*n* + *c*), or *O*(*n*) if the capacity stays.
     ///
     /// The next `additional` insertions of absent keys then allocate nothing, so none of them
-    /// fails, as long as no call but insertions, removals and look-ups changes the map. This is
-    /// tested, not proved: contracts don't see the memory of pairs that share a slot. Where
-    /// [`try_reserve_insertions`](Self::try_reserve_insertions) fails, this call panics or ends the
-    /// process.
+    /// fails. This holds until a call other than an insertion, a removal or a look-up changes the
+    /// map. It is tested, not proved: contracts don't see the memory of pairs that share a slot.
+    /// Where [`try_reserve_insertions`](Self::try_reserve_insertions) fails, this call panics or
+    /// ends the process.
     ///
     /// ```
     /// let mut map = intmap_proved::IntMap::from([(0u64, 'a')]);
@@ -114,7 +114,7 @@ impl<K: IntKey, V> IntMap<K, V> {
     }
 
     /// Makes the capacity the least power of two, from 2 on, in which the pairs meet the load
-    /// factor, or leaves it if it is that. Order, cost and failures are those of
+    /// factor, or leaves it if it is that. Order, memory, cost and failures are those of
     /// [`shrink_to`](Self::shrink_to), and [`try_shrink_to_fit`](Self::try_shrink_to_fit) returns a
     /// failure.
     ///
@@ -140,9 +140,11 @@ impl<K: IntKey, V> IntMap<K, V> {
     /// which the pairs meet the load factor. A smaller capacity stays. The cost is *O*(*n s* +
     /// *c*), or *O*(1) if the capacity stays.
     ///
-    /// The map then has the order of a new one of that capacity into which the pairs were inserted
-    /// in iteration order. The load factor stays. For a while there are both maps. If the capacity
-    /// stays, no memory is given back.
+    /// The map then has the order and the [nodes](IntMap#memory) of a new one of that capacity into
+    /// which the pairs were inserted in iteration order. The load factor stays. For a while there
+    /// are both maps. If the capacity stays, no memory is given back: unused nodes stay too, such as
+    /// those of [`reserve_insertions`](Self::reserve_insertions). A [`clone`](Clone::clone) has no
+    /// unused nodes.
     ///
     /// Where [`try_shrink_to`](Self::try_shrink_to) fails, this call ends the process. If a key's
     /// `number` panics, the map keeps the pairs that weren't moved yet, and the others are dropped.
@@ -173,7 +175,7 @@ impl<K: IntKey, V> IntMap<K, V> {
         if slots > self.capacity() / 2 { Ok(()) } else { self.move_to(slots, factor) }
     }
 
-    /// Moves the pairs to a new map of so many slots, which takes the place of this one.
+    /// Moves the pairs to a new map of `slots` slots, which takes the place of this one.
     fn move_to(&mut self, slots: usize, factor: usize) -> Result<(), Cause> {
         let mut small = IntMap::try_with_capacity(slots)?;
         small.try_set_load_factor_thousandths(factor)?;

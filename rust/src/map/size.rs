@@ -116,10 +116,12 @@ impl<K: IntKey, V> IntMap<K, V> {
     /// They have the order of the new capacity, and those of a slot keep theirs. The cost is
     /// *O*(*n* + *c*), or *O*(1) if the capacity stays.
     ///
-    /// It is a share, not a percentage: 0.75 and not 75. A debug build panics at 10 or more, and at
-    /// a `NaN`; otherwise a `NaN` is 0, and so is a negative number. Where
-    /// [`try_set_load_factor`](Self::try_set_load_factor) fails, this call panics or ends the
+    /// It is a share, not a percentage: 0.75 and not 75. A `NaN` is 0, and so is a negative number.
+    /// Where [`try_set_load_factor`](Self::try_set_load_factor) fails, this call panics or ends the
     /// process.
+    ///
+    /// # Panics
+    /// In a debug build, if `load_factor` is 10 or more, or a `NaN`.
     ///
     /// ```
     /// let mut map = intmap_proved::IntMap::from([(21u64, 'a'), (22, 'b')]);
@@ -135,6 +137,9 @@ impl<K: IntKey, V> IntMap<K, V> {
     ///
     /// # Errors
     /// Those of [`try_set_load_factor_thousandths`](Self::try_set_load_factor_thousandths).
+    ///
+    /// # Panics
+    /// Where [`set_load_factor`](Self::set_load_factor) panics in a debug build.
     #[track_caller]
     pub fn try_set_load_factor(&mut self, load_factor: f32) -> Result<(), Cause> {
         self.try_set_load_factor_thousandths(thousandths_of(load_factor))

@@ -87,7 +87,7 @@ impl<K: IntKey> IntSet<K> {
 
     /// Inserts each key in turn, as [`insert`](Self::insert) does and at its cost, up to the first
     /// one that fails. The keys before that one stay members, and the rest of the iterator is
-    /// dropped.
+    /// dropped. Pass `iterator.by_ref()` to keep the rest.
     ///
     /// # Errors
     /// That of [`try_insert`](Self::try_insert), with the key, `()` as its value, and the number of

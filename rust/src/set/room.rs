@@ -17,7 +17,7 @@ impl<K: IntKey> IntSet<K> {
         self.set.capacity()
     }
 
-    /// Returns an empty set with room for so many members, as
+    /// Returns an empty set with room for `members` members, as
     /// [`IntMap::with_room_for`](crate::IntMap::with_room_for) does for pairs. The cost is
     /// *O*(*c*). Where [`try_with_room_for`](Self::try_with_room_for) fails, this call panics or
     /// ends the process.
@@ -168,6 +168,9 @@ impl<K: IntKey> IntSet<K> {
     ///
     /// # Errors
     /// Those of [`try_set_load_factor_thousandths`](Self::try_set_load_factor_thousandths).
+    ///
+    /// # Panics
+    /// Where [the map's](crate::IntMap::set_load_factor) panics in a debug build.
     #[track_caller]
     pub fn try_set_load_factor(&mut self, load_factor: f32) -> Result<(), Cause> {
         self.try_set_load_factor_thousandths(thousandths_of(load_factor))
