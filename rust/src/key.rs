@@ -72,6 +72,7 @@ use core::num::{
 ///
 /// impl IntKey for Place {
 ///     fn number(&self) -> u64 {
+///         // without a wrapper, places of one column would share a slot
 ///         u64::from(self.0) << 32 | u64::from(self.1)
 ///     }
 /// }
