@@ -1,17 +1,18 @@
-// intmap 1.0.0: a hash map from 64-bit keys to 64-bit values, as portable C. intmap.h declares it.
+// intmap 1.1.0: a hash map from 64-bit keys to 64-bit values, as portable C. intmap.h declares it.
 //
 //     cc -O2 program.c intmap.c
 //
 // It is C99 and C++11, and later ones of both, for machines with addresses of 64 bits.
 //
 // Each function that intmap.h declares is compiled from Rattle code that is proved to keep its
-// contract. This file is that code as its compiler hands it to LLVM, behind LLVM's optimiser, printed as
-// C by tools/printed of the repository. It isn't to be edited. What comes before and behind the functions
-// of the module is written by hand, and isn't proved.
+// contract. This file is what LLVM's optimiser makes of that code, printed as C by tools/printed of the
+// repository. It isn't to be edited. What comes before and after the functions of the module is written by
+// hand, and isn't proved.
 //
 // Above each function of the module stands the first sentence of its comment in the sources, and where it
 // is. An enum for each struct has the places of its fields: a map is a block of INT_MAP_SIZE bytes. Maps,
-// slots, pairs, fields and indices have the names of the sources. A name such as r12 is the optimiser's.
+// slots, pairs, fields and indices have the names of the sources. A name such as r12 is the optimiser's. If
+// several things have one name, a number is added to the name of each but the first.
 //
 // If this prints the SHA-256 that CHANGELOG.md of the repository has for this version, the file is as it
 // was released:
@@ -19,7 +20,7 @@
 //     grep -v '^// Compilers: ' intmap.c | sha256sum
 //
 // Compilers: rattle-kit-13f logic dac8208d650f15bf; clang version 22.1.8
-// Sources: 04ca35cffd2dde87a85bf76596d980a7726e9b73553fc26922c0e060adbd7042
+// Sources: 78682bc5caf9fa8c9c3be425c8a9095f87710f350c0ea1a54d9327af2d8db53d
 //
 // SPDX-License-Identifier: MIT
 //
@@ -1961,10 +1962,10 @@ static ALWAYS_INLINE void do_intmap_place(char *word, uint64_t key, char *at) {
     store_address(at, r9 + 16);
 }
 
-// The version of the code, which is 1.0.0: 10000 times the first number, 100 times the second, and the third.
+// The version of the code, which is 1.1.0: 10000 times the first number, 100 times the second, and the third.
 // intmap_version, in crates/intmap_c/src/version.rt
 static ALWAYS_INLINE uint32_t do_intmap_version(void) {
-    return 10000;
+    return 10100;
 }
 
 // The number of slots, which is 4 if there is no map yet.
