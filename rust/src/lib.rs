@@ -19,7 +19,7 @@
 //! map is named, it is std's with a hasher that multiplies. Keys and values were `u64`. For the
 //! times, maps had 1,000 and 20,000 pairs. A time is the least of several rounds in which the maps
 //! took turns, on a virtual machine on 2026-12-01. Bytes were counted at the allocator, and are
-//! those at most numbers of pairs: [Memory](IntMap#memory) has the exception.
+//! those for most numbers of pairs: [Memory](IntMap#memory) has the exception.
 //!
 //! You want | Take
 //! ---|---

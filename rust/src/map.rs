@@ -52,8 +52,8 @@ mod walk;
 /// random. The map took 1.05 MB at first, 1.18 MB after 100,000 removals, and 1.18 MB after
 /// 10,000,000. Its [`clone`](Clone::clone) took 1.13 MB.
 ///
-/// With keys and values of 64 bits, as counted at the allocator, this map takes at most numbers of
-/// pairs 1.6 to 1.9 times the bytes of std's for random keys, and 1.4 times for ids without gaps.
+/// With keys and values of 64 bits, this map takes, for most numbers of pairs, 1.6 to 1.9 times the
+/// bytes of std's for random keys, and 1.4 times for ids without gaps, as counted at the allocator.
 /// But while std's map has grown and this map hasn't, this map may take less than std's. An empty
 /// map allocates 104 bytes beside the 120 of [`IntMap`] itself, std's nothing beside its 48.
 ///

@@ -11,8 +11,8 @@ use std::alloc::Allocator;
 
 /// Counts one more hit of a bin, and of no other. The sum of all counts rises by one.
 ///
-/// It fails with `Cause::TooLarge` if the count would be above 2^64 - 1, and if the insertion of a
-/// new bin fails. All counts then stay.
+/// It fails with `Cause::TooLarge` if the count would be above 2^64 - 1, and with the insertion's
+/// cause if the insertion of a new bin fails. All counts then stay.
 pub fn hit<A: Allocator + Copy>(histogram: &mut IntMap<u64, u64, A>, bin: u64) -> Result<(), Cause>
     ensures counts { OnOk result (Updates (λ k. k) histogram.old.walk histogram.new.walk bin
         (Some (unwrap_or (value_of (λ k. k) histogram.old.walk bin) 0 + 1))) }
@@ -51,8 +51,8 @@ pub fn put<A: Allocator + Copy>(
 
 /// Adds to the value of a key, which is 0 if the key is absent. Every other key keeps its value.
 ///
-/// It fails with `Cause::TooLarge` if the sum would be above 2^64 - 1, and if the insertion of a
-/// new key fails. All values then stay.
+/// It fails with `Cause::TooLarge` if the sum would be above 2^64 - 1, and with the insertion's
+/// cause if the insertion of a new key fails. All values then stay.
 pub fn add_in<A: Allocator + Copy>(
     sums: &mut IntMap<u64, u64, A>,
     key: u64,

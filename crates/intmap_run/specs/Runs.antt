@@ -17,7 +17,7 @@ use Rattle.intmap_run.specs.declared.answer.Answer.TheVariants as answer
 use Rattle.intmap.specs.Growing.{ListReserves, MayRefuseReserve, ListSetsFactor, MayRefuseFactor}
 use Rattle.intmap.specs.PlainLists.{PlainList, empty_list, Stands, looked_up, ListInserts, ListInsertsAll, ListInsertsUpTo, RefusalIsDue}
 
--- To check by hand what `RunsFrom` says, read these files in this order. Classes, Bindings, Walk, Reach and Figures are of intmap_table:
+-- To check by hand what `RunsFrom` says, read these files in this order (Classes, Bindings, Walk, Reach and Figures are of intmap_table):
 -- Classes: `multiplier` is odd, a capacity is a power of two from 2 to 2^63, `agrees` compares remainders.
 -- Bindings: which pair moves at `take_key`, and that `put_pair` puts the new one last. `Takes` of Removals says the same of a removal
 --   without a recursion; the law `removals_fill_the_hole` joins both.
