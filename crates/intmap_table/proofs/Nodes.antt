@@ -18,3 +18,4 @@ pub mod RetainedLemmas
 pub mod PairsWrittenLemmas
 pub mod PickedLemmas
 pub mod DroppedLemmas
+pub mod GrowingLemmas

@@ -1,6 +1,7 @@
 -- The words of the contracts inside the table. No public clause cites these modules, except through what a map shows of stored pairs.
 pub mod Bits
 pub mod Nodes
+pub mod Growing
 pub mod Rows
 pub mod Walked
 pub mod Slots

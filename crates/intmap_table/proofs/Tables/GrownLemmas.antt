@@ -1,5 +1,5 @@
 -- Slots in a table that has become longer: which of them keys have, and which of them the pairs of an old slot go to.
-use Rattle.std.proofs.Common.{◌≡◌, ◌≢◌, ℕ, ◌+◌, ◌-◌, ◌*◌, ◌/◌, ◌%◌, ◌^◌, ◌<◌, ◌≤◌, Bool, false, ◌==◌, filter, List, [], ◌∷◌, length, get_or, refl, sym, ap, ◌∙◌, subst, arith, mul_comm, zero-add, pow_pos, All}
+use Rattle.std.proofs.Common.{◌≡◌, ◌≢◌, ℕ, ◌+◌, ◌-◌, ◌*◌, ◌/◌, ◌%◌, ◌^◌, ◌<◌, ◌≤◌, Bool, false, ◌==◌, filter, List, [], ◌∷◌, get_or, refl, sym, ap, ◌∙◌, subst, arith, mul_comm, zero-add, pow_pos, All}
 use Rattle.std.proofs.Math.Nat.{le-mul_of_pos_right}
 use Rattle.std.proofs.lemmas.Nat.{pow-add, mod-pow-add, mod-mul-add}
 use Rattle.std.proofs.lemmas.Bool.{ne_eqb}
@@ -62,10 +62,6 @@ module _ {K X : Type 0} (number : K → ℕ) (C D : ℕ) (grown : IsGrown C D) w
       filter_none (λ p. slot_number number p.0 D == j) L
       (All-weaker (λ p. slot_number number p.0 C ≡ k) (λ p. (slot_number number p.0 D == j) ≡ false)
       (λ p here. ne_eqb (slot_number number p.0 D) j (λ q. apart (ap (λ m. m % C) (sym q) ∙ slot_number-grown number C D p.0 grown ∙ here))) L own)
-
-  -- so a slot that gets some is a part of it
-  pub part-of : (L : List (K × X)) (k j : ℕ) → All (λ p. slot_number number p.0 C ≡ k) L → 0 < length (slot_of number L D j) → j % C ≡ k
-  part-of L k j own some = let none = slot_of-elsewhere L k j own in grind (arith, none, some)
 
   module _ (R : List (List (K × X))) (is : IsOldRows number R C) where
     -- the pairs of a slot are all of its old row

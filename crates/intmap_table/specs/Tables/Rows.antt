@@ -1,5 +1,5 @@
 -- What contracts see of slots whose further pairs lie in nodes. No public clause cites this module.
-use Rattle.std.specs.Prelude.{◌≡◌, ℕ, zero, suc, ◌+◌, ◌*◌, ◌^◌, ◌<◌, nat_lt, Bool, List, [], ◌∷◌, length, get_or, reverse, slice_index_or}
+use Rattle.std.specs.Prelude.{◌≡◌, ℕ, zero, suc, ◌+◌, ◌*◌, ◌^◌, ◌<◌, nat_lt, Bool, List, [], ◌∷◌, length, get_or, slice_index_or}
 use Rattle.std.specs.List.{All, AllZip}
 use Rattle.intmap_table.specs.Classes.{IsCapacity, slot_number}
 use Rattle.intmap_table.specs.Cloning.{IsPairClone}
@@ -16,11 +16,6 @@ pub record Contents (K X : Type 0) : Type 0 where
 -- the pairs of slot i
 abbrev pub row_at : {K X : Type 0} → Contents K X → ℕ → List (K × X)
 row_at c i = slice_index_or c.rows i []
-
--- a row as growth leaves it until its slot is turned: behind the first pair the last ones come first
-abbrev pub turned : {P : Type 0} → List P → List P
-turned [] = []
-turned (p ∷ ps) = p ∷ reverse ps
 
 -- with a pair behind the first one
 abbrev pub put_second : {P : Type 0} → List P → P → List P
@@ -59,11 +54,6 @@ module _ {K X : Type 0} (number : K → ℕ) where
     pub capacity : IsCapacity C
     pub len : length R ≡ C
     pub rows : (j : ℕ) → j < C → slice_index_or R j [] ≡ slot_of number L C j
-
-  -- the pairs of L are in C slots, each in its own, and no slot is turned yet
-  pub record IsPlaced (C : ℕ) (L : List (K × X)) (R : List (List (K × X))) : Type 0 where
-    pub len : length R ≡ C
-    pub rows : (j : ℕ) → j < C → get_or R j [] ≡ turned (slot_of number L C j)
 
   -- slots, a power of two of them, in which each pair is at home; the marks of those that hold a pair; and their number less one
   pub record AreRows (slots : List (Slot (K × X))) (pool : Pool (K × X)) (marks : List Bool) (mask : ℕ) : Type 0 where

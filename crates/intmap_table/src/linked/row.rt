@@ -3,7 +3,8 @@ ghost use Rattle.std.specs.Prelude.{◌≡◌, ◌+◌, ◌<◌, ◌≤◌, [], 
 ghost use Rattle.intmap_table.specs.Classes.{same_key};
 ghost use Rattle.intmap_table.specs.Reach.{through_first};
 ghost use Rattle.intmap_table.specs.Tables.Nodes.{Filled, chain_of, node_limit, row_in, IsChain, IsSlot, IsSlotSet};
-ghost use Rattle.intmap_table.specs.Tables.Rows.{put_second, turned};
+ghost use Rattle.intmap_table.specs.Tables.Growing.{put_in};
+ghost use Rattle.intmap_table.specs.Tables.Rows.{put_second};
 
 use crate::key::IntKey;
 use crate::linked::chain::{
@@ -13,7 +14,6 @@ use crate::linked::chain::{
 use crate::linked::node::{NODE_LIMIT, NOWHERE};
 use crate::linked::pool::Pool;
 use crate::linked::slot::Slot;
-use crate::linked::turn::turn;
 use crate::steps::Steps;
 use crate::table::stored::Stored;
 use std::alloc::Allocator;
@@ -243,14 +243,19 @@ pub(crate) fn remove<P, A: Allocator>(slot: &mut Slot<P>, pool: &mut Pool<P, A>,
     pair
 }
 
-/// Puts a pair behind the first one, or first if the slot holds none. If the slot holds a pair,
-/// the pool has room for another.
+/// Puts a pair behind the first one, or before it. If the slot holds a pair, the pool has room for
+/// another.
 #[inline(always)]
-pub(crate) fn put_second<P, A: Allocator>(slot: &mut Slot<P>, pool: &mut Pool<P, A>, pair: P)
+pub(crate) fn put_in<P, A: Allocator>(
+    slot: &mut Slot<P>,
+    pool: &mut Pool<P, A>,
+    behind: bool,
+    pair: P,
+)
     requires leads { IsSlot pool.old.nodes slot.old }
     requires ready { 0 < length (row_in pool.old.nodes slot.old) → 0 < pool.old.room }
     ensures row { IsSlotSet pool.old slot.old
-        (put_second (row_in pool.old.nodes slot.old) pair) pool.new slot.new }
+        (put_in behind (row_in pool.old.nodes slot.old) pair) pool.new slot.new }
     ensures room { pool.old.room ≤ pool.new.room + 1 }
     ensures alone { row_in pool.old.nodes slot.old ≡ [] → pool.new.room ≡ pool.old.room }
 {
@@ -258,7 +263,11 @@ pub(crate) fn put_second<P, A: Allocator>(slot: &mut Slot<P>, pool: &mut Pool<P,
         slot.fill(NOWHERE, pair);
         return;
     };
-    put_behind_first(slot, pool, pair);
+    if behind {
+        put_behind_first(slot, pool, pair);
+        return;
+    }
+    put_before_first(slot, pool, pair);
 }
 
 /// Puts a pair behind the first one of a slot that holds some. There is room for it.
@@ -280,18 +289,22 @@ fn put_behind_first<P, A: Allocator>(slot: &mut Slot<P>, pool: &mut Pool<P, A>, 
     }
 }
 
-/// Turns the pairs behind the first one round, so that the last one comes first.
-pub(crate) fn turn_round<P, A: Allocator>(slot: &mut Slot<P>, pool: &mut Pool<P, A>)
-    requires { IsSlot pool.old.nodes slot.old }
-    ensures row { IsSlotSet pool.old slot.old
-        (turned (row_in pool.old.nodes slot.old)) pool.new slot.new }
-    ensures room { pool.new.room ≡ pool.old.room }
+/// Puts a pair before the first one of a slot that holds some. There is room for it.
+#[inline(never)]
+fn put_before_first<P, A: Allocator>(slot: &mut Slot<P>, pool: &mut Pool<P, A>, pair: P)
+    requires leads { IsSlot pool.old.nodes slot.old }
+    requires filled { 0 < length (row_in pool.old.nodes slot.old) }
+    requires ready { 0 < pool.old.room }
+    ensures row { IsSlotSet pool.old slot.old (pair ∷ row_in pool.old.nodes slot.old)
+        pool.new slot.new }
+    ensures room { pool.old.room ≤ pool.new.room + 1 }
 {
     let Some((link, _)) = slot.get() else {
-        return;
+        unreachable!();
     };
-    if link < NODE_LIMIT {
-        let link = turn(pool, link);
-        slot.set_link(link);
+    let first = slot.replace(pair);
+    match pool.add(link, first) {
+        Ok(at) => slot.set_link(at),
+        Err(_) => unreachable!(),
     }
 }

@@ -1,4 +1,4 @@
-//! Chains are turned round once growth has put each pair in front of those that came before it.
+//! Growth turns a chain round before its pairs move, so that each is put before those behind it.
 ghost use Rattle.std.specs.Prelude.{◌≡◌, ◌^◌, ◌<◌, reverse};
 ghost use Rattle.intmap_table.specs.Tables.Nodes.{chain_of, IsChain, IsChainSet};
 

@@ -15,7 +15,7 @@ mod refill;
 pub mod walk;
 mod writing;
 
-ghost use Rattle.std.specs.Prelude.{◌≡◌, ◌+◌, ◌<◌, ◌≤◌, ℕ, [], count_by, length, nat_lt, position, replicate, IfNone, IfOk, IfSome, slice_index_or, vec_capacity};
+ghost use Rattle.std.specs.Prelude.{◌≡◌, ◌+◌, ◌-◌, ◌<◌, ◌≤◌, ℕ, [], ◌++◌, count_by, length, nat_lt, position, replicate, IfNone, IfOk, IfSome, slice_index_or, vec_capacity};
 ghost use Rattle.intmap_table.specs.Classes.{IsCapacity, same_key};
 ghost use Rattle.intmap_table.specs.Reach.{through_first};
 ghost use Rattle.intmap_table.specs.Tables.Bits.{IsWordFrom};
@@ -189,11 +189,12 @@ impl<K: IntKey, X, A: Allocator> Slots<K, X, A> {
     }
 }
 
-/// Adds `count` slots without a pair, for which there is room.
+/// Adds slots without a pair, so that there are `count`. There is room for them.
 fn add_empty<P: Drop, A: Allocator>(slots: &mut Vec<Slot<P>, A>, count: usize)
-    requires none { slots.old.items ≡ [] }
+    requires more { length slots.old.items ≤ count }
     requires room { count ≤ vec_capacity slots.old }
-    ensures { slots.new.items ≡ replicate count Empty }
+    ensures { slots.new.items
+        ≡ slots.old.items ++ replicate (count - length slots.old.items) Empty }
 {
     let make = || -> Slot<P>
         ensures { result ≡ Empty }

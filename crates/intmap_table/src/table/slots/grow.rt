@@ -1,19 +1,23 @@
 //! Growth in one jump. All memory is allocated before the first pair moves.
-ghost use Rattle.std.specs.Prelude.{◌≡◌, ◌+◌, ◌%◌, ◌<◌, ◌≤◌, ℕ, cond, nat_lt, [], ◌∷◌, ◌++◌, false, List, length, slice_index_or, IfErr, OnErr, OnOk};
+ghost use Rattle.std.specs.Prelude.{◌≡◌, ◌+◌, ◌*◌, ◌/◌, ◌%◌, ◌^◌, ◌<◌, ◌≤◌, ℕ, cond, nat_lt, [], ◌∷◌, ◌++◌, false, List, length, replicate, slice_index_or, take, IfErr, IfOk, OnErr, OnOk};
 ghost use Rattle.intmap_table.specs.Classes.{IsCapacity, slot_number};
 ghost use Rattle.intmap_table.specs.Walk.{slot_of};
-ghost use Rattle.intmap_table.specs.Tables.Nodes.{chain_of, further, node_limit, is_empty, row_in, rows_in, Node, AreLinked, IsChain, IsSlot, IsSlotSet};
-ghost use Rattle.intmap_table.specs.Tables.Rows.{row_at, IsGrown, IsPlaced};
+ghost use Rattle.intmap_table.specs.Tables.Nodes.{chain_of, further, node_limit, row_in, rows_in, AreHome, AreLinked, Empty, IsChain, IsSlot, Spares};
+ghost use Rattle.intmap_table.specs.Tables.Growing.{blank};
+ghost use Rattle.intmap_table.specs.Tables.Rows.{row_at, AreRows, IsGrown, HasMoved};
 ghost use Rattle.intmap_table.specs.Tables.Slots.{joined, AreMarked};
 
 use crate::bits::Bits;
 use crate::key::IntKey;
+use crate::linked::chain::take_behind;
+use crate::linked::node::NODE_LIMIT;
 use crate::linked::pool::Pool;
-use crate::linked::row;
 use crate::linked::slot::Slot;
+use crate::linked::turn::turn;
 use crate::steps::Steps;
 use crate::table::masked_index_of;
-use crate::table::slots::Slots;
+use crate::table::slots::refill::put_at;
+use crate::table::slots::{Slots, add_empty};
 use crate::table::stored::Stored;
 use std::alloc::{AllocError, Allocator};
 
@@ -60,86 +64,127 @@ fn goes_to<K: IntKey, X, A: Allocator>(
     any_goes_to(pool, link, mask, target)
 }
 
-/// The slot that the first pair of an old slot goes to among `mask + 1`.
+/// The slot of a key of old slot `index` in a table of `mask + 1` slots, a multiple of the old
+/// number. It is the old slot, or one behind the old ones.
 #[inline(always)]
-fn target_of<K: IntKey, X>(slot: &Slot<(Stored<K>, X)>, mask: usize) -> usize
-    requires capacity { IsCapacity (mask + 1) }
-    requires some { is_empty slot.now ≡ false }
-    ensures own { (nodes : List (Node (K × X))) (p : K × X) (rest : List (K × X))
-        → row_in nodes slot.now ≡ p ∷ rest → slot_number K.number_of p.0 (mask + 1) ≡ result }
+fn moved_index_of<K: IntKey>(key: &K, mask: usize, index: usize, old_mask: usize) -> usize
+    requires grown { IsGrown (old_mask + 1) (mask + 1) }
+    requires own { slot_number K.number_of key.now (old_mask + 1) ≡ index }
+    ensures slot { slot_number K.number_of key.now (mask + 1) ≡ result }
+    ensures part { result % (old_mask + 1) ≡ index }
     ensures within { result ≤ mask }
 {
-    let Some((_, first)) = slot.get() else {
-        unreachable!();
-    };
-    masked_index_of(first.0.key(), mask)
+    let target = masked_index_of(key, mask);
+    let above = target - (target & old_mask);
+    above + index
 }
 
-/// Moves the pairs of an old slot that holds some, in order, to their new slots. The first of them
-/// goes to a slot without a pair.
+/// Moves the pairs of an old slot that holds some to their new slots. The first of them goes to a
+/// slot without a pair. Those behind it move from the last one on, each before those that are in its
+/// slot, but behind the first one: so each slot has its pairs in order.
 #[inline(always)]
 fn move_row<K: IntKey, X, A: Allocator>(
-    slot: &mut Slot<(Stored<K>, X)>,
+    slots: &mut Vec<Slot<(Stored<K>, X)>, A>,
+    bits: &mut Bits<A>,
     pool: &mut Pool<(Stored<K>, X), A>,
-    new: &mut Slots<K, X, A>,
+    old_pool: &mut Pool<(Stored<K>, X), A>,
+    index: usize,
+    old_mask: usize,
+    mask: usize,
     placed: &mut Steps,
 )
-    requires leads { IsSlot pool.old.nodes slot.old }
-    requires some { 0 < length (row_in pool.old.nodes slot.old) }
-    requires capacity { IsCapacity (length new.old.rows) }
-    requires free { (j : ℕ) → 0 < length (slot_of K.number_of (row_in pool.old.nodes slot.old)
-        (length new.old.rows) j) → row_at new.old j ≡ [] }
-    requires room { length (row_in pool.old.nodes slot.old) ≤ new.old.room + 1 }
-    ensures row { IsSlotSet pool.old slot.old [] pool.new slot.new }
-    ensures placed { (L : List (K × X)) → IsPlaced K.number_of (length new.old.rows) L new.old.rows
-        → IsPlaced K.number_of (length new.old.rows) (L ++ row_in pool.old.nodes slot.old)
-        new.new.rows }
-    ensures len { length new.new.rows ≡ length new.old.rows }
-    ensures room { new.old.room + 1 ≤ new.new.room + length (row_in pool.old.nodes slot.old) }
-    ensures counted { placed.new ≡ placed.old + length (row_in pool.old.nodes slot.old) }
+    requires grown { IsGrown (old_mask + 1) (mask + 1) }
+    requires old { index ≤ old_mask }
+    requires within { index < length slots.old.items }
+    requires leads { IsSlot old_pool.old.nodes (slice_index_or slots.old.items index Empty) }
+    requires some { 0
+        < length (row_in old_pool.old.nodes (slice_index_or slots.old.items index Empty)) }
+    requires own { AreHome (λ p. slot_number K.number_of p.0 (old_mask + 1)) index
+        (row_in old_pool.old.nodes (slice_index_or slots.old.items index Empty)) }
+    requires are { AreRows K.number_of (blank index (old_mask + 1) slots.old.items) pool.old
+        bits.old mask }
+    requires free { (j : ℕ) → j % (old_mask + 1) ≡ index → slice_index_or
+        (rows_in (blank index (old_mask + 1) slots.old.items) pool.old.nodes) j [] ≡ [] }
+    requires room { length
+        (row_in old_pool.old.nodes (slice_index_or slots.old.items index Empty))
+        ≤ pool.old.room + 1 }
+    ensures are { AreRows K.number_of (blank (index + 1) (old_mask + 1) slots.new.items) pool.new
+        bits.new mask }
+    ensures placed { (L : List (K × X)) → HasMoved K.number_of L (mask + 1)
+        (rows_in (blank index (old_mask + 1) slots.old.items) pool.old.nodes)
+        → HasMoved K.number_of
+        (L ++ row_in old_pool.old.nodes (slice_index_or slots.old.items index Empty)) (mask + 1)
+        (rows_in (blank (index + 1) (old_mask + 1) slots.new.items) pool.new.nodes) }
+    ensures len { length slots.new.items ≡ length slots.old.items }
+    ensures left { (j : ℕ) → index < j → j ≤ old_mask
+        → slice_index_or slots.new.items j Empty ≡ slice_index_or slots.old.items j Empty }
+    ensures spares { Spares old_pool.old.nodes old_pool.new.nodes
+        (row_in old_pool.old.nodes (slice_index_or slots.old.items index Empty)) }
+    ensures room { pool.old.room + 1 ≤ pool.new.room
+        + length (row_in old_pool.old.nodes (slice_index_or slots.old.items index Empty)) }
+    ensures counted { placed.new ≡ placed.old
+        + length (row_in old_pool.old.nodes (slice_index_or slots.old.items index Empty)) }
 {
-    let target = target_of(slot, new.mask());
-    let first = row::take_front(slot, pool);
-    new.put_second(target, first, placed);
-    while !slot.is_empty() {
-        let target = target_of(slot, new.mask());
-        let pair = row::take_front(slot, pool);
-        new.put_second(target, pair, placed);
+    let Some((link, first)) = slots[index].get() else {
+        unreachable!();
+    };
+    let first_target = moved_index_of(first.0.key(), mask, index, old_mask);
+    let first = slots[index].take();
+    put_at(slots, bits, pool, first_target, false, first, placed);
+    let mut link = turn(old_pool, link);
+    while link < NODE_LIMIT {
+        let next = old_pool.pair(link);
+        let target = moved_index_of(next.0.key(), mask, index, old_mask);
+        let pair = take_behind(&mut link, old_pool);
+        put_at(
+            slots,
+            bits,
+            pool,
+            target,
+            first_target == target,
+            pair,
+            placed,
+        );
     }
 }
 
-/// Moves the pairs of all old slots, slot after slot, to their new slots. The bits mark the old
-/// slots that hold a pair, and stay.
+/// Moves the pairs of all old slots, slot after slot, to their new slots. No pair goes to an old
+/// slot whose pairs haven't moved yet. The old bits mark the old slots that hold a pair, and stay.
 fn move_rows<K: IntKey, X, A: Allocator>(
-    bits: &Bits<A>,
     slots: &mut Vec<Slot<(Stored<K>, X)>, A>,
+    bits: &mut Bits<A>,
     pool: &mut Pool<(Stored<K>, X), A>,
-    new: &mut Slots<K, X, A>,
+    old_bits: &Bits<A>,
+    old_pool: &mut Pool<(Stored<K>, X), A>,
+    old_mask: usize,
+    mask: usize,
     placed: &mut Steps,
 )
-    requires marks { AreMarked (rows_in slots.old.items pool.old.nodes) bits.now }
-    requires linked { AreLinked (λ p. slot_number K.number_of p.0 (length slots.old.items))
-        slots.old.items pool.old }
-    requires grown { IsGrown (length slots.old.items) (length new.old.rows) }
-    requires none { (j : ℕ) → row_at new.old j ≡ [] }
-    requires room { further (rows_in slots.old.items pool.old.nodes) ≤ new.old.room }
-    ensures linked { AreLinked (λ p. slot_number K.number_of p.0 (length slots.new.items))
-        slots.new.items pool.new }
-    ensures old_len { length slots.new.items ≡ length slots.old.items }
-    ensures empty { (i : ℕ)
-        → slice_index_or (rows_in slots.new.items pool.new.nodes) i [] ≡ [] }
-    ensures placed { IsPlaced K.number_of (length new.old.rows)
-        (joined (rows_in slots.old.items pool.old.nodes)) new.new.rows }
-    ensures len { length new.new.rows ≡ length new.old.rows }
-    ensures room { new.old.room
-        ≤ new.new.room + further (rows_in slots.old.items pool.old.nodes) }
-    ensures counted { placed.new
-        ≡ placed.old + length (joined (rows_in slots.old.items pool.old.nodes)) }
+    requires grown { IsGrown (old_mask + 1) (mask + 1) }
+    requires len { length slots.old.items ≡ mask + 1 }
+    requires marks { AreMarked (rows_in (take (old_mask + 1) slots.old.items) old_pool.old.nodes)
+        old_bits.now }
+    requires linked { AreLinked (λ p. slot_number K.number_of p.0 (old_mask + 1))
+        (take (old_mask + 1) slots.old.items) old_pool.old }
+    requires are { AreRows K.number_of (blank 0 (old_mask + 1) slots.old.items) pool.old
+        bits.old mask }
+    requires none { (j : ℕ) → slice_index_or
+        (rows_in (blank 0 (old_mask + 1) slots.old.items) pool.old.nodes) j [] ≡ [] }
+    requires room { further (rows_in (take (old_mask + 1) slots.old.items) old_pool.old.nodes)
+        ≤ pool.old.room }
+    ensures are { AreRows K.number_of slots.new.items pool.new bits.new mask }
+    ensures placed { HasMoved K.number_of
+        (joined (rows_in (take (old_mask + 1) slots.old.items) old_pool.old.nodes)) (mask + 1)
+        (rows_in slots.new.items pool.new.nodes) }
+    ensures room { pool.old.room ≤ pool.new.room
+        + further (rows_in (take (old_mask + 1) slots.old.items) old_pool.old.nodes) }
+    ensures counted { placed.new ≡ placed.old + length
+        (joined (rows_in (take (old_mask + 1) slots.old.items) old_pool.old.nodes)) }
 {
     let mut from = 0;
-    let mut left = bits.marks_from(from);
-    while let Some(index) = bits.next_in(&mut left, from) {
-        move_row(&mut slots[index], pool, new, placed);
+    let mut left = old_bits.marks_from(from);
+    while let Some(index) = old_bits.next_in(&mut left, from) {
+        move_row(slots, bits, pool, old_pool, index, old_mask, mask, placed);
         from = index + 1;
     }
 }
@@ -151,22 +196,6 @@ impl<K: IntKey, X, A: Allocator> Slots<K, X, A> {
         ensures limit { result ≤ node_limit }
     {
         self.pool.held()
-    }
-
-    /// Moves all pairs, slot after slot, to new slots, and leaves none.
-    fn move_all(&mut self, new: &mut Slots<K, X, A>, placed: &mut Steps)
-        requires grown { IsGrown (length self.old.rows) (length new.old.rows) }
-        requires none { (j : ℕ) → row_at new.old j ≡ [] }
-        requires room { further self.old.rows ≤ new.old.room }
-        ensures placed { IsPlaced K.number_of (length new.old.rows) (joined self.old.rows)
-            new.new.rows }
-        ensures len { length new.new.rows ≡ length new.old.rows }
-        ensures room { new.old.room ≤ new.new.room + further self.old.rows }
-        ensures counted { placed.new ≡ placed.old + length (joined self.old.rows) }
-        ensures empty { (i : ℕ) → row_at self.new i ≡ [] }
-    {
-        move_rows(&self.bits, &mut self.slots, &mut self.pool, new, placed);
-        self.bits.clear_all();
     }
 
     /// Room that suffices for the pairs behind the first ones of their slots, if all pairs move to
@@ -186,6 +215,22 @@ impl<K: IntKey, X, A: Allocator> Slots<K, X, A> {
     }
 }
 
+/// Bits for `capacity` slots, and a pool with room for `room` pairs.
+fn bits_and_room<P: Drop, A: Allocator + Copy>(
+    alloc: A,
+    capacity: usize,
+    room: usize,
+) -> Result<(Bits<A>, Pool<P, A>), AllocError>
+    requires { capacity ≤ 2 ^ 63 }
+    ensures bits { IfOk result (λ r. r.0 ≡ replicate (64 * ((capacity + 63) / 64)) false) }
+    ensures held { IfOk result (λ r. r.1.held ≡ 0) }
+    ensures room { IfOk result (λ r. r.1.room ≡ room) }
+{
+    let bits = Bits::new(alloc, capacity)?;
+    let pool = Pool::with_room(alloc, room)?;
+    Ok((bits, pool))
+}
+
 impl<K: IntKey, X: Drop, A: Allocator + Copy> Slots<K, X, A> {
     /// Makes room for `additional` more pairs that share a slot. If an allocation fails, nothing
     /// changes.
@@ -196,6 +241,47 @@ impl<K: IntKey, X: Drop, A: Allocator + Copy> Slots<K, X, A> {
         ensures err { OnErr result (self.new ≡ self.old) }
     {
         self.pool.reserve(additional)
+    }
+
+    /// Makes the slots `capacity`, and moves all pairs, in the order of the walk, to their slots
+    /// among these. There is room for `room` pairs that share a slot. If an
+    /// allocation fails, no pair moves.
+    fn enlarge(
+        &mut self,
+        capacity: usize,
+        room: usize,
+        placed: &mut Steps,
+    ) -> Result<(), AllocError>
+        requires grown { IsGrown (length self.old.rows) capacity }
+        requires room { further self.old.rows ≤ room }
+        ensures placed { OnOk result
+            (HasMoved K.number_of (joined self.old.rows) capacity self.new.rows) }
+        ensures room { OnOk result (room ≤ self.new.room + further self.old.rows) }
+        ensures counted { OnOk result (placed.new ≡ placed.old + length (joined self.old.rows)) }
+        ensures err { OnErr result (self.new ≡ self.old) }
+        ensures none_placed { OnErr result (placed.new ≡ placed.old) }
+    {
+        self.slots.reserve_exact(capacity - self.slots.len())?;
+        let Ok(made) = bits_and_room(*self.slots.allocator(), capacity, room) else {
+            self.slots.shrink_to_fit();
+            return Err(AllocError);
+        };
+        add_empty(&mut self.slots, capacity);
+        let (mut bits, mut pool) = made;
+        move_rows(
+            &mut self.slots,
+            &mut bits,
+            &mut pool,
+            &self.bits,
+            &mut self.pool,
+            self.mask,
+            capacity - 1,
+            placed,
+        );
+        self.mask = capacity - 1;
+        self.bits = bits;
+        self.pool = pool;
+        Ok(())
     }
 
     /// Moves all pairs, in the order of the walk, to their slots among `capacity` slots, and makes
@@ -218,13 +304,7 @@ impl<K: IntKey, X: Drop, A: Allocator + Copy> Slots<K, X, A> {
         let Some(room) = self.further().checked_add(additional) else {
             return Err(AllocError);
         };
-        let Ok(mut new) = Slots::new(self.allocator(), capacity, room) else {
-            return Err(AllocError);
-        };
-        self.move_all(&mut new, placed);
-        new.turn_each();
-        *self = new;
-        Ok(())
+        self.enlarge(capacity, room, placed)
     }
 
     /// Puts a new pair behind the pairs of its slot, and moves all pairs, in the order of the walk,
@@ -251,13 +331,11 @@ impl<K: IntKey, X: Drop, A: Allocator + Copy> Slots<K, X, A> {
         ensures pair_returned { IfErr result (λ returned. returned ≡ pair) }
     {
         let room = self.needed(slot, capacity, target);
-        let Ok(mut new) = Slots::new(self.allocator(), capacity, room) else {
+        let Ok(_) = self.enlarge(capacity, room, placed) else {
             return Err(pair);
         };
-        self.move_all(&mut new, placed);
-        new.put_second(target, pair, placed);
-        new.turn_each();
-        *self = new;
+        self.put_back(target, pair);
+        placed.tick();
         Ok(())
     }
 }

@@ -1,80 +1,183 @@
-use Rattle.std.proofs.Common.{◌≡◌, ◌<◌, length, ap, sym, ◌∙◌, subst, arith}
-use Rattle.std.proofs.lemmas.List.{length-set}
+use Rattle.std.proofs.Common.{◌⊎◌, ℕ, ◌≡◌, ◌+◌, ◌<◌, ◌≤◌, [], ◌∷◌, length, ap, sym, ◌∙◌, subst, arith}
+use Rattle.std.specs.Prelude.{◌==◌, false, get_or, reverse, set}
+use Rattle.std.proofs.lemmas.List.{get_or_default}
 use Rattle.intmap_table.specs.Classes.{slot_number}
-use Rattle.intmap_table.specs.Walk.{slot_of}
-use Rattle.intmap_table.specs.Tables.Nodes.{row_in}
-use Rattle.intmap_table.proofs.Nodes.DroppedLemmas.{Dropped-start, Dropped-next, Dropped-all}
-use Rattle.intmap_table.proofs.Nodes.PlacedLemmas.{Moving, Moving-first, Moving-next, Moving-end, first-there}
+use Rattle.intmap_table.specs.Tables.Growing.{blank, put_in}
+use Rattle.intmap_table.specs.Tables.Nodes.{Empty, Filled, chain_of, row_in, rows_in, AreHome}
+use Rattle.intmap_table.proofs.Nodes.GrowingLemmas.{part-outside, home-reverse, Chain-head, Cut-chain, Taken-start, Taken-next, Moving-start, Moving-next, Moving-end, IsReached, HasPut, HasTaken, Growing-reached, Growing-put, Growing-taken}
+use Rattle.intmap_table.proofs.Nodes.PathLemmas.{Chain-next, Chain-first, Chain-some, Chain-beyond}
+use Rattle.std.proofs.lemmas.List.{length-reverse, reverse-reverse}
+use Rattle.intmap_table.proofs.Nodes.SlotLemmas.{first_was}
 use Rattle.intmap_table.proofs.table.slots.grow.move_row.Goals as goal
+use Rattle.intmap_table.proofs.table.slots.grow.move_row.Goals.{In-Some, After-index_mut, After-take-first, After-moved_index_of-target}
 
-pub take_front-pair-requires-clause-leads : goal.take_front-pair-requires-clause-leads
-take_front-pair-requires-clause-leads g c = c.loop-slot.invariant.left.changed.is
+-- the slot has a link and a first pair
+slot_is : (g : _) (c : In-Some g) → get_or c.args.slots.now.items c.args.index Empty ≡ Filled c.in-Some.link c.in-Some.first.now
+slot_is g c = sym (c.index.ensures ∙ get_or_default c.args.slots.now.items c.args.index c.index.result.now Empty c.requires.within) ∙ c.in-Some.ensures.some
 
-pub loop-slot-init : goal.loop-slot-init
-loop-slot-init g c =
+-- also when it is read again
+again_is : (g : _) (c : After-index_mut g) → get_or c.args.slots.now.items c.args.index Empty ≡ Filled c.in-Some.link c.in-Some.first.now → c.index_mut.result.now ≡ Filled c.in-Some.link c.in-Some.first.now
+again_is g c is = c.index_mut.ensures.value ∙ get_or_default c.args.slots.now.items c.args.index c.index_mut.result.now Empty c.requires.within ∙ is
+
+module _ (g : _) (c : After-take-first g) where
+  -- the slot is empty then
+  taken : HasTaken g.K.IntKey.number_of c.args.index (c.args.old_mask + 1) c.args.mask c.args.slots.now.items c.args.pool.now c.args.bits.now (set c.args.slots.now.items c.args.index c.take-first.new.self)
+  taken =
+      let old = c.requires.old in
+      Growing-taken g.K.IntKey.number_of c.args.index (c.args.old_mask + 1) c.args.mask c.args.slots.now.items c.args.pool.now c.args.bits.now c.take-first.new.self c.requires.are (omega (arith, old)) c.requires.within c.take-first.ensures.slot
+
+  out : (c.moved_index_of-first_target.result < c.args.index + 1) ⊎ (c.args.old_mask + 1 ≤ c.moved_index_of-first_target.result)
+  out = part-outside (c.args.old_mask + 1) c.args.index c.moved_index_of-first_target.result c.moved_index_of-first_target.ensures.part
+
+  reached : IsReached g.K.IntKey.number_of (set c.args.slots.now.items c.args.index c.take-first.new.self) c.args.pool.now c.args.bits.now (rows_in (blank (c.args.index + 1) (c.args.old_mask + 1) (set c.args.slots.now.items c.args.index c.take-first.new.self)) c.args.pool.now.nodes) c.moved_index_of-first_target.result
+  reached =
+      Growing-reached g.K.IntKey.number_of (c.args.index + 1) (c.args.old_mask + 1) (set c.args.slots.now.items c.args.index c.take-first.new.self) c.args.pool.now c.args.bits.now c.args.mask c.moved_index_of-first_target.result taken.are out c.moved_index_of-first_target.ensures.within
+
+  -- the first pair goes to a slot without one
+  none : row_in c.args.pool.now.nodes (get_or (set c.args.slots.now.items c.args.index c.take-first.new.self) c.moved_index_of-first_target.result Empty) ≡ []
+  none = reached.row ∙ ap (λ R. get_or R c.moved_index_of-first_target.result []) taken.rows ∙ c.requires.free c.moved_index_of-first_target.result c.moved_index_of-first_target.ensures.part
+
+  first_is : c.index_mut.result.now ≡ Filled c.in-Some.link c.in-Some.first.now → c.take-first.result ≡ c.in-Some.first.now
+  first_is again = first_was c.index_mut.result.now c.in-Some.link c.in-Some.first.now c.take-first.result c.take-first.ensures.pair.0 again c.take-first.ensures.pair.1
+
+  own : c.take-first.result ≡ c.in-Some.first.now → slot_number g.K.IntKey.number_of c.take-first.result.0 (c.args.mask + 1) ≡ c.moved_index_of-first_target.result
+  own first = ap (λ k. slot_number g.K.IntKey.number_of k (c.args.mask + 1)) (ap (λ p. p.0) first ∙ sym c.key.ensures.value) ∙ c.moved_index_of-first_target.ensures.slot
+
+pub take-first-requires : goal.take-first-requires
+take-first-requires g c =
+    let at = goal.at.take-first-requires g c in
+    (c.in-Some.link, c.in-Some.first.now, again_is g at.After-index_mut (slot_is g at.In-Some))
+
+pub put_at-requires-clause-within : goal.put_at-requires-clause-within
+put_at-requires-clause-within g c = (reached g (goal.at.put_at-requires-clause-within g c).After-take-first).within
+
+pub put_at-requires-clause-leads : goal.put_at-requires-clause-leads
+put_at-requires-clause-leads g c = (reached g (goal.at.put_at-requires-clause-leads g c).After-take-first).leads
+
+pub put_at-requires-clause-ready : goal.put_at-requires-clause-ready
+put_at-requires-clause-ready g c =
+    let e = ap length (none g (goal.at.put_at-requires-clause-ready g c).After-take-first) in
+    λ some. absurd (omega (arith, e, some))
+
+pub loop-link-init : goal.loop-link-init
+loop-link-init g c =
+    let at = goal.at.loop-link-init g c in
     let number = g.K.IntKey.number_of in
-    let row = c.take_front-first.ensures.row in
-    let all = row_in c.args.pool.now.nodes c.args.slot.now in
-    let C = length c.args.new.now.rows in
-    let p = c.take_front-first.result in
-    let left = row.2.pairs in
-    let n = ap length left in
-    let m = ap length row.1 in
-    let j = c.target_of-target.result in
-    let own : slot_number number p.0 C ≡ j = sym (ap (slot_number number p.0) c.mask.ensures) ∙ c.target_of-target.ensures.own c.args.pool.now.nodes p row.0 row.1 in
-    let here : 0 < length (slot_of number all C j) = subst (λ ps. 0 < length (slot_of number ps C j)) (sym row.1) (first-there number p row.0 C j own) in
-    let same = c.put_second.ensures.alone (c.requires.free j here) in
+    let a = c.args.old_pool.now in let pool = c.args.pool.now in
+    let S = c.args.slots.now.items in let C = c.args.old_mask + 1 in let D = c.args.mask + 1 in
+    let i = c.args.index in let j = c.moved_index_of-first_target.result in
+    let p = c.take-first.result in let left = chain_of a.nodes c.in-Some.link in
+    let T = set S i c.take-first.new.self in
+    let is = slot_is g at.In-Some in
+    let first = first_is g at.After-take-first (again_is g at.After-index_mut is) in
+    let t = taken g at.After-take-first in
+    let mine = own g at.After-take-first first in
+    let row : row_in a.nodes (get_or S i Empty) ≡ p ∷ left = ap (row_in a.nodes) is ∙ ap (λ q. q ∷ left) (sym first) in
+    let put : HasPut number (i + 1) C c.args.mask T pool j false p c.put_at.new.slots.items c.put_at.new.pool c.put_at.new.bits =
+    Growing-put number (i + 1) C T pool c.args.bits.now c.args.mask j t.are (out g at.After-take-first) c.moved_index_of-first_target.ensures.within false p c.put_at.new.slots.items c.put_at.new.pool c.put_at.new.bits mine
+    c.put_at.ensures.row c.put_at.ensures.bits in
+    let b = c.turn-link.new.pool in let m = c.turn-link.result in
+    let home : g.row.K.Denot × g.row.X.Denot → ℕ = λ q. slot_number number q.0 C in
+    let turned : chain_of b.nodes m ≡ reverse left = c.turn-link.ensures.chain.pairs in
+    let few = ap length turned ∙ length-reverse left in
+    let n = ap length row in
+    let same = c.put_at.ensures.alone (none g at.After-take-first) in
     let room = c.requires.room in
+    let counted = c.put_at.ensures.counted in
     record {
-      left = Dropped-next c.args.pool.now c.args.slot.now c.args.pool.now c.args.slot.now p row.0 c.take_front-first.new.pool c.take_front-first.new.slot
-          (Dropped-start c.args.pool.now c.args.slot.now c.requires.leads) row.1 row.2;
-      moving = subst (λ ps. Moving number C all ps c.args.new.now.rows c.put_second.new.self.rows) (sym left)
-          (Moving-first number C all row.0 c.args.new.now.rows c.put_second.new.self.rows p j row.1 own c.put_second.ensures.rows);
-      len = ap length c.put_second.ensures.rows ∙ length-set c.args.new.now.rows j _;
-      ready = omega (arith, n, m, same, room);
-      room = omega (arith, n, m, same);
-      counted = omega (arith, n, m, c.put_second.ensures.counted);
+      taken = Taken-start a (row_in a.nodes (get_or S i Empty)) c.in-Some.link p b m row c.turn-link.ensures.chain;
+      own = subst (λ ps. AreHome home i ps) (sym turned) (home-reverse home i left (let all : AreHome home i (p ∷ left) = subst (λ ps. AreHome home i ps) row c.requires.own in all.1));
+      are = put.are;
+      moving = Moving-start number D (row_in a.nodes (get_or S i Empty)) j (chain_of b.nodes m) (rows_in (blank i C S) pool.nodes) (rows_in (blank (i + 1) C c.put_at.new.slots.items) c.put_at.new.pool.nodes) p
+          (row ∙ ap (λ ps. p ∷ ps) (sym (ap reverse turned ∙ reverse-reverse left))) mine (c.requires.free j c.moved_index_of-first_target.ensures.part)
+          (put.rows ∙ ap (λ R. set R j (put_in false (get_or R j []) p)) t.rows);
+      len = put.len ∙ t.len;
+      left = λ k up lt. put.left k up lt ∙ t.left k up lt;
+      ready = omega (arith, n, few, same, room);
+      room = omega (arith, n, few, same);
+      counted = omega (arith, n, few, counted);
     }
 
-pub loop-slot-smaller : goal.loop-slot-smaller
-loop-slot-smaller g c =
-    let before = ap length c.take_front-pair.ensures.row.1 in
-    let after = ap length c.take_front-pair.ensures.row.2.pairs in
-    omega (arith, before, after)
+pub pair-next-requires : goal.pair-next-requires
+pair-next-requires g c =
+    let cs = c.loop-link.old_pool.nodes in let l = c.loop-link.link in
+    let is = c.loop-link.invariant.taken.is in
+    Chain-first cs l is (Chain-some cs l is (omega (arith, c.loop-link-test.true)))
 
-pub loop-slot-preserved : goal.loop-slot-preserved
-loop-slot-preserved g c =
+pub moved_index_of-target-requires-clause-own : goal.moved_index_of-target-requires-clause-own
+moved_index_of-target-requires-clause-own g c =
     let number = g.K.IntKey.number_of in
-    let loop = c.loop-slot.invariant in
-    let row = c.take_front-pair.ensures.row in
-    let all = row_in c.args.pool.now.nodes c.args.slot.now in
-    let C = length c.args.new.now.rows in
-    let p = c.take_front-pair.result in
-    let left = row.2.pairs in
-    let n = ap length left in
-    let m = ap length row.1 in
-    let j = c.target_of-target-in-loop-slot.result in
-    let own : slot_number number p.0 C ≡ j =
-    sym (ap (slot_number number p.0) (c.mask-in-loop-slot.ensures ∙ loop.len)) ∙ c.target_of-target-in-loop-slot.ensures.own c.loop-slot.pool.nodes p row.0 row.1 in
-    let ready = loop.ready in let room = loop.room in let counted = loop.counted in
-    let used = c.put_second-in-loop-slot.ensures.room in
-    record {
-      left = Dropped-next c.args.pool.now c.args.slot.now c.loop-slot.pool c.loop-slot.slot p row.0 c.take_front-pair.new.pool c.take_front-pair.new.slot loop.left row.1 row.2;
-      moving = subst (λ ps. Moving number C all ps c.args.new.now.rows c.put_second-in-loop-slot.new.self.rows) (sym left)
-          (Moving-next number C all (row_in c.loop-slot.pool.nodes c.loop-slot.slot) c.args.new.now.rows c.loop-slot.new.rows p row.0 j c.put_second-in-loop-slot.new.self.rows loop.moving row.1 own
-          c.put_second-in-loop-slot.ensures.rows);
-      len = ap length c.put_second-in-loop-slot.ensures.rows ∙ length-set c.loop-slot.new.rows j _ ∙ loop.len;
-      ready = omega (arith, n, m, used, ready);
-      room = omega (arith, n, m, used, room);
-      counted = omega (arith, n, m, c.put_second-in-loop-slot.ensures.counted, counted);
-    }
+    let C = c.args.old_mask + 1 in
+    let cs = c.loop-link.old_pool.nodes in let l = c.loop-link.link in
+    let home : g.row.K.Denot × g.row.X.Denot → ℕ = λ p. slot_number number p.0 C in
+    let next = Chain-next cs l c.pair-next.ensures.0 c.pair-next.result.now c.loop-link.invariant.taken.is c.pair-next.ensures.1 in
+    let here : AreHome home c.args.index (c.pair-next.result.now ∷ chain_of cs c.pair-next.ensures.0) = subst (λ ps. AreHome home c.args.index ps) next.pairs c.loop-link.invariant.own in
+    ap (λ k. slot_number number k C) c.key-in-loop-link.ensures.value ∙ here.0
 
-pub returns-clause-row : goal.returns-clause-row
-returns-clause-row g c = Dropped-all c.args.pool.now c.args.slot.now c.loop-slot.pool c.loop-slot.slot c.loop-slot.invariant.left (sym c.is_empty.ensures ∙ c.loop-slot-test.false)
+module _ (g : _) (c : After-moved_index_of-target g) where
+  out_next : (c.moved_index_of-target.result < c.args.index + 1) ⊎ (c.args.old_mask + 1 ≤ c.moved_index_of-target.result)
+  out_next = part-outside (c.args.old_mask + 1) c.args.index c.moved_index_of-target.result c.moved_index_of-target.ensures.part
+
+  reached_next : IsReached g.K.IntKey.number_of c.loop-link.slots.items c.loop-link.pool c.loop-link.bits (rows_in (blank (c.args.index + 1) (c.args.old_mask + 1) c.loop-link.slots.items) c.loop-link.pool.nodes) c.moved_index_of-target.result
+  reached_next =
+      Growing-reached g.K.IntKey.number_of (c.args.index + 1) (c.args.old_mask + 1) c.loop-link.slots.items c.loop-link.pool c.loop-link.bits c.args.mask c.moved_index_of-target.result c.loop-link.invariant.are out_next
+      c.moved_index_of-target.ensures.within
+
+pub put_at-requires-in-loop-link-clause-within : goal.put_at-requires-in-loop-link-clause-within
+put_at-requires-in-loop-link-clause-within g c = (reached_next g (goal.at.put_at-requires-in-loop-link-clause-within g c).After-moved_index_of-target).within
+
+pub put_at-requires-in-loop-link-clause-leads : goal.put_at-requires-in-loop-link-clause-leads
+put_at-requires-in-loop-link-clause-leads g c = (reached_next g (goal.at.put_at-requires-in-loop-link-clause-leads g c).After-moved_index_of-target).leads
+
+pub loop-link-preserved : goal.loop-link-preserved
+loop-link-preserved g c =
+    let at = (goal.at.loop-link-preserved g c).After-moved_index_of-target in
+    let number = g.K.IntKey.number_of in
+    let a = c.args.old_pool.now in let C = c.args.old_mask + 1 in let D = c.args.mask + 1 in
+    let S = c.args.slots.now.items in let i = c.args.index in
+    let j = c.moved_index_of-target.result in let j0 = c.moved_index_of-first_target.result in
+    let loop = c.loop-link.invariant in
+    let p = c.take_behind-pair.result in
+    let cut = c.take_behind-pair.ensures.cut in
+    let b = c.loop-link.old_pool in let l = c.loop-link.link in
+    let d = c.take_behind-pair.new.pool in let m = c.take_behind-pair.new.link in
+    let chain : chain_of b.nodes l ≡ p ∷ chain_of d.nodes m = Cut-chain b l p d m cut in
+    let pair : c.pair-next.result.now ≡ p = Chain-head b.nodes l c.pair-next.ensures.0 c.pair-next.result.now p (chain_of d.nodes m) loop.taken.is c.pair-next.ensures.1 chain in
+    let mine : slot_number number p.0 D ≡ j = ap (λ k. slot_number number k D) (ap (λ q. q.0) (sym pair) ∙ sym c.key-in-loop-link.ensures.value) ∙ c.moved_index_of-target.ensures.slot in
+    let T = c.put_at-in-loop-link.new.slots.items in let pool = c.put_at-in-loop-link.new.pool in
+    let put : HasPut number (i + 1) C c.args.mask c.loop-link.slots.items c.loop-link.pool j (j0 == j) p T pool c.put_at-in-loop-link.new.bits =
+    Growing-put number (i + 1) C c.loop-link.slots.items c.loop-link.pool c.loop-link.bits c.args.mask j loop.are (out_next g at) c.moved_index_of-target.ensures.within (j0 == j) p T pool c.put_at-in-loop-link.new.bits mine
+    c.put_at-in-loop-link.ensures.row c.put_at-in-loop-link.ensures.bits in
+    let n = ap length chain in
+    let used = c.put_at-in-loop-link.ensures.room in
+    let ready = loop.ready in let room = loop.room in let before = loop.counted in
+    let counted = c.put_at-in-loop-link.ensures.counted in
+    record {
+      taken = Taken-next a (row_in a.nodes (get_or S i Empty)) b l p d m loop.taken cut;
+      own = (let all : AreHome (λ q. slot_number number q.0 C) i (p ∷ chain_of d.nodes m) = subst (λ ps. AreHome (λ q. slot_number number q.0 C) i ps) chain loop.own in all.1);
+      are = put.are;
+      moving = Moving-next number D (row_in a.nodes (get_or S i Empty)) j0 (chain_of b.nodes l) (rows_in (blank i C S) c.args.pool.now.nodes) (rows_in (blank (i + 1) C c.loop-link.slots.items) c.loop-link.pool.nodes) p (chain_of d.nodes m) j
+          (rows_in (blank (i + 1) C T) pool.nodes) loop.moving chain mine (c.requires.free j c.moved_index_of-target.ensures.part) put.rows;
+      len = put.len ∙ loop.len;
+      left = λ k up lt. put.left k up lt ∙ loop.left k up lt;
+      ready = omega (arith, n, used, ready);
+      room = omega (arith, n, used, room);
+      counted = omega (arith, n, counted, before);
+    }
 
 pub returns-clause-placed : goal.returns-clause-placed
 returns-clause-placed g c =
-    let loop = c.loop-slot.invariant in
-    let done = Dropped-all c.args.pool.now c.args.slot.now c.loop-slot.pool c.loop-slot.slot loop.left (sym c.is_empty.ensures ∙ c.loop-slot-test.false) in
-    Moving-end g.K.IntKey.number_of (length c.args.new.now.rows) (row_in c.args.pool.now.nodes c.args.slot.now) (row_in c.loop-slot.pool.nodes c.loop-slot.slot) c.args.new.now.rows c.loop-slot.new.rows
-    loop.moving done.pairs
+    let loop = c.loop-link in
+    let none = Chain-beyond loop.old_pool.nodes loop.link loop.invariant.taken.is (omega (arith, c.loop-link-test.false)) in
+    Moving-end g.K.IntKey.number_of (c.args.mask + 1) (row_in c.args.old_pool.now.nodes (get_or c.args.slots.now.items c.args.index Empty)) c.moved_index_of-first_target.result (chain_of loop.old_pool.nodes loop.link)
+    (rows_in (blank c.args.index (c.args.old_mask + 1) c.args.slots.now.items) c.args.pool.now.nodes) (rows_in (blank (c.args.index + 1) (c.args.old_mask + 1) loop.slots.items) loop.pool.nodes) loop.invariant.moving none
+
+pub returns-clause-spares : goal.returns-clause-spares
+returns-clause-spares g c = c.loop-link.invariant.taken.spares
+
+pub returns-clause-counted : goal.returns-clause-counted
+returns-clause-counted g c =
+    let loop = c.loop-link in
+    let none = ap length (Chain-beyond loop.old_pool.nodes loop.link loop.invariant.taken.is (omega (arith, c.loop-link-test.false))) in
+    let counted = loop.invariant.counted in
+    omega (arith, none, counted)

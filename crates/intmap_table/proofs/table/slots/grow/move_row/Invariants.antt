@@ -1,19 +1,25 @@
-use Rattle.std.proofs.Common.{◌≡◌, ◌+◌, ◌≤◌, length}
-use Rattle.intmap_table.specs.Tables.Nodes.{row_in}
-use Rattle.intmap_table.proofs.Nodes.DroppedLemmas.{IsDropped}
-use Rattle.intmap_table.proofs.Nodes.PlacedLemmas.{Moving}
+use Rattle.std.proofs.Common.{ℕ, ◌≡◌, ◌+◌, ◌<◌, ◌≤◌, length}
+use Rattle.std.specs.Prelude.{get_or}
+use Rattle.intmap_table.specs.Classes.{slot_number}
+use Rattle.intmap_table.specs.Tables.Growing.{blank}
+use Rattle.intmap_table.specs.Tables.Nodes.{Empty, chain_of, row_in, rows_in, AreHome}
+use Rattle.intmap_table.specs.Tables.Rows.{AreRows}
+use Rattle.intmap_table.proofs.Nodes.GrowingLemmas.{AreTaken, IsMoving}
 use Rattle.intmap_table.proofs.table.slots.grow.move_row.Given as goal
 
--- some pairs of the old slot are left, for which there is room
-abbrev pub invariant-loop-slot : goal.invariant-loop-slot
-invariant-loop-slot g l = record {
-  left : IsDropped l.fn.pool l.fn.slot l.pool l.slot;
-  moving : Moving g.K.IntKey.number_of (length l.fn.new.rows) (row_in l.fn.pool.nodes l.fn.slot) (row_in l.pool.nodes l.slot) l.fn.new.rows l.new.rows;
-  len : length l.new.rows ≡ length l.fn.new.rows;
-  ready : length (row_in l.pool.nodes l.slot) ≤ l.new.room;
-  room : l.fn.new.room + 1 + length (row_in l.pool.nodes l.slot) ≤ l.new.room + length (row_in l.fn.pool.nodes l.fn.slot);
-  counted : l.placed + length (row_in l.pool.nodes l.slot) ≡ l.fn.placed + length (row_in l.fn.pool.nodes l.fn.slot);
+-- some pairs behind the first one are left in the old nodes, the last one first, and there is room for them
+abbrev pub invariant-loop-link : goal.invariant-loop-link
+invariant-loop-link g l = record {
+  taken : AreTaken l.fn.old_pool (row_in l.fn.old_pool.nodes (get_or l.fn.slots.items l.index Empty)) l.old_pool l.link;
+  own : AreHome (λ p. slot_number g.K.IntKey.number_of p.0 (l.old_mask + 1)) l.index (chain_of l.old_pool.nodes l.link);
+  are : AreRows g.K.IntKey.number_of (blank (l.index + 1) (l.old_mask + 1) l.slots.items) l.pool l.bits l.mask;
+  moving : IsMoving g.K.IntKey.number_of (l.mask + 1) (row_in l.fn.old_pool.nodes (get_or l.fn.slots.items l.index Empty)) l.first_target (chain_of l.old_pool.nodes l.link) (rows_in (blank l.index (l.old_mask + 1) l.fn.slots.items) l.fn.pool.nodes) (rows_in (blank (l.index + 1) (l.old_mask + 1) l.slots.items) l.pool.nodes);
+  len : length l.slots.items ≡ length l.fn.slots.items;
+  left : (j : ℕ) → l.index + 1 ≤ j → j < l.old_mask + 1 → get_or l.slots.items j Empty ≡ get_or l.fn.slots.items j Empty;
+  ready : length (chain_of l.old_pool.nodes l.link) ≤ l.pool.room;
+  room : l.fn.pool.room + 1 + length (chain_of l.old_pool.nodes l.link) ≤ l.pool.room + length (row_in l.fn.old_pool.nodes (get_or l.fn.slots.items l.index Empty));
+  counted : l.placed + length (chain_of l.old_pool.nodes l.link) ≡ l.fn.placed + length (row_in l.fn.old_pool.nodes (get_or l.fn.slots.items l.index Empty));
 }
 
-abbrev pub decreases-loop-slot : goal.decreases-loop-slot
-decreases-loop-slot g l = length (row_in l.pool.nodes l.slot)
+abbrev pub decreases-loop-link : goal.decreases-loop-link
+decreases-loop-link g l = length (chain_of l.old_pool.nodes l.link)

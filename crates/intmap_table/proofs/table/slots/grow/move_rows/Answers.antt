@@ -1,178 +1,207 @@
-use Rattle.std.proofs.Common.{⊎_elim, ℕ, ◌≡◌, ◌≢◌, ◌<◌, ◌≤◌, ◌+◌, ◌++◌, [], length, set, take, ap, sym, ◌∙◌, subst, refl, arith}
+use Rattle.std.proofs.Common.{⊎_elim, ℕ, ◌≡◌, ◌<◌, ◌≤◌, ◌+◌, ◌++◌, [], length, take, ap, sym, ◌∙◌, subst, arith}
 use Rattle.std.specs.Prelude.{get_or}
-use Rattle.std.proofs.lemmas.List.{get_or_default, get_or-map, get_or_past, length-append, length-map, length-set, get_or-set_same, get_or-set_other}
+use Rattle.std.proofs.lemmas.List.{get_or_past, length-append, length-map, length-take-le}
 use Rattle.intmap_table.specs.Classes.{slot_number}
-use Rattle.intmap_table.specs.Walk.{slot_of}
-use Rattle.intmap_table.specs.Tables.Nodes.{Empty, row_in, rows_in, AreLinked, IsSlot, IsSlotSet}
-use Rattle.intmap_table.specs.Tables.Rows.{turned, IsPlaced}
+use Rattle.intmap_table.specs.Tables.Growing.{blank}
+use Rattle.intmap_table.specs.Tables.Nodes.{Empty, row_in, rows_in, AreHome}
+use Rattle.intmap_table.specs.Tables.Rows.{AreRows, HasMoved}
 use Rattle.intmap_table.specs.Tables.Slots.{joined, IsNextRow}
 use Rattle.intmap_table.proofs.Tables.AroundLemmas.{joined-taken, joined-before, next-taken}
 use Rattle.intmap_table.proofs.Tables.FilledLemmas.{next-marked}
-use Rattle.intmap_table.proofs.Tables.GrownLemmas.{part-of}
+use Rattle.intmap_table.proofs.Tables.GrownLemmas.{grown-more}
 use Rattle.intmap_table.proofs.Tables.MarkedLemmas.{row-none}
+use Rattle.intmap_table.proofs.Nodes.GrowingLemmas.{Left-start, Left-own, Left-next, blank-all, blank-passed, row-empty}
 use Rattle.intmap_table.proofs.Nodes.HomeLemmas.{Linked-own}
-use Rattle.intmap_table.proofs.Nodes.LinkedLemmas.{AreSet, Linked-set, same_or_not}
 use Rattle.intmap_table.proofs.Nodes.NodeLemmas.{below_or_not}
-use Rattle.intmap_table.proofs.Nodes.PlacedLemmas.{further-taken, further-some, further-fewer, none-before, Placed-none}
+use Rattle.intmap_table.proofs.Nodes.PlacedLemmas.{further-taken, further-some, further-fewer, none-before}
 use Rattle.intmap_table.proofs.table.slots.grow.move_rows.Goals as goal
-use Rattle.intmap_table.proofs.table.slots.grow.move_rows.Goals.{In-Some, After-index_mut}
+use Rattle.intmap_table.proofs.table.slots.grow.move_rows.Goals.{Start, In-Some, In_default}
 
-module _ (g : _) (c : In-Some g) where
+module _ (g : _) (c : Start g) where
+  -- the old slots are among all
+  less : c.args.old_mask + 1 ≤ length c.args.slots.now.items
+  less = let more = grown-more (c.args.old_mask + 1) (c.args.mask + 1) c.requires.grown in let len = c.requires.len in omega (arith, more, len)
+
+  -- each pair is at home in its old slot
+  own : (j : ℕ) → j < c.args.old_mask + 1 → AreHome (λ p. slot_number g.K.IntKey.number_of p.0 (c.args.old_mask + 1)) j (get_or (rows_in (take (c.args.old_mask + 1) c.args.slots.now.items) c.args.old_pool.now.nodes) j [])
+  own = Left-own (λ p. slot_number g.K.IntKey.number_of p.0 (c.args.old_mask + 1)) (c.args.old_mask + 1) c.args.slots.now.items c.args.old_pool.now less c.requires.linked
+
+module _ (g : _) (c : In-Some g) (less : c.args.old_mask + 1 ≤ length c.args.slots.now.items) where
   -- the next old row
-  next : IsNextRow (rows_in c.args.slots.now.items c.args.pool.now.nodes) c.loop-index.from c.in-Some.index
-  next = next-marked (rows_in c.args.slots.now.items c.args.pool.now.nodes) c.args.bits.now c.requires.marks c.loop-index.from c.in-Some.index c.in-Some.ensures.some
+  next : IsNextRow (rows_in (take (c.args.old_mask + 1) c.args.slots.now.items) c.args.old_pool.now.nodes) c.loop-index.from c.in-Some.index
+  next = next-marked (rows_in (take (c.args.old_mask + 1) c.args.slots.now.items) c.args.old_pool.now.nodes) c.args.old_bits.now c.requires.marks c.loop-index.from c.in-Some.index c.in-Some.ensures.some
 
-  below : c.in-Some.index < length c.loop-index.slots.items
-  below = let w = next.within in let n = length-map c.args.slots.now.items (row_in c.args.pool.now.nodes) in let old = c.loop-index.invariant.old_len in omega (arith, w, n, old)
+  in_old : c.in-Some.index < c.args.old_mask + 1
+  in_old = let w = next.within in let n = length-map (take (c.args.old_mask + 1) c.args.slots.now.items) (row_in c.args.old_pool.now.nodes) in let len = length-take-le (c.args.old_mask + 1) c.args.slots.now.items less in omega (arith, w, n, len)
 
-pub index_mut-requires : goal.index_mut-requires
-index_mut-requires g c = let w = below g (goal.at.index_mut-requires g c).In-Some in omega (arith, w)
+  -- it is as it was
+  row : row_in c.loop-index.old_pool.nodes (get_or c.loop-index.slots.items c.in-Some.index Empty) ≡ get_or (rows_in (take (c.args.old_mask + 1) c.args.slots.now.items) c.args.old_pool.now.nodes) c.in-Some.index []
+  row = c.loop-index.invariant.old.rows c.in-Some.index next.behind in_old
 
-module _ (g : _) (c : After-index_mut g) (w : c.in-Some.index < length c.loop-index.slots.items) where
-  -- the slot is that of its index
-  slot_is : c.index_mut.result.now ≡ get_or c.loop-index.slots.items c.in-Some.index Empty
-  slot_is = c.index_mut.ensures.value ∙ get_or_default c.loop-index.slots.items c.in-Some.index c.index_mut.result.now Empty w
+  -- the slots before it hold no pair that hasn't moved
+  passed : blank c.loop-index.from (c.args.old_mask + 1) c.loop-index.slots.items ≡ blank c.in-Some.index (c.args.old_mask + 1) c.loop-index.slots.items
+  passed =
+      blank-passed c.loop-index.from c.in-Some.index (c.args.old_mask + 1) c.loop-index.slots.items next.behind
+      (λ j le lt. row-empty c.loop-index.old_pool.nodes (get_or c.loop-index.slots.items j Empty) (c.loop-index.invariant.old.rows j le (let w = in_old in omega (arith, lt, w)) ∙ next.between j le lt))
 
-  -- with the pairs that it had at first
-  same : c.loop-index.from ≤ c.in-Some.index → row_in c.loop-index.pool.nodes c.index_mut.result.now ≡ get_or (rows_in c.args.slots.now.items c.args.pool.now.nodes) c.in-Some.index []
-  same behind = ap (row_in c.loop-index.pool.nodes) slot_is ∙ sym (get_or-map (row_in c.loop-index.pool.nodes) c.loop-index.slots.items c.in-Some.index Empty [] w)
-      ∙ c.loop-index.invariant.left c.in-Some.index behind
+pub loop-index-init : goal.loop-index-init
+loop-index-init g c =
+    let at = (goal.at.loop-index-init g c).Start in
+    record {
+      old = Left-start (λ p. slot_number g.K.IntKey.number_of p.0 (c.args.old_mask + 1)) (c.args.old_mask + 1) c.args.slots.now.items c.args.old_pool.now (less g at) c.requires.linked;
+      word = c.marks_from-left.ensures;
+      len = c.requires.len;
+      are = c.requires.are;
+      placed = record {
+        capacity = c.requires.grown.new;
+        len = (let n = length-map (blank 0 (c.args.old_mask + 1) c.args.slots.now.items) (row_in c.args.pool.now.nodes) in let count = c.requires.are.count in omega (arith, n, count));
+        rows = λ j below. c.requires.none j;
+      };
+      room = omega arith;
+      counted = omega arith;
+    }
+
+pub move_row-requires-clause-old : goal.move_row-requires-clause-old
+move_row-requires-clause-old g c =
+    let at = goal.at.move_row-requires-clause-old g c in
+    let w = in_old g at.In-Some (less g at.Start) in
+    omega (arith, w)
+
+pub move_row-requires-clause-within : goal.move_row-requires-clause-within
+move_row-requires-clause-within g c =
+    let at = goal.at.move_row-requires-clause-within g c in
+    let w = in_old g at.In-Some (less g at.Start) in
+    let more = grown-more (c.args.old_mask + 1) (c.args.mask + 1) c.requires.grown in
+    let len = c.loop-index.invariant.len in
+    omega (arith, w, more, len)
 
 pub move_row-requires-clause-leads : goal.move_row-requires-clause-leads
 move_row-requires-clause-leads g c =
     let at = goal.at.move_row-requires-clause-leads g c in
-    let w = below g at.In-Some in
-    subst (λ s. IsSlot c.loop-index.pool.nodes s) (sym (slot_is g at.After-index_mut w)) (c.loop-index.invariant.linked.chains c.in-Some.index w)
+    c.loop-index.invariant.old.chains c.in-Some.index (next g at.In-Some (less g at.Start)).behind (in_old g at.In-Some (less g at.Start))
 
 pub move_row-requires-clause-some : goal.move_row-requires-clause-some
 move_row-requires-clause-some g c =
     let at = goal.at.move_row-requires-clause-some g c in
-    let n = next g at.In-Some in
-    let row = ap length (same g at.After-index_mut (below g at.In-Some) n.behind) in
-    let some = n.filled in
-    omega (arith, row, some)
+    let same = ap length (row g at.In-Some (less g at.Start)) in
+    let some = (next g at.In-Some (less g at.Start)).filled in
+    omega (arith, same, some)
+
+pub move_row-requires-clause-own : goal.move_row-requires-clause-own
+move_row-requires-clause-own g c =
+    let at = goal.at.move_row-requires-clause-own g c in
+    subst (λ ps. AreHome (λ p. slot_number g.K.IntKey.number_of p.0 (c.args.old_mask + 1)) c.in-Some.index ps) (sym (row g at.In-Some (less g at.Start)))
+    (own g at.Start c.in-Some.index (in_old g at.In-Some (less g at.Start)))
+
+pub move_row-requires-clause-are : goal.move_row-requires-clause-are
+move_row-requires-clause-are g c =
+    let at = goal.at.move_row-requires-clause-are g c in
+    subst (λ T. AreRows g.K.IntKey.number_of T c.loop-index.pool c.loop-index.bits c.args.mask) (passed g at.In-Some (less g at.Start)) c.loop-index.invariant.are
 
 pub move_row-requires-clause-free : goal.move_row-requires-clause-free
 move_row-requires-clause-free g c =
     let at = goal.at.move_row-requires-clause-free g c in
     let number = g.K.IntKey.number_of in
-    let R = rows_in c.args.slots.now.items c.args.pool.now.nodes in
-    let C = length c.args.slots.now.items in let D = length c.args.new.now.rows in
-    let i = c.in-Some.index in
+    let C = c.args.old_mask + 1 in let D = c.args.mask + 1 in
+    let O = take C c.args.slots.now.items in
+    let R = rows_in O c.args.old_pool.now.nodes in
     let loop = c.loop-index.invariant in
-    let n = next g at.In-Some in
-    let long = length-map c.args.slots.now.items (row_in c.args.pool.now.nodes) in
-    let row = same g at.After-index_mut (below g at.In-Some) n.behind in
-    let own = Linked-own (λ p. slot_number number p.0 C) c.args.slots.now.items c.args.pool.now c.requires.linked in
-    λ j some.
-    let some' : 0 < length (slot_of number (get_or R i []) D j) =
-    subst (λ ps. 0 < length (slot_of number ps D j)) row (subst (λ k. 0 < length (slot_of number (row_in c.loop-index.pool.nodes c.index_mut.result.now) k j)) loop.len some) in
-    let part = part-of number C D c.requires.grown (get_or R i []) i j (own i (let w = n.within in omega (arith, w, long))) some' in
+    let n = next g at.In-Some (less g at.Start) in
+    let w = in_old g at.In-Some (less g at.Start) in
+    let len = length-take-le C c.args.slots.now.items (less g at.Start) in
+    λ j part.
     let none = none-before number C D c.requires.grown R c.loop-index.from j
-    (λ k under. own k (let w = n.within in let b = n.behind in omega (arith, under, w, b, long))) (let b = n.behind in omega (arith, part, b)) in
-    ⊎_elim (λ under. loop.placed.rows j under ∙ ap turned none)
-    (λ past. get_or_past c.loop-index.new.rows j [] (let len = loop.len in omega (arith, len, past))) (below_or_not j D)
+    (λ k under. Linked-own (λ p. slot_number number p.0 C) O c.args.old_pool.now c.requires.linked k (let b = n.behind in omega (arith, under, w, b, len))) (let b = n.behind in omega (arith, part, b)) in
+    ap (λ T. get_or (rows_in T c.loop-index.pool.nodes) j []) (sym (passed g at.In-Some (less g at.Start)))
+    ∙ ⊎_elim (λ under. loop.placed.rows j under ∙ none)
+    (λ past. get_or_past (rows_in (blank c.loop-index.from C c.loop-index.slots.items) c.loop-index.pool.nodes) j [] (let all = loop.placed.len in omega (arith, all, past))) (below_or_not j D)
 
 pub move_row-requires-clause-room : goal.move_row-requires-clause-room
 move_row-requires-clause-room g c =
     let at = goal.at.move_row-requires-clause-room g c in
-    let R = rows_in c.args.slots.now.items c.args.pool.now.nodes in
-    let n = next g at.In-Some in
+    let R = rows_in (take (c.args.old_mask + 1) c.args.slots.now.items) c.args.old_pool.now.nodes in
+    let n = next g at.In-Some (less g at.Start) in
     let fewer = further-fewer R c.loop-index.from c.in-Some.index n.behind in
     let more = further-taken c.in-Some.index R in
     let all = further-some (c.in-Some.index + 1) R in
-    let row = ap length (same g at.After-index_mut (below g at.In-Some) n.behind) in
+    let same = ap length (row g at.In-Some (less g at.Start)) in
     let room = c.loop-index.invariant.room in
     let enough = c.requires.room in
-    omega (arith, fewer, more, all, row, room, enough)
+    omega (arith, fewer, more, all, same, room, enough)
 
-pub loop-index-init : goal.loop-index-init
-loop-index-init g c = record {
-  linked = c.requires.linked;
-  old_len = refl;
-  left = λ j le. refl;
-  gone = λ j lt. absurd (omega (arith, lt));
-  word = c.marks_from-left.ensures;
-  len = refl;
-  placed = Placed-none g.K.IntKey.number_of (length c.args.new.now.rows) c.args.new.now.rows refl c.requires.none;
-  room = omega arith;
-  counted = omega arith;
-}
+pub loop-index-smaller : goal.loop-index-smaller
+loop-index-smaller g c =
+    let at = goal.at.loop-index-smaller g c in
+    let w = in_old g at.In-Some (less g at.Start) in
+    let b = (next g at.In-Some (less g at.Start)).behind in
+    omega (arith, w, b)
 
 pub loop-index-preserved : goal.loop-index-preserved
 loop-index-preserved g c =
     let at = goal.at.loop-index-preserved g c in
     let number = g.K.IntKey.number_of in
-    let slots = c.loop-index.slots.items in let a = c.loop-index.pool in let b = c.move_row.new.pool in let t = c.move_row.new.slot in
-    let R = rows_in c.args.slots.now.items c.args.pool.now.nodes in let D = length c.args.new.now.rows in
+    let C = c.args.old_mask + 1 in let D = c.args.mask + 1 in
+    let R = rows_in (take C c.args.slots.now.items) c.args.old_pool.now.nodes in
     let i = c.in-Some.index in let from = c.loop-index.from in
     let loop = c.loop-index.invariant in
-    let n = next g at.In-Some in
-    let w = below g at.In-Some in
-    let is = same g at.After-index_mut w n.behind in
-    let all = row_in a.nodes c.index_mut.result.now in
-    let done : AreSet (λ p. slot_number number p.0 (length c.args.slots.now.items)) slots a i [] (set slots i t) b =
-    Linked-set (λ p. slot_number number p.0 (length c.args.slots.now.items)) slots a i [] b t w loop.linked
-    (subst (λ s. IsSlotSet a s [] b t) (slot_is g at.After-index_mut w) c.move_row.ensures.row) tt in
-    let passed : (j : ℕ) → j < i + 1 → j ≢ i → get_or (rows_in slots a.nodes) j [] ≡ [] =
-    λ j lt apart. ⊎_elim (λ under. loop.gone j under) (λ past. loop.left j past ∙ n.between j past (omega (arith, lt, apart))) (below_or_not j from) in
+    let n = next g at.In-Some (less g at.Start) in
+    let w = in_old g at.In-Some (less g at.Start) in
+    let is = row g at.In-Some (less g at.Start) in
     let taken : joined (take (i + 1) R) ≡ joined (take from R) ++ get_or R i [] = joined-taken i R ∙ ap (λ L. L ++ get_or R i []) (next-taken R from i n) in
     let len = ap length taken ∙ length-append (joined (take from R)) (get_or R i []) in
-    let row = ap length is in
+    let same = ap length is in
     let fewer = further-fewer R from i n.behind in
     let more = further-taken i R in
     let filled = n.filled in
     let room = loop.room in let used = c.move_row.ensures.room in let counted = loop.counted in
-    let before : IsPlaced number (length c.loop-index.new.rows) (joined (take from R)) c.loop-index.new.rows = subst (λ k. IsPlaced number k (joined (take from R)) c.loop-index.new.rows) (sym loop.len) loop.placed in
-    let after = c.move_row.ensures.placed (joined (take from R)) before in
+    let before : HasMoved number (joined (take from R)) D (rows_in (blank i C c.loop-index.slots.items) c.loop-index.pool.nodes) =
+    subst (λ T. HasMoved number (joined (take from R)) D (rows_in T c.loop-index.pool.nodes)) (passed g at.In-Some (less g at.Start)) loop.placed in
+    let now = rows_in (blank (i + 1) C c.move_row.new.slots.items) c.move_row.new.pool.nodes in
     record {
-      linked = done.linked;
-      old_len = length-set slots i t ∙ loop.old_len;
-      left = λ j le.
-          ap (λ S. get_or S j []) done.rows ∙ get_or-set_other (rows_in slots a.nodes) i j [] [] (λ e. omega (arith, e, le)) ∙ loop.left j (let b' = n.behind in omega (arith, le, b'));
-      gone = λ j lt.
-          let long = length-map slots (row_in a.nodes) in
-          let own = get_or-set_same (rows_in slots a.nodes) i [] [] (omega (arith, long, w)) in
-          ap (λ S. get_or S j []) done.rows ∙ ⊎_elim (λ e. ap (λ k. get_or (set (rows_in slots a.nodes) i []) k []) e ∙ own)
-          (λ apart. get_or-set_other (rows_in slots a.nodes) i j [] [] apart ∙ passed j lt apart) (same_or_not j i);
+      old = Left-next (λ p. slot_number number p.0 C) R from i C c.loop-index.slots.items c.loop-index.old_pool c.move_row.new.slots.items c.move_row.new.old_pool loop.old (own g at.Start) n.behind w
+          (λ j behind lt. c.move_row.ensures.left j behind (omega (arith, lt))) c.move_row.ensures.spares;
       word = c.in-Some.ensures.left;
       len = c.move_row.ensures.len ∙ loop.len;
-      placed = subst (λ L. IsPlaced number D L c.move_row.new.new.rows) (sym taken)
-          (subst (λ ps. IsPlaced number D (joined (take from R) ++ ps) c.move_row.new.new.rows) is
-          (subst (λ k. IsPlaced number k (joined (take from R) ++ all) c.move_row.new.new.rows) loop.len after));
-      room = omega (arith, row, fewer, more, filled, room, used);
-      counted = omega (arith, row, len, counted, c.move_row.ensures.counted);
+      are = c.move_row.ensures.are;
+      placed = subst (λ L. HasMoved number L D now) (sym taken)
+          (subst (λ ps. HasMoved number (joined (take from R) ++ ps) D now) is (c.move_row.ensures.placed (joined (take from R)) before));
+      room = omega (arith, same, fewer, more, filled, room, used);
+      counted = omega (arith, same, len, counted, c.move_row.ensures.counted);
     }
 
-pub returns-clause-linked : goal.returns-clause-linked
-returns-clause-linked g c =
-    subst (λ C. AreLinked (λ p. slot_number g.K.IntKey.number_of p.0 C) c.loop-index.slots.items c.loop-index.pool) (sym c.loop-index.invariant.old_len) c.loop-index.invariant.linked
+module _ (g : _) (c : In_default g) where
+  -- no old row is left
+  past : (j : ℕ) → c.loop-index.from ≤ j → get_or (rows_in (take (c.args.old_mask + 1) c.args.slots.now.items) c.args.old_pool.now.nodes) j [] ≡ []
+  past j le = row-none (get_or (rows_in (take (c.args.old_mask + 1) c.args.slots.now.items) c.args.old_pool.now.nodes) j []) (sym (c.requires.marks.own j) ∙ c.in_default.ensures.none j le)
 
-pub returns-clause-empty : goal.returns-clause-empty
-returns-clause-empty g c =
-    let loop = c.loop-index.invariant in
-    let R = rows_in c.args.slots.now.items c.args.pool.now.nodes in
-    λ i. ⊎_elim (λ under. loop.gone i under)
-    (λ past. loop.left i past ∙ row-none (get_or R i []) (sym (c.requires.marks.own i) ∙ c.in_default.ensures.none i past)) (below_or_not i c.loop-index.from)
+  -- so all slots lead into the new nodes
+  whole : blank c.loop-index.from (c.args.old_mask + 1) c.loop-index.slots.items ≡ c.loop-index.slots.items
+  whole =
+      blank-all c.loop-index.from (c.args.old_mask + 1) c.loop-index.slots.items
+      (λ j le lt. row-empty c.loop-index.old_pool.nodes (get_or c.loop-index.slots.items j Empty) (c.loop-index.invariant.old.rows j le lt ∙ past j le))
+
+  -- and all pairs have moved
+  all : joined (take c.loop-index.from (rows_in (take (c.args.old_mask + 1) c.args.slots.now.items) c.args.old_pool.now.nodes)) ≡ joined (rows_in (take (c.args.old_mask + 1) c.args.slots.now.items) c.args.old_pool.now.nodes)
+  all = joined-before c.loop-index.from (rows_in (take (c.args.old_mask + 1) c.args.slots.now.items) c.args.old_pool.now.nodes) past
+
+pub returns-clause-are : goal.returns-clause-are
+returns-clause-are g c =
+    subst (λ T. AreRows g.K.IntKey.number_of T c.loop-index.pool c.loop-index.bits c.args.mask) (whole g (goal.at.returns-clause-are g c).In_default) c.loop-index.invariant.are
 
 pub returns-clause-placed : goal.returns-clause-placed
 returns-clause-placed g c =
-    let loop = c.loop-index.invariant in
-    let R = rows_in c.args.slots.now.items c.args.pool.now.nodes in
-    let all = joined-before c.loop-index.from R (λ j le. row-none (get_or R j []) (sym (c.requires.marks.own j) ∙ c.in_default.ensures.none j le)) in
-    subst (λ L. IsPlaced g.K.IntKey.number_of (length c.args.new.now.rows) L c.loop-index.new.rows) all loop.placed
+    let at = (goal.at.returns-clause-placed g c).In_default in
+    subst (λ L. HasMoved g.K.IntKey.number_of L (c.args.mask + 1) (rows_in c.loop-index.slots.items c.loop-index.pool.nodes)) (all g at)
+    (subst (λ T. HasMoved g.K.IntKey.number_of (joined (take c.loop-index.from (rows_in (take (c.args.old_mask + 1) c.args.slots.now.items) c.args.old_pool.now.nodes))) (c.args.mask + 1) (rows_in T c.loop-index.pool.nodes)) (whole g at) c.loop-index.invariant.placed)
 
 pub returns-clause-room : goal.returns-clause-room
 returns-clause-room g c =
-    let loop = c.loop-index.invariant in
-    let some = further-some c.loop-index.from (rows_in c.args.slots.now.items c.args.pool.now.nodes) in
-    let room = loop.room in
+    let some = further-some c.loop-index.from (rows_in (take (c.args.old_mask + 1) c.args.slots.now.items) c.args.old_pool.now.nodes) in
+    let room = c.loop-index.invariant.room in
     omega (arith, some, room)
 
 pub returns-clause-counted : goal.returns-clause-counted
 returns-clause-counted g c =
-    let loop = c.loop-index.invariant in
-    let R = rows_in c.args.slots.now.items c.args.pool.now.nodes in
-    let all = ap length (joined-before c.loop-index.from R (λ j le. row-none (get_or R j []) (sym (c.requires.marks.own j) ∙ c.in_default.ensures.none j le))) in
-    let counted = loop.counted in
-    omega (arith, all, counted)
+    let same = ap length (all g (goal.at.returns-clause-counted g c).In_default) in
+    let counted = c.loop-index.invariant.counted in
+    omega (arith, same, counted)
