@@ -1,7 +1,7 @@
 //! One bit for each index.
 ghost use Rattle.std.specs.Prelude.{◌≡◌, ℕ, List, Bool, ◌+◌, ◌*◌, ◌/◌, ◌^◌, ◌<◌, ◌≤◌, true, false, length, replicate, slice_set, IfOk, IfSome, IfNone, ⊤};
 ghost use Rattle.std.specs.Iterator.{YieldsFirstBy, item_count};
-ghost use Rattle.intmap_table.specs.Tables.Bits.{marked, marked_indices, IsWordFrom, IsNextMark};
+ghost use Rattle.intmap_table.specs.Tables.Bits.{marked, marked_indices, IsNextMark, IsWordFrom, IsWordOf};
 
 use std::alloc::{AllocError, Allocator};
 use std::marker::Model;
@@ -36,14 +36,42 @@ pub(crate) struct MarksLeft {
 }
 
 impl<A: Allocator> Bits<A> {
+    /// The word that has the bit of an index.
+    #[inline(always)]
+    pub(crate) fn word(&self, index: usize) -> u64
+        requires { index < length self.now }
+        ensures { IsWordOf self.now index result }
+    {
+        self.words[index / BITS]
+    }
+
+    /// Marks an index, whose word was read before. No other index changes.
+    #[inline(always)]
+    pub(crate) fn set_in(&mut self, word: u64, index: usize)
+        requires within { index < length self.old }
+        requires word { IsWordOf self.old index word }
+        ensures { self.new ≡ slice_set self.old index true }
+    {
+        self.words[index / BITS] = word | 1 << (index % BITS);
+    }
+
+    /// Clears the mark of an index, whose word was read before. No other index changes.
+    #[inline(always)]
+    pub(crate) fn clear_in(&mut self, word: u64, index: usize)
+        requires within { index < length self.old }
+        requires word { IsWordOf self.old index word }
+        ensures { self.new ≡ slice_set self.old index false }
+    {
+        self.words[index / BITS] = word & !(1 << (index % BITS));
+    }
+
     /// Marks an index. No other index changes.
     #[inline(always)]
     pub(crate) fn set(&mut self, index: usize)
         requires { index < length self.old }
         ensures { self.new ≡ slice_set self.old index true }
     {
-        let word = &mut self.words[index / BITS];
-        *word = *word | 1 << (index % BITS);
+        self.set_in(self.word(index), index);
     }
 
     /// Clears the mark of an index. No other index changes.
@@ -52,8 +80,7 @@ impl<A: Allocator> Bits<A> {
         requires { index < length self.old }
         ensures { self.new ≡ slice_set self.old index false }
     {
-        let word = &mut self.words[index / BITS];
-        *word = *word & !(1 << (index % BITS));
+        self.clear_in(self.word(index), index);
     }
 
     /// Clears all marks.

@@ -13,7 +13,7 @@ use Rattle.std.proofs.lemmas.List.Sums.{sum_by-cons}
 use Rattle.std.proofs.lemmas.Nat.{ones_cat}
 use Rattle.std.proofs.lemmas.Nat.Bits.{bit_at-zero, bit_at-suc, bit_at_lowest, bit_at_and, bit_at-trailing_zeros}
 use Rattle.std.proofs.Math.Nat.{pow-suc}
-use Rattle.intmap_table.specs.Tables.Bits.{marked, marked_indices, has_bit, marks_of, indices_from}
+use Rattle.intmap_table.specs.Tables.Bits.{marked, marked_indices, has_bit, marks_of, indices_from, IsWordOf}
 use Rattle.intmap_table.proofs.Tables.MarkedLemmas.{range_with_len-add, filter-same, filter-none, filter-shift, filter-both}
 
 -- the indices of the bits of a word that are set, of its first n
@@ -124,10 +124,6 @@ unfolding marks_of
 marked-marks_of words i below =
     get_or-map-range_with_len (λ i. has_bit (get_or words (i / 64) 0) (i % 64)) 0 (64 * length words) i i false below (zero-add i)
 
--- a word that has, from its lowest bit up, the marks of the 64 indices around index i
-abbrev pub IsWordOf : List Bool → ℕ → ℕ → Type 0
-IsWordOf marks i word = (j : ℕ) → j < 64 → has_bit word j ≡ marked marks (64 * (i / 64) + j)
-
 -- the marks, with the bits of a word in place of the marks of the 64 indices around index i
 abbrev pub with_word : List Bool → ℕ → ℕ → List Bool
 with_word marks i word = map (λ j. cond (j / 64 == i / 64) (has_bit word (j % 64)) (marked marks j)) (range_with_len 0 (length marks))
@@ -201,12 +197,13 @@ marks_of-zeros n =
     ∙ sym (get_or-replicate {A = Bool} (64 * n) i false false under))
 
 -- a word that differs in one bit changes one index
-pub marks_of-set : (words : List ℕ) (i word : ℕ) (b : Bool) → i < 64 * length words → has_bit word (i % 64) ≡ b → ((j : ℕ) → j < 64 → j ≢ i % 64 → bit_at word j ≡ bit_at (get_or words (i / 64) 0) j)
-    → marks_of (set words (i / 64) word) ≡ set (marks_of words) i b
-marks_of-set words i word b below is others =
-    let within : i < length (marks_of words) = omega (arith, below, length-marks_of words) in
-    marks_of-with_word words i word below ∙ with_word-set (marks_of words) i word b
-    (IsWordOf-set (marks_of words) i (get_or words (i / 64) 0) word b within (IsWordOf-marks_of words i below) is others)
+pub marks_of-set : (words : List ℕ) (marks : List Bool) (i old word : ℕ) (b : Bool) → marks_of words ≡ marks → i < length marks → IsWordOf marks i old → has_bit word (i % 64) ≡ b
+    → ((j : ℕ) → j < 64 → j ≢ i % 64 → bit_at word j ≡ bit_at old j) → marks_of (set words (i / 64) word) ≡ set marks i b
+marks_of-set words marks i old word b view within was is others =
+    let l = length-marks_of words in
+    let m = ap (λ (marks : List Bool). length marks) view in
+    let below : i < 64 * length words = omega (arith, within, l, m) in
+    marks_of-with_word words i word below ∙ ap (λ (marks : List Bool). with_word marks i word) view ∙ with_word-set marks i word b (IsWordOf-set marks i old word b within was is others)
 
 -- the marked indices of the first word, of m bits, and those of the words behind it
 marked_indices-word : (m : ℕ) → m ≡ 64 → (w : ℕ) (ws : List ℕ) → marked_indices (marks_of (w ∷ ws)) ≡ bits_of m w ++ map (λ i. m + i) (marked_indices (marks_of ws))

@@ -29,6 +29,10 @@ pub record IsWordFrom (marks : ℕ → Bool) (from at word : ℕ) : Type 0 where
   pub bit : (j : ℕ) → j / 64 ≡ at → from ≤ j → marks j ≡ has_bit word (j % 64)
   pub none : (j : ℕ) → j / 64 ≡ at → j < from → has_bit word (j % 64) ≡ false
 
+-- a word that has, from its lowest bit up, the marks of the 64 indices around index i
+abbrev pub IsWordOf : List Bool → ℕ → ℕ → Type 0
+IsWordOf marks i word = (j : ℕ) → j < 64 → has_bit word j ≡ marked marks (64 * (i / 64) + j)
+
 -- whether each index of these words is marked: a word has 64, from its lowest bit up
 unfoldable pub marks_of : List ℕ → List Bool
 marks_of words = map (λ i. has_bit (slice_index words (i / 64)) (i % 64)) (range_with_len 0 (64 * length words))

@@ -148,6 +148,7 @@ fn seek_behind<P, A: Allocator>(pool: &Pool<P, A>, link: usize, place: usize) ->
 /// Asks the closure about each pair behind the first one of a slot, from the place on, and removes
 /// the first one that it picks. Those behind it move up, and the place moves on to the first of
 /// them.
+#[inline(never)]
 fn extract_behind<K: IntKey, V, A: Allocator, F: FnMut(K, &mut V) -> bool>(
     slot: &mut Slot<(Stored<K>, Kept<V>)>,
     link: usize,
@@ -183,6 +184,7 @@ fn extract_behind<K: IntKey, V, A: Allocator, F: FnMut(K, &mut V) -> bool>(
 
 /// Asks the closure about each pair of a slot, from the place on, and removes the first one that it
 /// picks. Those behind it move up, and the place moves on to the first of them.
+#[inline(always)]
 pub(crate) fn extract<K: IntKey, V, A: Allocator, F: FnMut(K, &mut V) -> bool>(
     slot: &mut Slot<(Stored<K>, Kept<V>)>,
     pool: &mut Pool<(Stored<K>, Kept<V>), A>,
@@ -210,5 +212,8 @@ pub(crate) fn extract<K: IntKey, V, A: Allocator, F: FnMut(K, &mut V) -> bool>(
         return Some(row::take_front_linked(slot, link, pool));
     }
     *place = 1;
+    if link >= NODE_LIMIT {
+        return None;
+    }
     extract_behind(slot, link, pool, place, f)
 }

@@ -164,6 +164,18 @@ impl<P, A: Allocator> Pool<P, A> {
         Ok(at)
     }
 
+    /// Drops all pairs, and keeps the memory of the nodes.
+    pub(crate) fn clear(&mut self)
+    where
+        P: Drop,
+        ensures held { self.new.held ≡ 0 }
+        ensures room { self.old.room ≤ self.new.room }
+    {
+        self.nodes.truncate(0);
+        self.free = NOWHERE;
+        self.spare = 0;
+    }
+
     /// Makes room for `additional` more pairs. If an allocation fails, nothing changes.
     pub(crate) fn reserve(&mut self, additional: usize) -> Result<(), AllocError>
         ensures nodes { self.new.nodes ≡ self.old.nodes }

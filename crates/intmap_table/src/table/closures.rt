@@ -121,7 +121,8 @@ fn extract_slots<K: IntKey, V, A: Allocator, F: FnMut(K, &mut V) -> bool>(
         (length slots.new.rows) at.new.slot at.new.place at.new.passed }
     ensures len { length slots.new.rows ≡ length slots.old.rows }
 {
-    while let Some(slot) = slots.next_filled(at.slot) {
+    let mut left = slots.marks_from(at.slot);
+    while let Some(slot) = slots.next_in(&mut left, at.slot) {
         at.slot = slot;
         let before = at.place;
         let found = slots.extract_at(slot, &mut at.place, f);
@@ -139,6 +140,7 @@ impl<K: IntKey, V, A: Allocator> Table<K, Kept<V>, A> {
     /// Asks the closure about each pair that is left, in the order of the walk, and removes the
     /// first one that it picks. The closure may write each value. The pairs that stay keep their
     /// order.
+    #[inline]
     pub fn extract_next<F: FnMut(K, &mut V) -> bool>(
         &mut self,
         at: &mut Progress,

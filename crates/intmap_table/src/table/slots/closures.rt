@@ -37,6 +37,7 @@ impl<K: IntKey, V: Drop, A: Allocator> Slots<K, Kept<V>, A> {
 impl<K: IntKey, V, A: Allocator> Slots<K, Kept<V>, A> {
     /// Asks the closure about each pair of a slot, from the place on, and removes the first one
     /// that it picks. Those behind it move up, and the place moves on to the first of them.
+    #[inline(always)]
     pub(crate) fn extract_at<F: FnMut(K, &mut V) -> bool>(
         &mut self,
         index: usize,

@@ -11,9 +11,10 @@ use crate::linked::chain::seek;
 use crate::linked::pool::Pool;
 use crate::linked::row;
 use crate::linked::slot::Slot;
-use crate::table::slots::Slots;
+use crate::table::slots::{Slots, add_empty};
 use crate::table::stored::Stored;
 use std::alloc::Allocator;
+use std::mem;
 
 /// Drops the pairs of a slot, from its front.
 fn drop_row<P: Drop, A: Allocator>(slot: &mut Slot<P>, pool: &mut Pool<P, A>)
@@ -79,7 +80,15 @@ impl<K: IntKey, X: Drop, A: Allocator> Slots<K, X, A> {
         ensures empty { (i : ℕ) → row_at self.new i ≡ [] }
         ensures room { self.old.room ≤ self.new.room }
     {
-        drop_rows(&self.bits, &mut self.slots, &mut self.pool);
+        if mem::needs_drop::<X>() {
+            drop_rows(&self.bits, &mut self.slots, &mut self.pool);
+        } else {
+            // nothing shows in which order such values are dropped
+            let count = self.slots.len();
+            self.slots.truncate(0);
+            add_empty(&mut self.slots, count);
+            self.pool.clear();
+        }
         self.bits.clear_all();
     }
 }

@@ -1,9 +1,11 @@
-use Rattle.std.proofs.Common.{◌≡◌, ◌∷◌, Some, refl, sym, ap, ◌∙◌, subst, drop, arith}
+use Rattle.std.proofs.Common.{◌≡◌, ◌∷◌, [], Some, None, refl, sym, ap, ◌∙◌, subst, drop, arith}
 use Rattle.intmap_table.specs.Picking.{AsksAt, ExtractsBehind, PicksAt}
 use Rattle.intmap_table.specs.Taking.{TakesEach}
 use Rattle.intmap_table.specs.Writes.{TakesPairMut}
-use Rattle.intmap_table.specs.Tables.Nodes.{Filled, chain_of, row_in}
+use Rattle.intmap_table.specs.Tables.Nodes.{Filled, IsChain, IsChainSet, IsSlot, chain_of, row_in}
 use Rattle.intmap_table.proofs.TakingLemmas.{TakesEach-first, TakesEach-next}
+use Rattle.intmap_table.proofs.ExtractLemmas.{ExtractsBehind-end}
+use Rattle.intmap_table.proofs.Nodes.PathLemmas.{Chain-beyond}
 use Rattle.intmap_table.proofs.Nodes.SlotLemmas.{Slot-first, slot_is}
 use Rattle.intmap_table.proofs.Nodes.PickedLemmas.{first_goes, first_stays}
 use Rattle.intmap_table.proofs.linked.closures.extract.Goals as goal
@@ -106,4 +108,24 @@ returns-clause-step g c =
           (first_stays (PicksAt g.F.FnMut) (TakesPairMut g.F.FnMut) c.args.f.now c.pick.new.f c.extract_behind-2.new.f p run.0 chain c.extract_behind-2.result (run.0 ∷ run.4) c.extract_behind-2.new.place c.args.place.now
           (front g first) (rw c.if-pick.false at asked) run.6),
       (let within = run.7 in omega (arith, within)),
+    )
+
+pub returns-then-link-ge-NODE_LIMIT-clause-step : goal.returns-then-link-ge-NODE_LIMIT-clause-step
+returns-then-link-ge-NODE_LIMIT-clause-step g c =
+    let at = (goal.at.returns-then-link-ge-NODE_LIMIT-clause-step g c).After-pick in
+    let first = (goal.at.returns-then-link-ge-NODE_LIMIT-clause-step g c).Else-place-gt0 in
+    let pool = c.args.pool.now in
+    let p = c.in-Some.field-0-1.now in
+    let q = c.pick.ensures.2 in
+    let link = c.in-Some.link in
+    let chain = chain_of pool.nodes link in
+    let leads : IsChain pool.nodes link = subst (IsSlot pool.nodes) c.in-Some.ensures.some c.requires.leads in
+    let alone : chain ≡ [] = Chain-beyond pool.nodes link leads (omega (arith, c.if-link-ge-NODE_LIMIT.true)) in
+    let same : IsChainSet pool link chain pool link = record { is = leads; pairs = refl; spares = λ t misses k n x passes held. held; held = refl } in (
+      q ∷ chain,
+      slot_is pool (Filled link p) (Filled link q) (q ∷ chain) (q ∷ chain) pool c.args.slot.now c.pick.new.self (Slot-first pool link p q chain pool link same) c.in-Some.ensures.some refl (slot g at),
+      subst (λ L. ExtractsBehind (PicksAt g.F.FnMut) c.args.f.now L c.args.place.now None c.pick.new.f (q ∷ chain) 1) (sym (row g first))
+          (first_stays (PicksAt g.F.FnMut) (TakesPairMut g.F.FnMut) c.args.f.now c.pick.new.f c.pick.new.f p q chain None (q ∷ chain) 1 c.args.place.now
+          (front g first) (rw c.if-pick.false at (call g at)) (ExtractsBehind-end (PicksAt g.F.FnMut) c.pick.new.f (q ∷ chain) 1 alone)),
+      omega arith,
     )

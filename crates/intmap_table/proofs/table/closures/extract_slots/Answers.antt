@@ -7,6 +7,7 @@ use Rattle.intmap_table.proofs.ExtractLemmas.{All-ExtractsBehind, ExtractsBehind
 use Rattle.intmap_table.proofs.SlotNumberLemmas.{capacity-greatest}
 use Rattle.intmap_table.proofs.TakingLemmas.{TakesEach-front}
 use Rattle.intmap_table.proofs.Tables.CursorLemmas.{IsInRows-next, drop-none, drop-reached, row-few, IsInRows-reached, IsReached-at}
+use Rattle.intmap_table.proofs.Tables.AroundLemmas.{IsRowWord-set}
 use Rattle.intmap_table.proofs.Tables.ExtractLemmas.{IsAsked, ExtractsBehind-slot, IsInRows-left, IsInRows-step, StepsFrom-slot, TakesEach-slot, joined-few, place-on}
 use Rattle.intmap_table.proofs.Tables.TableLemmas.{IsTable-set_at}
 use Rattle.intmap_table.proofs.table.closures.extract_slots.Goals as goal
@@ -18,6 +19,7 @@ loop-slot-init g c = record {
   table = c.requires.table;
   len = refl;
   few = c.requires.count;
+  word = c.marks_from-left.ensures;
   at = IsInRows-reached g.K.IntKey.number_of c.args.slots.now.rows c.requires.table _ _ _ c.requires.reached;
   steps = λ r h N k step. step;
 }
@@ -94,6 +96,7 @@ loop-slot-preserved g c =
       table = table g at;
       len = len g at ∙ loop.len;
       few = rw (left g at) (omega (arith, few, loop.few));
+      word = rw (left g at) (IsRowWord-set c.loop-slot.slots.rows c.in-Some.slot c.extract_at-found.ensures.step.0 _ _ c.in-Some.ensures.left);
       at = rw (left g at) (IsInRows-left here c.in_default-found.is);
       steps = λ r h N k next. loop.steps r h N k (StepsFrom-slot here c.in_default-found.is r h N k (rw (left g at) at next));
     }

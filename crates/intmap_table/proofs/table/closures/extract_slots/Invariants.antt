@@ -2,7 +2,7 @@ use Rattle.std.proofs.Common.{◌≡◌, ◌-◌, ◌^◌, ◌<◌, length, drop
 use Rattle.intmap_table.specs.Picking.{AsksAt, PicksAt}
 use Rattle.intmap_table.specs.Writes.{TakesPairMut}
 use Rattle.intmap_table.specs.Tables.Slots.{joined}
-use Rattle.intmap_table.specs.Tables.Rows.{IsTable}
+use Rattle.intmap_table.specs.Tables.Rows.{IsRowWord, IsTable}
 use Rattle.intmap_table.specs.Taking.{TakesEach}
 use Rattle.intmap_table.proofs.ExtractLemmas.{StepsFrom}
 use Rattle.intmap_table.proofs.Tables.CursorLemmas.{IsInRows}
@@ -15,6 +15,7 @@ invariant-loop-slot g l = record {
   table : IsTable g.K.IntKey.number_of l.slots.rows;
   len : length l.slots.rows ≡ length l.initial.slots.rows;
   few : length (joined l.slots.rows) < 2 ^ 64;
+  word : IsRowWord l.slots.rows l.at.slot l.left.at l.left.word;
   at : IsInRows l.slots.rows l.at.slot l.at.place l.at.passed;
   steps : StepsFrom (PicksAt g.F.FnMut) l.initial.f (joined l.initial.slots.rows) l.initial.at.passed l.f (joined l.slots.rows) l.at.passed;
 }
