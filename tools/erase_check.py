@@ -99,6 +99,8 @@ NOT_CALLED = {
         pub(crate) fn cut_behind<P, A: Allocator>(""",
     "intmap_table/src/linked/row.rt": """
         pub(crate) fn remove<P, A: Allocator>(""",
+    "intmap_table/src/table.rt": """
+        pub fn further(&self)""",
     "intmap_table/src/table/slots.rt": """
         pub(crate) fn has_pair(&self,""",
     "intmap_table/src/table/slots/pairs.rt": """

@@ -58,6 +58,7 @@ UNCALLED = {
     "intmap_set/set/traits": ["impl<K: IntKey + fmt::Debug, A: Allocator + Copy> fmt::Debug for IntSet"],
     "intmap_table/linked/chain": ["pub(crate) fn cut_behind<"],
     "intmap_table/linked/row": ["pub(crate) fn remove<"],
+    "intmap_table/table": ["pub fn further("],
     "intmap_table/table/slots": ["pub(crate) fn has_pair("],
     "intmap_table/table/slots/pairs": ["pub(crate) fn remove_at("],
     "intmap_table/table/walk": ["pub struct Cursor {", "impl Cursor {", "fn seek<", "pub fn step(", "pub fn cut("],

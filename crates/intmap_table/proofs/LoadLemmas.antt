@@ -1,7 +1,8 @@
 -- How many residues the keys leave is how many slots hold a pair.
-use Rattle.std.proofs.Common.{◌≡◌, ◌≢◌, ℕ, zero, suc, ◌+◌, ◌<◌, ◌≤◌, Bool, false, not, cond, List, [], ◌∷◌, length, get_or, map, refl, sym, ap, ◌∙◌, subst, arith, zero-add}
+use Rattle.std.proofs.Common.{◌≡◌, ◌≢◌, ℕ, zero, suc, ◌+◌, ◌-◌, ◌<◌, ◌≤◌, Bool, false, not, cond, List, [], ◌∷◌, length, get_or, map, refl, sym, ap, ◌∙◌, subst, arith, zero-add}
 use Rattle.std.specs.Prelude.{◌==◌, filter, count_by, nat_lt}
 use Rattle.std.specs.List.{list_any, range_with_len}
+use Rattle.std.proofs.lemmas.List.{length-append}
 use Rattle.std.proofs.lemmas.List.Sums.{sum_by-cons, length-filter}
 use Rattle.std.proofs.lemmas.List.Filters.{length-filter_both}
 use Rattle.std.proofs.lemmas.Bool.{ne_eqb}
@@ -10,6 +11,8 @@ use Rattle.intmap_table.proofs.ClassLemmas.{range-next}
 use Rattle.intmap_table.specs.Classes.{residue, slot_number, agrees}
 use Rattle.intmap_table.specs.Walk.{slot_of}
 use Rattle.intmap_table.specs.Figures.{each_once, load_of}
+use Rattle.intmap_table.specs.Tables.Nodes.{further}
+use Rattle.intmap_table.specs.Tables.Slots.{joined}
 
 -- whether a list has an element
 abbrev pub is_filled : {X : Type 0} → List X → Bool
@@ -69,6 +72,13 @@ module _ {X : Type 0} where
       let rest = count_by-range_list test g d (a + 1) xs on.1 in
       let l = sum_by-cons (λ i. cond (g i) 1 0) a (range_with_len (a + 1) (length xs)) in let m = sum_by-cons (λ x. cond (test x) 1 0) x xs in
       grind (arith, first, rest, l, m)
+
+-- the pairs behind the first ones of their rows, and the rows that hold some, are all pairs
+pub further-filled : {P : Type 0} (R : List (List P)) → further R + count_by is_filled R ≡ length (joined R)
+further-filled [] = refl
+further-filled (row ∷ R) =
+    let rest = further-filled R in let l = sum_by-cons (λ ps. length ps - 1) row R in let m = sum_by-cons (λ ps. cond (is_filled ps) 1 0) row R in
+    let n = length-append row (joined R) in grind (arith, nat_tests, rest, l, m, n)
 
 module _ {X : Type 0} (f : X → ℕ) (x : X) (xs : List X) where
   -- whether class i has an element

@@ -14,7 +14,7 @@ mod slots;
 pub(crate) mod stored;
 pub mod walk;
 
-ghost use Rattle.std.specs.Prelude.{◌≡◌, ◌+◌, ◌<◌, ◌≤◌, [], OnOk, OnErr, IfOk, IfErr, None, length};
+ghost use Rattle.std.specs.Prelude.{◌≡◌, ◌+◌, ◌<◌, ◌≤◌, [], OnOk, OnErr, IfOk, IfErr, IsOk, None, length};
 ghost use Rattle.intmap_table.specs.Classes.{IsCapacity, slot_number};
 ghost use Rattle.intmap_table.specs.Bindings.{value_of, put_pair};
 ghost use Rattle.intmap_table.specs.Locations.{IsAt};
@@ -77,6 +77,7 @@ impl<K: IntKey, X, A: Allocator> Model for Table<K, X, A> {
     ghost view = { λ t. record {
       walk = joined t.slots.rows;
       capacity = length t.slots.rows;
+      nodes = t.slots.total;
     } };
 
     ghost invariant = { λ t. IsTable K.number_of t.slots.rows };
@@ -97,6 +98,14 @@ impl<K: IntKey, X, A: Allocator> Table<K, X, A> {
         ensures { result ≡ load_of K.number_of self.now.walk self.now.capacity }
     {
         self.slots.count()
+    }
+
+    /// The number of pairs behind the first ones of their slots.
+    pub fn further(&self) -> usize
+        ensures { result + load_of K.number_of self.now.walk self.now.capacity
+            ≡ length self.now.walk }
+    {
+        self.slots.further()
     }
 
     /// The number of pairs that a slot holds.
@@ -129,6 +138,7 @@ impl<K: IntKey, X: Drop, A: Allocator> Table<K, X, A> {
     pub fn clear(&mut self)
         ensures walk { self.new.walk ≡ [] }
         ensures capacity { self.new.capacity ≡ self.old.capacity }
+        ensures nodes { self.new.nodes ≡ self.old.nodes }
     {
         self.slots.clear();
     }
@@ -145,7 +155,10 @@ impl<K: IntKey, X: Drop, A: Allocator + Copy> Table<K, X, A> {
         ensures at { IfOk result (IsAt K.number_of self.new.walk self.new.capacity) }
         ensures walk { OnOk result (self.new.walk ≡ walk_of K.number_of
             (put_pair K.number_of self.old.walk self.old.capacity key value) self.old.capacity) }
-        ensures err { OnErr result (self.new.walk ≡ self.old.walk) }
+        ensures err { OnErr result (self.new ≡ self.old) }
+        ensures nodes { self.old.nodes ≤ self.new.nodes }
+        ensures succeeds { length self.old.walk
+            < load_of K.number_of self.old.walk self.old.capacity + self.old.nodes → IsOk result }
         ensures value_returned { IfErr result (λ returned. returned ≡ value) }
         ensures capacity { self.new.capacity ≡ self.old.capacity }
         ensures memory { OnErr result

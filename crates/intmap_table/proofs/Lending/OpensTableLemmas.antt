@@ -82,19 +82,19 @@ module _ (K' A' : RattleType) (g : key.Ghosts K'.Denot) (e : eq.Ghosts K'.Denot)
           (λ y. refl) (λ s. refl) (λ y b o κ. id⊢ 𝓤 _)
 
       abbrev pub grid_with : Grid K'.Denot V'.Denot → List V'.Denot → Grid K'.Denot V'.Denot
-      grid_with t ws = record { walk = with_values t.walk ws; capacity = t.capacity }
+      grid_with t ws = record { walk = with_values t.walk ws; capacity = t.capacity; nodes = t.nodes }
 
       abbrev pub grid_fill : Grid K'.Denot (Ptr × V'.Denot) → Grid K'.Denot V'.Denot
-      grid_fill t = record { walk = lent_pairs t.walk; capacity = t.capacity }
+      grid_fill t = record { walk = lent_pairs t.walk; capacity = t.capacity; nodes = t.nodes }
 
       pub table-puts : (t : (Ir Kv).Denot) (ws : List V'.Denot) → view Kv (inside_opens.put t ws) ≡ grid_with (view Kv t) ws
-      table-puts t ws = λ i. record { walk = joined-rows_with t.slots.rows ws i; capacity = length-rows_with t.slots.rows ws i }
+      table-puts t ws = λ i. record { walk = joined-rows_with t.slots.rows ws i; capacity = length-rows_with t.slots.rows ws i; nodes = t.slots.total }
 
       pub table-goods : (t : (Ir Kv).Denot) (ws : List V'.Denot) → good Kv t → good Kv (inside_opens.put t ws)
       table-goods t ws ok = IsTable-same_keys t.slots.rows (rows_with t.slots.rows ws) (sym (row_keys-rows_with t.slots.rows ws)) g.number_of ok
 
       pub table-fills : (h : (Ir Hv).Denot) → grid_fill (view Hv h) ≡ view Kv (inside_opens.fill h)
-      table-fills h = λ i. record { walk = lent_pairs-joined h.slots.rows i; capacity = sym (length-map h.slots.rows lent_pairs) i }
+      table-fills h = λ i. record { walk = lent_pairs-joined h.slots.rows i; capacity = sym (length-map h.slots.rows lent_pairs) i; nodes = h.slots.total }
 
       -- a table is lent as a table of holes
       abbrev pub table_opens : OpensAs 𝓛 (V V') (Tr Kv) (Tr Hv) l

@@ -118,7 +118,8 @@ module _ {P : Type 0} where
             (Spares-trans cs ds es (chain_of cs l) (Spares-but cs ds m n q (r.before ++ p ∷ []) rest (chain_of cs l) same at_m split)
             (Spares-but ds es k m p r.before (q ∷ rest) (chain_of cs l) same' now_k two))
             (omega (arith, all, less, h, h'));
-        room = changed.room ∙ out.room;
+        total = changed.total ∙ out.total;
+        ready = (let kept = changed.held in let all = changed.total in let some = out.ready in omega (arith, kept, all, some));
       }
 
   pub Cut-out : (a : Pool P) (l i k m : ℕ) (p : P) (n : ℕ) (r q : P) (b : Pool P) (n' : ℕ) (p' : P) (d : Pool P)
@@ -150,7 +151,8 @@ module _ {P : Type 0} where
         pairs = next.pairs;
         len = refl;
         chain = set_of_leads a l rest b n behind (Spares-but cs ds l n q [] rest (chain_of cs l) same at' next.pairs) (omega (arith, all, h));
-        room = out.room;
+        total = out.total;
+        ready = out.ready;
       }
 
   nil : (ps : List P) → length ps ≡ 0 → ps ≡ []
@@ -172,7 +174,8 @@ module _ {P : Type 0} where
         pairs = cut.pairs ∙ ap (λ ps. cut.before ++ p ∷ ps) none;
         len = sym cut.len;
         chain = subst (λ ps. IsChainSet a l ps b m) (ap (λ ps. cut.before ++ ps) none ∙ append-nil cut.before) cut.chain;
-        room = cut.room;
+        total = cut.total;
+        ready = cut.ready;
       }
 
   -- a node has another pair
@@ -229,7 +232,7 @@ module _ {P : Type 0} where
         pairs = last.pairs ∙ ap (λ x. last.before ++ x ∷ []) pair;
         len = sym last.len;
         chain = subst (λ ps. IsChainSet a l ps b l) list swapped;
-        room = changed.room;
+        total = changed.total;
       }
 
   -- nodes with other pairs are as they were

@@ -35,6 +35,12 @@ home_put_in : {P : Type 0} (home : P → ℕ) (i : ℕ) (b : Bool) (ps : List P)
 home_put_in home i true ps p own e = home-put_second home i ps p own e
 home_put_in home i false ps p own e = (e, own)
 
+-- there is one more
+pub length-put_in : {P : Type 0} (b : Bool) (ps : List P) (p : P) → length (put_in b ps p) ≡ length ps + 1
+length-put_in true [] p = refl
+length-put_in true (q ∷ ps) p = omega arith
+length-put_in false ps p = omega arith
+
 put_in_filled : {P : Type 0} (b : Bool) (ps : List P) (p : P) → true ≡ nat_lt 0 (length (put_in b ps p))
 put_in_filled true ps p = put_second-filled ps p
 put_in_filled false ps p = sym (lt-ltb 0 (length (p ∷ ps)) (omega arith))

@@ -25,9 +25,9 @@ module _ {K X : Type 0} where
   set-write_rows (row ∷ R) zero j v = refl
   set-write_rows (row ∷ R) (suc i) j v = ap (λ S. row ∷ S) (set-write_rows R i j v)
 
-  -- what contracts see of slots says what their rows are and how much room there is
-  pub same_contents : (R S : List (List (K × X))) (room : ℕ) → R ≡ S → ◌≡◌ {A = Contents K X} (record { rows = R; room = room }) (record { rows = S; room = room })
-  same_contents R S room e i = record { rows = e i; room = room }
+  -- what contracts see of slots says what their rows are and for how many pairs there is memory
+  pub same_contents : (R S : List (List (K × X))) (total : ℕ) → R ≡ S → ◌≡◌ {A = Contents K X} (record { rows = R; total = total }) (record { rows = S; total = total })
+  same_contents R S total e i = record { rows = e i; total = total }
 
   -- a slot with a pair holds a first one
   first_in : (a : Pool (K × X)) (s : Slot (K × X)) → 0 < length (row_in a.nodes s) → (l : ℕ) × (p : K × X) × (s ≡ Filled l p)

@@ -84,7 +84,7 @@ module _ {P : Type 0} where
     pub pairs : chain_of a.nodes link ≡ reverse (chain_of b.nodes turned) ++ chain_of b.nodes left
     pub spares : Spares a.nodes b.nodes (chain_of a.nodes link)
     pub held : b.held ≡ a.held
-    pub room : b.room ≡ a.room
+    pub total : b.total ≡ a.total
 
   -- at the start no pair is turned
   pub Turned-start : (a : Pool P) (link : ℕ) → IsChain a.nodes link → IsTurned a link a nowhere link
@@ -95,7 +95,7 @@ module _ {P : Type 0} where
     pairs = sym (ap (λ ps. reverse ps ++ chain_of a.nodes link) (Chain-none a.nodes));
     spares = λ t misses k n p passes at. at;
     held = refl;
-    room = refl;
+    total = refl;
   }
 
   -- a link below the limit leads to a pair that is not turned yet
@@ -130,7 +130,7 @@ module _ {P : Type 0} where
         pairs = split ∙ sym (list ∙ again);
         spares = Spares-trans a.nodes cs ds (chain_of a.nodes link) h.spares (Spares-but cs ds left n p (reverse qs) ps (chain_of a.nodes link) move.same is split);
         held = changed.held ∙ h.held;
-        room = changed.room ∙ h.room;
+        total = changed.total ∙ h.total;
       }
 
   -- and fewer pairs are left

@@ -35,17 +35,17 @@ module _ {K X : Type 0} where
   -- what contracts see of a pool in which a value was written
   pub Pool-written : (cs : List (Node (K × X))) (c : ℕ) (held : (n : ℕ) × (p : K × X) × (node_at cs c ≡ Held n p)) (x : Node (K × X)) (v : X) (most spare : ℕ) → length cs ≤ node_limit → x ≡ get_or cs c x
       → ◌≡◌ {A = Pool (K × X)}
-      (record { nodes = set cs c (node_with x v); held = length (set cs c (node_with x v)) - spare; room = spare + (most - length (set cs c (node_with x v))) })
-      (record { nodes = write_node cs c v; held = length cs - spare; room = spare + (most - length cs) })
+      (record { nodes = set cs c (node_with x v); held = length (set cs c (node_with x v)) - spare; total = length (set cs c (node_with x v)) + (most - length (set cs c (node_with x v))) })
+      (record { nodes = write_node cs c v; held = length cs - spare; total = length cs + (most - length cs) })
   Pool-written cs c held x v most spare few here i = record {
     nodes = set-write_node cs c held.0 held.1 x v held.2 (read_held cs c held.0 held.1 x few held.2 here) i;
     held = length-set cs c (node_with x v) i - spare;
-    room = spare + (most - length-set cs c (node_with x v) i);
+    total = length-set cs c (node_with x v) i + (most - length-set cs c (node_with x v) i);
   }
 
   -- a pool with a value written is one of which that node is changed
   pub Changed-written : (a : Pool (K × X)) (c n : ℕ) (p : K × X) (v : X) → node_at a.nodes c ≡ Held n p → IsChanged a c n (p.0, v) (record a { nodes = write_node a.nodes c v })
-  Changed-written a c n p v held = record { nodes = write_node-held a.nodes c n p v held; held = refl; room = refl }
+  Changed-written a c n p v held = record { nodes = write_node-held a.nodes c n p v held; held = refl; total = refl }
 
   -- the pairs with the value written are the pairs with that pair changed
   pub set-write_at : (ps : List (K × X)) (i : ℕ) (p : K × X) (v : X) → p ≡ get_or ps i p → set ps i (p.0, v) ≡ write_at ps i v

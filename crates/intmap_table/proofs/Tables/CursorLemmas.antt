@@ -7,7 +7,7 @@ use Rattle.intmap_table.specs.Tables.Slots.{joined, count_before, IsNextRow}
 use Rattle.intmap_table.proofs.Tables.AroundLemmas.{joined-before, joined-around, joined-taken, length-around, next-taken, left-same, taken-same}
 use Rattle.std.specs.List.{flat_map, range_with_len}
 use Rattle.std.proofs.lemmas.Grind.{flat_map-append}
-use Rattle.std.proofs.lemmas.List.Elements.{All-append, All-drop, All-take}
+use Rattle.std.proofs.lemmas.List.Elements.{All-append, All-drop, All-get_or, All-take}
 use Rattle.intmap_table.specs.Classes.{slot_number}
 use Rattle.intmap_table.specs.Picking.{IsReached, pairs_before}
 use Rattle.intmap_table.specs.Tables.Rows.{IsTable}
@@ -119,6 +119,13 @@ module _ {K X : Type 0} (number : K → ℕ) (R : List (List (K × X))) (table :
   pub pairs_before-joined : (at : Cursor) → pairs_before number (joined R) (length R) at ≡ count_before R at.slot at.place
   pairs_before-joined at i = length (slots-before at.slot i) + min at.place (length (slot_of-joined number R table at.slot i))
 
+-- a pair of a row belongs to its slot
+pub slot_number-here : {K X : Type 0} (number : K → ℕ) (R : List (List (K × X))) (i j : ℕ) (p : K × X) → IsTable number R → j < length (get_or R i []) → get_or (get_or R i []) j p ≡ p
+    → slot_number number p.0 (length R) ≡ i
+slot_number-here {K = K} {X = X} number R i j p table below here =
+    let Own = λ (q : K × X). slot_number number q.0 (length R) ≡ i in
+    subst Own here (All-get_or Own (get_or R i []) j p below (table.in_place i (row-within R i (omega (arith, below)))))
+
 -- the rows without the pair p at place j of row i
 module _ {K X : Type 0} (number : K → ℕ) (R : List (List (K × X))) (i j : ℕ) (p : K × X) (below : j < length (get_or R i [])) (here : get_or (get_or R i []) j p ≡ p) where
   abbrev front : List (K × X)
@@ -165,3 +172,7 @@ module _ {K X : Type 0} (number : K → ℕ) (R : List (List (K × X))) (i j : �
       drop-before R i j ∙ ap (λ Z. Z ++ joined (drop (i + 1) R)) (drop_more (get_or R i []) j p below ∙ ap (λ q. q ∷ rest) here)
       ∙ ap (λ Z. p ∷ Z) (sym (drop-before without i j
       ∙ (λ k. (ap (drop j) row-left ∙ ap (λ n. drop n (front ++ rest)) (sym fits) ∙ drop-append_seam front rest) k ++ left-same R i (front ++ rest) k)))
+
+  -- the place is in the row that is left, or at its end
+  pub within-cut : j ≤ length (get_or without i [])
+  within-cut = let row = ap length row-left ∙ length-append front rest in omega (arith, row, fits)

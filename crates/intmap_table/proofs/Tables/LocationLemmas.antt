@@ -81,8 +81,8 @@ module _ {K X : Type 0} (number : K → ℕ) (R : List (List (K × X))) (l : Loc
         ∙ walk_of-write_value number W (length R) l.key v ∙ ap (λ L. write_value number L l.key v) (walk_of-joined number R table)
 
     pub Grid-written : HasDistinctKeys number (joined R)
-        → ◌≡◌ {A = Grid K X} (record { walk = joined written; capacity = length written }) (record { walk = write_value number (joined R) l.key v; capacity = length R })
-    Grid-written distinct = Grid-same _ _ (walk-written distinct) (ap length (write_rows-set R l.slot l.place v) ∙ length-set R l.slot row_written)
+        → (nodes : ℕ) → ◌≡◌ {A = Grid K X} (record { walk = joined written; capacity = length written; nodes = nodes }) (record { walk = write_value number (joined R) l.key v; capacity = length R; nodes = nodes })
+    Grid-written distinct nodes = Grid-same _ _ (walk-written distinct) (ap length (write_rows-set R l.slot l.place v) ∙ length-set R l.slot row_written) refl
 
     -- and the rows are a table as before
     pub IsTable-written : IsTable number written

@@ -1,5 +1,5 @@
 -- What calls of a table do to the rows of its slots, read as its walk.
-use Rattle.std.proofs.Common.{◌≡◌, ℕ, zero, suc, List, [], ◌∷◌, ◌++◌, get_or, take, refl, sym, ap, ◌∙◌, append_assoc, append-nil, ◌≢◌, inl, inr, ◌<◌, length, set, None, arith, zero-add, length-set, get_or-set_same, get_or-set_other}
+use Rattle.std.proofs.Common.{◌+◌, ◌≡◌, ℕ, zero, suc, List, [], ◌∷◌, ◌++◌, get_or, take, refl, sym, ap, ◌∙◌, append_assoc, append-nil, ◌≢◌, inl, inr, ◌<◌, length, set, None, arith, zero-add, length-set, get_or-set_same, get_or-set_other}
 use Rattle.intmap_table.specs.Tables.Slots.{Grid, joined}
 use Rattle.std.specs.Prelude.{All, count_by}
 use Rattle.std.specs.List.{flat_map, range_with_len}
@@ -17,11 +17,12 @@ use Rattle.intmap_table.proofs.ClassLemmas.{class-joined, flat_map-rows}
 use Rattle.intmap_table.proofs.DistinctLemmas.{All-swap_out}
 use Rattle.intmap_table.proofs.PositionLemmas.{swap_out-none, position-from_none}
 use Rattle.intmap_table.proofs.WalkLemmas.{slot_of-take_key, slot_of-take_key-other, slot_of-put_pair, slot_of-put_pair-other, value_of-slot_of, class_size-slot_of, reach-slot_of}
-use Rattle.intmap_table.proofs.LoadLemmas.{is_filled, load_of-rows}
+use Rattle.intmap_table.proofs.LoadLemmas.{is_filled, load_of-rows, further-filled}
+use Rattle.intmap_table.specs.Tables.Nodes.{further}
 
--- tables with the same walk and the same number of slots are seen alike
-pub Grid-same : {K X : Type 0} (s t : Grid K X) → s.walk ≡ t.walk → s.capacity ≡ t.capacity → s ≡ t
-Grid-same s t walk capacity = ap (λ W. record s { walk = W }) walk ∙ ap (λ n. record t { capacity = n }) capacity
+-- tables with the same walk, number of slots and memory are seen alike
+pub Grid-same : {K X : Type 0} (s t : Grid K X) → s.walk ≡ t.walk → s.capacity ≡ t.capacity → s.nodes ≡ t.nodes → s ≡ t
+Grid-same s t walk capacity nodes i = record { walk = walk i; capacity = capacity i; nodes = nodes i }
 
 module _ {P : Type 0} where
   -- the rows before a place and the row there, joined
@@ -59,6 +60,10 @@ module _ {K X : Type 0} (number : K → ℕ) (R : List (List (K × X))) (table :
   load_of-joined =
       load_of-rows number (length R) (agrees-slot_number number (length R) table.capacity) (λ k. slot_number-below number k (length R) table.capacity)
       R (joined R) refl (λ i _. slot_of-joined i)
+
+  -- the pairs behind the first ones of their slots are those that the load doesn't count
+  pub further-joined : further R + load_of number (joined R) (length R) ≡ length (joined R)
+  further-joined = let load = load_of-joined in let all = further-filled R in omega (arith, load, all)
 
   -- with another row i, the walk is that of a list that differs in slot i alone
   pub joined-set : (i : ℕ) (row L : List (K × X)) → i < length R

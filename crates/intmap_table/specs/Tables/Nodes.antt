@@ -27,11 +27,11 @@ pub data Slot (P : Type 0) : Type 0 where
   Empty : Slot P
   Filled : ℕ → P → Slot P
 
--- the nodes of all slots: how many of them hold a pair, and how many more pairs they can take without an allocation
+-- the nodes of all slots, how many of them hold a pair, and how many pairs there is memory for in all
 pub record Pool (P : Type 0) : Type 0 where
   pub nodes : List (Node P)
   pub held : ℕ
-  pub room : ℕ
+  pub total : ℕ
 
 module _ {P : Type 0} where
   -- the node that these parts make
@@ -113,7 +113,7 @@ module _ {P : Type 0} where
     pub is : node_at b.nodes c ≡ Held link p
     pub others : (k n : ℕ) (q : P) → node_at a.nodes k ≡ Held n q → node_at b.nodes k ≡ Held n q
     pub held : b.held ≡ a.held + 1
-    pub room : a.room ≤ b.room + 1
+    pub total : a.total ≤ b.total
 
   -- node c, which held this pair, is free, and the other nodes are as they were
   pub record IsReleased (a : Pool P) (c : ℕ) (p : P) (b : Pool P) : Type 0 where
@@ -122,13 +122,14 @@ module _ {P : Type 0} where
     pub free : ℕ
     pub nodes : b.nodes ≡ set a.nodes c (Free free)
     pub held : a.held ≡ b.held + 1
-    pub room : b.room ≡ a.room + 1
+    pub total : b.total ≡ a.total
+    pub ready : b.held < b.total
 
   -- node c, which held a pair, has another link or pair, and the other nodes are as they were
   pub record IsChanged (a : Pool P) (c link : ℕ) (p : P) (b : Pool P) : Type 0 where
     pub nodes : b.nodes ≡ set a.nodes c (Held link p)
     pub held : b.held ≡ a.held
-    pub room : b.room ≡ a.room
+    pub total : b.total ≡ a.total
 
   -- where link l led, link m leads through these pairs
   pub record IsChainSet (a : Pool P) (l : ℕ) (ps : List P) (b : Pool P) (m : ℕ) : Type 0 where
@@ -143,7 +144,8 @@ module _ {P : Type 0} where
     pub pairs : chain_of a.nodes l ≡ left ++ p ∷ []
     pub len : i ≡ length left
     pub chain : IsChainSet a l left b m
-    pub room : b.room ≡ a.room + 1
+    pub total : b.total ≡ a.total
+    pub ready : b.held < b.total
 
   -- p was the pair at place i of those that link l led through; link m leads through the others
   pub record IsCut (a : Pool P) (l i : ℕ) (p : P) (b : Pool P) (m : ℕ) : Type 0 where
@@ -152,7 +154,8 @@ module _ {P : Type 0} where
     pub pairs : chain_of a.nodes l ≡ before ++ p ∷ behind
     pub len : length before ≡ i
     pub chain : IsChainSet a l (before ++ behind) b m
-    pub room : b.room ≡ a.room + 1
+    pub total : b.total ≡ a.total
+    pub ready : b.held < b.total
 
   -- r was the last pair that link l led through, at place i, and p has its place
   pub record IsLastSet (a : Pool P) (l i : ℕ) (r p : P) (b : Pool P) : Type 0 where
@@ -160,7 +163,7 @@ module _ {P : Type 0} where
     pub pairs : chain_of a.nodes l ≡ before ++ r ∷ []
     pub len : i ≡ length before
     pub chain : IsChainSet a l (before ++ p ∷ []) b l
-    pub room : b.room ≡ a.room
+    pub total : b.total ≡ a.total
 
   -- node c is the last one that link l leads to, at place i
   pub record IsLast (nodes : List (Node P)) (l i c : ℕ) : Type 0 where

@@ -8,10 +8,10 @@ use Rattle.intmap_table.specs.Tables.Bits.{IsWordFrom}
 use Rattle.intmap_table.specs.Tables.Nodes.{Slot, Empty, Pool, nowhere, rows_in, AreLinked, IsChainSet, IsSlotSet}
 use Rattle.intmap_table.specs.Tables.Slots.{AreMarked, write_at}
 
--- the pairs of each slot, and how many more pairs that share a slot need no allocation
+-- the pairs of each slot, and how many pairs behind the first ones there is memory for in all
 pub record Contents (K X : Type 0) : Type 0 where
   pub rows : List (List (K × X))
-  pub room : ℕ
+  pub total : ℕ
 
 -- the pairs of slot i
 abbrev pub row_at : {K X : Type 0} → Contents K X → ℕ → List (K × X)

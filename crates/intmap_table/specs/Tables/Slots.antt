@@ -9,10 +9,11 @@ write_at [] i v = []
 write_at (p ∷ ps) zero v = (p.0, v) ∷ ps
 write_at (p ∷ ps) (suc i) v = p ∷ write_at ps i v
 
--- a table: its walk, and how many slots it has
+-- a table: its walk, how many slots it has, and how many pairs behind the first ones of their slots there is memory for in all
 pub record Grid (K X : Type 0) : Type 0 where
   pub walk : List (K × X)
   pub capacity : ℕ
+  pub nodes : ℕ
 
 -- the rows, one after another
 abbrev pub joined : {P : Type 0} → List (List P) → List P

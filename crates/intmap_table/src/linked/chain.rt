@@ -126,8 +126,8 @@ pub(crate) fn push_behind<P, A: Allocator>(
     ensures fits { OnOk result (link.new < 2 ^ 48) }
     ensures err { OnErr result (pool.new ≡ pool.old) }
     ensures pair_returned { IfErr result (λ returned. returned ≡ pair) }
-    ensures room { OnOk result (pool.old.room ≤ pool.new.room + 1) }
-    ensures succeeds { 0 < pool.old.room → IsOk result }
+    ensures total { pool.old.total ≤ pool.new.total }
+    ensures succeeds { pool.old.held < pool.old.total → IsOk result }
 {
     if *link >= NODE_LIMIT {
         *link = pool.add(NOWHERE, pair)?;
@@ -211,7 +211,8 @@ pub(crate) fn swap_behind<P, A: Allocator>(
     ensures chain { IsChainSet pool.old link
         (set (chain_of pool.old.nodes link) place pair) pool.new link }
     ensures alone { Spares pool.old.nodes pool.new.nodes (result ∷ []) }
-    ensures room { pool.new.room ≡ pool.old.room }
+    ensures held { pool.new.held ≡ pool.old.held }
+    ensures total { pool.new.total ≡ pool.old.total }
 {
     let at = seek(pool, link, place);
     pool.replace(at, pair)

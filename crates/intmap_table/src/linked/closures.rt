@@ -32,7 +32,7 @@ fn unlink<P, A: Allocator>(
     requires held { (p : P) × (node_at pool.old.nodes at ≡ Held next p) }
     requires fits { next < 2 ^ 48 }
     ensures walks { IsUnlinked pool.old slot.old before at next result pool.new slot.new }
-    ensures room { pool.new.room ≡ pool.old.room + 1 }
+    ensures total { pool.new.total ≡ pool.old.total }
 {
     let pair = pool.release(at);
     if before >= NODE_LIMIT {
@@ -60,7 +60,7 @@ fn retain_behind<K: IntKey, V: Drop, A: Allocator, F: FnMut(K, &V) -> bool>(
         × (row : List (K × V)) × IsChainSet pool.old link row pool.new now
         × Retains (KeepsAt F.FnMut) f.old (chain_of pool.old.nodes link) row f.new
         × (result ≡ length row) }
-    ensures room { pool.old.room ≤ pool.new.room }
+    ensures total { pool.new.total ≡ pool.old.total }
 {
     let mut before = NOWHERE;
     let mut at = link;
@@ -92,7 +92,7 @@ pub(crate) fn retain<K: IntKey, V: Drop, A: Allocator, F: FnMut(K, &V) -> bool>(
     ensures row { (row : List (K × V)) × IsSlotSet pool.old slot.old row pool.new slot.new
         × Retains (KeepsAt F.FnMut) f.old (row_in pool.old.nodes slot.old) row f.new
         × (result ≡ length row) }
-    ensures room { pool.old.room ≤ pool.new.room }
+    ensures total { pool.new.total ≡ pool.old.total }
 {
     while let Some((link, first)) = slot.get() {
         if keeps_pair(first, f) {
@@ -117,7 +117,7 @@ pub(crate) fn write_each<K: IntKey, V, A: Allocator, F: FnMut(K, &mut V)>(
         (row_in pool.old.nodes slot.old) }
     ensures row { (row : List (K × V)) × IsSlotSet pool.old slot.old row pool.new slot.new
         × Writes (WritesAt F.FnMut) f.old (row_in pool.old.nodes slot.old) row f.new }
-    ensures room { pool.new.room ≡ pool.old.room }
+    ensures total { pool.new.total ≡ pool.old.total }
 {
     let Some((link, _)) = slot.get() else {
         return;
@@ -168,7 +168,7 @@ fn extract_behind<K: IntKey, V, A: Allocator, F: FnMut(K, &mut V) -> bool>(
         f.new (p ∷ row) place.new
         × (place.new ≤ length row + 1) }
     ensures on { place.old ≤ place.new }
-    ensures room { pool.old.room ≤ pool.new.room }
+    ensures total { pool.new.total ≡ pool.old.total }
 {
     let (mut before, mut at) = seek_behind(pool, link, *place - 1);
     while let Some((next, _)) = pool.get(at) {
@@ -200,7 +200,7 @@ pub(crate) fn extract<K: IntKey, V, A: Allocator, F: FnMut(K, &mut V) -> bool>(
         f.new row place.new
         × (place.new ≤ length row) }
     ensures on { place.old ≤ place.new }
-    ensures room { pool.old.room ≤ pool.new.room }
+    ensures total { pool.new.total ≡ pool.old.total }
 {
     let Some((link, _)) = slot.get() else {
         return None;

@@ -12,8 +12,8 @@ use std::alloc::{AllocError, Allocator};
 use std::marker::Model;
 
 /// Nodes, and a list of those without a pair. Contracts see what each has, how many hold a pair,
-/// and how many more pairs they take without an allocation. A call that needs more than
-/// `NODE_LIMIT` nodes fails as if an allocation failed.
+/// and how many pairs there is memory for in all. A call that needs more than `NODE_LIMIT` nodes
+/// fails as if an allocation failed.
 #[derive(Drop)]
 pub(crate) struct Pool<P, A: Allocator> {
     nodes: Vec<Node<P>, A>,
@@ -32,7 +32,8 @@ impl<P, A: Allocator> Model for Pool<P, A> {
     ghost view = { λ p. record {
       nodes = p.nodes.items;
       held = length p.nodes.items - p.spare;
-      room = p.spare + (min (vec_capacity p.nodes) node_limit - length p.nodes.items);
+      total = length p.nodes.items
+          + (min (vec_capacity p.nodes) node_limit - length p.nodes.items);
     } };
 
     ghost invariant = { λ p. IsPool p.nodes.items p.free p.spare };
@@ -128,7 +129,7 @@ impl<P, A: Allocator> Pool<P, A> {
         ensures fits { IfOk result (λ at. at < node_limit) }
         ensures err { OnErr result (self.new ≡ self.old) }
         ensures pair_returned { IfErr result (λ returned. returned ≡ pair) }
-        ensures succeeds { 0 < self.old.room → IsOk result }
+        ensures succeeds { self.old.held < self.old.total → IsOk result }
     {
         if self.spare == 0 {
             return self.add_new(link, pair);
@@ -154,7 +155,7 @@ impl<P, A: Allocator> Pool<P, A> {
         ensures fits { IfOk result (λ at. at < node_limit) }
         ensures err { OnErr result (self.new ≡ self.old) }
         ensures pair_returned { IfErr result (λ returned. returned ≡ pair) }
-        ensures succeeds { 0 < self.old.room → IsOk result }
+        ensures succeeds { self.old.held < self.old.total → IsOk result }
     {
         let at = self.nodes.len();
         if at == NODE_LIMIT || self.nodes.reserve(1).is_err() {
@@ -169,7 +170,7 @@ impl<P, A: Allocator> Pool<P, A> {
     where
         P: Drop,
         ensures held { self.new.held ≡ 0 }
-        ensures room { self.old.room ≤ self.new.room }
+        ensures total { self.new.total ≡ self.old.total }
     {
         self.nodes.truncate(0);
         self.free = NOWHERE;
@@ -180,8 +181,10 @@ impl<P, A: Allocator> Pool<P, A> {
     pub(crate) fn reserve(&mut self, additional: usize) -> Result<(), AllocError>
         ensures nodes { self.new.nodes ≡ self.old.nodes }
         ensures held { self.new.held ≡ self.old.held }
-        ensures room { OnOk result (additional ≤ self.new.room) }
-        ensures none { OnErr result (self.old.room < additional) }
+        ensures room { OnOk result (self.new.held + additional ≤ self.new.total) }
+        ensures some { OnErr result (0 < additional) }
+        ensures none { OnErr result (self.old.total < self.old.held + additional) }
+        ensures total { self.old.total ≤ self.new.total }
         ensures err { OnErr result (self.new ≡ self.old) }
     {
         if additional <= self.spare {
@@ -198,7 +201,7 @@ impl<P, A: Allocator> Pool<P, A> {
     pub(crate) fn with_room(alloc: A, room: usize) -> Result<Pool<P, A>, AllocError>
         ensures nodes { IfOk result (λ made. made.nodes ≡ []) }
         ensures held { IfOk result (λ made. made.held ≡ 0) }
-        ensures room { IfOk result (λ made. made.room ≡ room) }
+        ensures total { IfOk result (λ made. made.total ≡ room) }
     {
         if room > NODE_LIMIT {
             return Err(AllocError);

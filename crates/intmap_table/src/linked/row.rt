@@ -91,9 +91,9 @@ pub(crate) fn push<P, A: Allocator>(
     ensures err { OnErr result (pool.new ≡ pool.old) }
     ensures slot { OnErr result (slot.new ≡ slot.old) }
     ensures pair_returned { IfErr result (λ returned. returned ≡ pair) }
-    ensures room { OnOk result (pool.old.room ≤ pool.new.room + 1) }
+    ensures total { pool.old.total ≤ pool.new.total }
     ensures memory { OnErr result (0 < length (row_in pool.old.nodes slot.old)) }
-    ensures succeeds { 0 < pool.old.room → IsOk result }
+    ensures succeeds { pool.old.held < pool.old.total → IsOk result }
 {
     let Some((link, _)) = slot.get() else {
         slot.fill(NOWHERE, pair);
@@ -113,8 +113,9 @@ pub(crate) fn take<P, A: Allocator>(slot: &mut Slot<P>, pool: &mut Pool<P, A>, p
     ensures value { result ≡ slice_index_or (row_in pool.old.nodes slot.old) place result }
     ensures row { IsSlotSet pool.old slot.old
         (swap_remove (row_in pool.old.nodes slot.old) place result) pool.new slot.new }
-    ensures room { pool.old.room ≤ pool.new.room }
-    ensures ready { 0 < length (row_in pool.new.nodes slot.new) → 0 < pool.new.room }
+    ensures total { pool.new.total ≡ pool.old.total }
+    ensures ready { 0 < length (row_in pool.new.nodes slot.new)
+        → pool.new.held < pool.new.total }
 {
     let Some((link, _)) = slot.get() else {
         unreachable!();
@@ -148,7 +149,7 @@ pub(crate) fn replace<P, A: Allocator>(
     ensures value { result ≡ slice_index_or (row_in pool.old.nodes slot.old) place result }
     ensures row { IsSlotSet pool.old slot.old
         (swap_remove (row_in pool.old.nodes slot.old) place result ++ new ∷ []) pool.new slot.new }
-    ensures room { pool.new.room ≡ pool.old.room }
+    ensures total { pool.new.total ≡ pool.old.total }
 {
     let Some((link, _)) = slot.get() else {
         unreachable!();
@@ -173,7 +174,7 @@ pub(crate) fn take_front<P, A: Allocator>(slot: &mut Slot<P>, pool: &mut Pool<P,
     requires some { 0 < length (row_in pool.old.nodes slot.old) }
     ensures row { (row : List P) × (row_in pool.old.nodes slot.old ≡ result ∷ row)
         × IsSlotSet pool.old slot.old row pool.new slot.new }
-    ensures room { pool.old.room ≤ pool.new.room }
+    ensures total { pool.new.total ≡ pool.old.total }
 {
     let Some((link, _)) = slot.get() else {
         unreachable!();
@@ -193,7 +194,7 @@ pub(crate) fn take_front_linked<P, A: Allocator>(
     ensures value { slot.old ≡ Filled link result }
     ensures row { (first : P) → IsSlotSet pool.old (Filled link first)
         (chain_of pool.old.nodes link) pool.new slot.new }
-    ensures room { pool.old.room ≤ pool.new.room }
+    ensures total { pool.new.total ≡ pool.old.total }
 {
     if link >= NODE_LIMIT {
         return slot.take();
@@ -214,7 +215,7 @@ fn take_first_of_several<P, A: Allocator>(
     ensures value { slot.old ≡ Filled link result }
     ensures row { (first : P) → IsSlotSet pool.old (Filled link first)
         (chain_of pool.old.nodes link) pool.new slot.new }
-    ensures room { pool.old.room ≤ pool.new.room }
+    ensures total { pool.new.total ≡ pool.old.total }
 {
     let mut link = link;
     let second = take_behind(&mut link, pool);
@@ -229,7 +230,7 @@ pub(crate) fn remove<P, A: Allocator>(slot: &mut Slot<P>, pool: &mut Pool<P, A>,
     ensures value { result ≡ slice_index_or (row_in pool.old.nodes slot.old) place result }
     ensures row { IsSlotSet pool.old slot.old (take place (row_in pool.old.nodes slot.old)
         ++ drop (place + 1) (row_in pool.old.nodes slot.old)) pool.new slot.new }
-    ensures room { pool.old.room ≤ pool.new.room }
+    ensures total { pool.new.total ≡ pool.old.total }
 {
     if place == 0 {
         return take_front(slot, pool);
@@ -253,11 +254,11 @@ pub(crate) fn put_in<P, A: Allocator>(
     pair: P,
 )
     requires leads { IsSlot pool.old.nodes slot.old }
-    requires ready { 0 < length (row_in pool.old.nodes slot.old) → 0 < pool.old.room }
+    requires ready { 0 < length (row_in pool.old.nodes slot.old)
+        → pool.old.held < pool.old.total }
     ensures row { IsSlotSet pool.old slot.old
         (put_in behind (row_in pool.old.nodes slot.old) pair) pool.new slot.new }
-    ensures room { pool.old.room ≤ pool.new.room + 1 }
-    ensures alone { row_in pool.old.nodes slot.old ≡ [] → pool.new.room ≡ pool.old.room }
+    ensures total { pool.old.total ≤ pool.new.total }
 {
     let Some(_) = slot.get() else {
         slot.fill(NOWHERE, pair);
@@ -275,10 +276,10 @@ pub(crate) fn put_in<P, A: Allocator>(
 fn put_behind_first<P, A: Allocator>(slot: &mut Slot<P>, pool: &mut Pool<P, A>, pair: P)
     requires leads { IsSlot pool.old.nodes slot.old }
     requires filled { 0 < length (row_in pool.old.nodes slot.old) }
-    requires ready { 0 < pool.old.room }
+    requires ready { pool.old.held < pool.old.total }
     ensures row { IsSlotSet pool.old slot.old
         (put_second (row_in pool.old.nodes slot.old) pair) pool.new slot.new }
-    ensures room { pool.old.room ≤ pool.new.room + 1 }
+    ensures total { pool.old.total ≤ pool.new.total }
 {
     let Some((link, _)) = slot.get() else {
         unreachable!();
@@ -294,10 +295,10 @@ fn put_behind_first<P, A: Allocator>(slot: &mut Slot<P>, pool: &mut Pool<P, A>, 
 fn put_before_first<P, A: Allocator>(slot: &mut Slot<P>, pool: &mut Pool<P, A>, pair: P)
     requires leads { IsSlot pool.old.nodes slot.old }
     requires filled { 0 < length (row_in pool.old.nodes slot.old) }
-    requires ready { 0 < pool.old.room }
+    requires ready { pool.old.held < pool.old.total }
     ensures row { IsSlotSet pool.old slot.old (pair ∷ row_in pool.old.nodes slot.old)
         pool.new slot.new }
-    ensures room { pool.old.room ≤ pool.new.room + 1 }
+    ensures total { pool.old.total ≤ pool.new.total }
 {
     let Some((link, _)) = slot.get() else {
         unreachable!();

@@ -13,7 +13,7 @@ pub(crate) fn turn<P, A: Allocator>(pool: &mut Pool<P, A>, link: usize) -> usize
     ensures chain { IsChainSet pool.old link (reverse (chain_of pool.old.nodes link))
         pool.new result }
     ensures fits { result < 2 ^ 48 }
-    ensures room { pool.new.room ≡ pool.old.room }
+    ensures total { pool.new.total ≡ pool.old.total }
 {
     let mut turned = NOWHERE;
     let mut left = link;

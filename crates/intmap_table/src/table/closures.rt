@@ -29,6 +29,7 @@ fn retain_slots<K: IntKey, V: Drop, A: Allocator, F: FnMut(K, &V) -> bool>(
         (joined slots.new.rows) f.new }
     ensures table { IsTable K.number_of slots.new.rows }
     ensures len { length slots.new.rows ≡ length slots.old.rows }
+    ensures total { slots.new.total ≡ slots.old.total }
     ensures count { result ≡ length (joined slots.new.rows) }
 {
     let mut count = 0;
@@ -53,6 +54,7 @@ fn write_slots<K: IntKey, V, A: Allocator, F: FnMut(K, &mut V)>(
         (joined slots.new.rows) f.new }
     ensures table { IsTable K.number_of slots.new.rows }
     ensures len { length slots.new.rows ≡ length slots.old.rows }
+    ensures total { slots.new.total ≡ slots.old.total }
 {
     let mut from = 0;
     let mut left = slots.marks_from(from);
@@ -72,6 +74,7 @@ impl<K: IntKey, V: Drop, A: Allocator> Table<K, Kept<V>, A> {
         ensures pairs { Retains (KeepsAt F.FnMut) f.old self.old.walk
             self.new.walk f.new }
         ensures capacity { self.new.capacity ≡ self.old.capacity }
+        ensures nodes { self.new.nodes ≡ self.old.nodes }
         ensures own { walk_of K.number_of self.new.walk self.new.capacity ≡ self.new.walk }
         ensures count { result ≡ length self.new.walk }
     {
@@ -120,6 +123,7 @@ fn extract_slots<K: IntKey, V, A: Allocator, F: FnMut(K, &mut V) -> bool>(
     ensures reached { IsReached K.number_of (joined slots.new.rows)
         (length slots.new.rows) at.new.slot at.new.place at.new.passed }
     ensures len { length slots.new.rows ≡ length slots.old.rows }
+    ensures total { slots.new.total ≡ slots.old.total }
 {
     let mut left = slots.marks_from(at.slot);
     while let Some(slot) = slots.next_in(&mut left, at.slot) {
@@ -156,6 +160,7 @@ impl<K: IntKey, V, A: Allocator> Table<K, Kept<V>, A> {
         ensures reached { IsReached K.number_of self.new.walk self.new.capacity
             at.new.slot at.new.place at.new.passed }
         ensures capacity { self.new.capacity ≡ self.old.capacity }
+        ensures nodes { self.new.nodes ≡ self.old.nodes }
         ensures own { walk_of K.number_of self.new.walk self.new.capacity ≡ self.new.walk }
     {
         let Some((key, kept)) = extract_slots(&mut self.slots, at, f) else {
@@ -172,6 +177,7 @@ impl<K: IntKey, V, A: Allocator> Table<K, Kept<V>, A> {
         ensures pairs { Writes (WritesAt F.FnMut) f.old self.old.walk
             self.new.walk f.new }
         ensures capacity { self.new.capacity ≡ self.old.capacity }
+        ensures nodes { self.new.nodes ≡ self.old.nodes }
         ensures own { walk_of K.number_of self.new.walk self.new.capacity ≡ self.new.walk }
     {
         write_slots(&mut self.slots, f);

@@ -3,6 +3,7 @@ ghost use Rattle.std.specs.Prelude.{◌≡◌, ◌+◌, ◌^◌, ◌<◌, ◌≤
 ghost use Rattle.intmap_table.specs.Classes.{IsCapacity, slot_number};
 ghost use Rattle.intmap_table.specs.Bindings.{value_of, put_pair};
 ghost use Rattle.intmap_table.specs.Walk.{walk_of};
+ghost use Rattle.intmap_table.specs.Figures.{load_of};
 ghost use Rattle.intmap_table.specs.Locations.{IsAt};
 
 use crate::key::IntKey;
@@ -58,7 +59,7 @@ impl<K: IntKey, X: Drop, A: Allocator + Copy> Table<K, X, A> {
 
     /// Moves all pairs, in the order of the walk, to their slots among `capacity` slots. If the
     /// table has that many already, no pair moves. It also makes room for `additional` more pairs
-    /// that share a slot, which the contract doesn't show. If an allocation fails, nothing changes.
+    /// that share a slot. If an allocation fails, nothing changes.
     pub fn grow_to(&mut self, capacity: usize, additional: usize) -> Result<(), AllocError>
         requires capacity { IsCapacity capacity }
         requires larger { self.old.capacity ≤ capacity }
@@ -66,7 +67,10 @@ impl<K: IntKey, X: Drop, A: Allocator + Copy> Table<K, X, A> {
         ensures walk { OnOk result
             (self.new.walk ≡ walk_of K.number_of self.old.walk capacity) }
         ensures capacity { OnOk result (self.new.capacity ≡ capacity) }
+        ensures room { OnOk result (length self.new.walk + additional
+            ≤ load_of K.number_of self.new.walk self.new.capacity + self.new.nodes) }
         ensures err { OnErr result (self.new ≡ self.old) }
+        ensures kept { self.old.capacity ≡ capacity → self.old.nodes ≤ self.new.nodes }
         ensures free { self.old.capacity ≡ capacity → additional ≡ 0 → IsOk result }
     {
         if capacity == self.slots.len() {

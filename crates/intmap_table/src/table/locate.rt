@@ -1,5 +1,5 @@
 //! Where the pair of a key is, and calls on a located pair, which compare no key.
-ghost use Rattle.std.specs.Prelude.{◌≡◌, ◌+◌, IfOk, IfErr, IfNone, OnErr, Some, None};
+ghost use Rattle.std.specs.Prelude.{◌≤◌, ◌≡◌, ◌+◌, IfOk, IfErr, IfNone, OnErr, Some, None};
 ghost use Rattle.intmap_table.specs.Classes.{slot_number};
 ghost use Rattle.intmap_table.specs.Bindings.{HasDistinctKeys, value_of, take_key, put_pair};
 ghost use Rattle.intmap_table.specs.HandingOver.{HandsOver};
@@ -86,6 +86,7 @@ impl<K: IntKey, X, A: Allocator> Table<K, X, A> {
         ensures walk { self.new.walk ≡ walk_of K.number_of
             (take_key K.number_of self.old.walk self.old.capacity at.key) self.old.capacity }
         ensures capacity { self.new.capacity ≡ self.old.capacity }
+        ensures nodes { self.new.nodes ≡ self.old.nodes }
     {
         let (_, value) = self.slots.take_at(at.slot, at.place);
         value
@@ -101,6 +102,7 @@ impl<K: IntKey, X, A: Allocator> Table<K, X, A> {
         ensures walk { self.new.walk ≡ walk_of K.number_of
             (put_pair K.number_of self.old.walk self.old.capacity at.key value) self.old.capacity }
         ensures capacity { self.new.capacity ≡ self.old.capacity }
+        ensures nodes { self.new.nodes ≡ self.old.nodes }
         ensures key { K.is_valid at.key }
     {
         let pair = (Stored::new(at.key), value);
@@ -125,6 +127,7 @@ impl<K: IntKey, V, A: Allocator> Table<K, Kept<V>, A> {
             (λ back. self.new.walk ≡ walk_of K.number_of
             (put_pair K.number_of self.old.walk self.old.capacity at.key back) self.old.capacity) }
         ensures capacity { self.new.capacity ≡ self.old.capacity }
+        ensures nodes { self.old.nodes ≤ self.new.nodes }
         ensures key { IfNone result (K.is_valid at.key) }
     {
         let (_, kept) = self.slots.take_at(at.slot, at.place);

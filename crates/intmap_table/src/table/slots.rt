@@ -1,5 +1,5 @@
 //! The slots of a table, whose further pairs lie in the nodes of one pool. Contracts see the pairs
-//! of each slot, its row, and how many more pairs that share a slot need no allocation. Which slots
+//! of each slot, its row, and for how many pairs behind the first ones there is memory. Which slots
 //! hold a pair is known here alone.
 //!
 //! `pairs` has the calls on a pair of one slot, `closures` those with a closure, `writing` that
@@ -19,7 +19,7 @@ ghost use Rattle.std.specs.Prelude.{◌≡◌, ◌+◌, ◌-◌, ◌<◌, ◌≤
 ghost use Rattle.intmap_table.specs.Classes.{IsCapacity, same_key};
 ghost use Rattle.intmap_table.specs.Reach.{through_first};
 ghost use Rattle.intmap_table.specs.Tables.Bits.{IsWordFrom};
-ghost use Rattle.intmap_table.specs.Tables.Nodes.{Empty};
+ghost use Rattle.intmap_table.specs.Tables.Nodes.{Empty, further};
 ghost use Rattle.intmap_table.specs.Tables.Rows.{row_at};
 ghost use Rattle.intmap_table.specs.Tables.Slots.{joined, IsNextRow};
 
@@ -54,7 +54,10 @@ impl<K: IntKey, X, A: Allocator> Model for Slots<K, X, A> {
 
     ghost Value = { Contents K X };
 
-    ghost view = { λ s. record { rows = rows_in s.slots.items s.pool.nodes; room = s.pool.room } };
+    ghost view = { λ s. record {
+      rows = rows_in s.slots.items s.pool.nodes;
+      total = s.pool.total;
+    } };
 
     ghost invariant = { λ s. AreRows K.number_of s.slots.items s.pool s.bits s.mask };
 }
@@ -216,7 +219,8 @@ impl<K: IntKey, X: Drop, A: Allocator + Copy> Slots<K, X, A> {
     pub(crate) fn new(alloc: A, capacity: usize, room: usize) -> Result<Slots<K, X, A>, AllocError>
         requires { IsCapacity capacity }
         ensures rows { IfOk result (λ made. made.rows ≡ replicate capacity []) }
-        ensures room { IfOk result (λ made. made.room ≡ room) }
+        ensures further { IfOk result (λ made. further made.rows ≡ 0) }
+        ensures total { IfOk result (λ made. made.total ≡ room) }
     {
         let mut slots = Vec::with_capacity(alloc, capacity)?;
         let bits = Bits::new(alloc, capacity)?;

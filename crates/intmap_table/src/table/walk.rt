@@ -5,7 +5,7 @@ ghost use Rattle.std.specs.Iterator.{YieldsFirst};
 ghost use Rattle.intmap_table.specs.Picking.{pairs_before};
 ghost use Rattle.intmap_table.specs.Tables.Slots.{joined, count_before};
 ghost use Rattle.intmap_table.specs.Tables.Rows.{row_at};
-ghost use Rattle.intmap_table.specs.Walk.{walk_of, ArePassed};
+ghost use Rattle.intmap_table.specs.Walk.{slot_of, walk_of, ArePassed};
 ghost use Rattle.intmap_table.specs.Classes.{slot_number};
 
 use crate::key::IntKey;
@@ -70,6 +70,10 @@ impl<K: IntKey, X, A: Allocator> Table<K, X, A> {
         ensures passed { pairs_before K.number_of self.now.walk self.now.capacity at.new
             ≡ pairs_before K.number_of self.now.walk self.now.capacity at.old
             + cond (is_some result) 1 0 }
+        ensures slot { IfSome result (λ pair. at.new.slot
+            ≡ slot_number K.number_of pair.0.now self.now.capacity) }
+        ensures within { IfSome result (λ _. at.new.place
+            ≤ length (slot_of K.number_of self.now.walk self.now.capacity at.new.slot)) }
         ensures stays { IfNone result (at.new ≡ at.old) }
     {
         if !seek(&self.slots, at) {
@@ -98,8 +102,13 @@ impl<K: IntKey, X, A: Allocator> Table<K, X, A> {
             ≡ take (pairs_before K.number_of self.old.walk self.old.capacity at.old) self.old.walk }
         ensures passed { pairs_before K.number_of self.new.walk self.new.capacity at.new
             ≡ pairs_before K.number_of self.old.walk self.old.capacity at.old }
+        ensures slot { IfSome result
+            (λ pair. at.new.slot ≡ slot_number K.number_of pair.0 self.old.capacity) }
+        ensures within { IfSome result (λ _. at.new.place
+            ≤ length (slot_of K.number_of self.new.walk self.new.capacity at.new.slot)) }
         ensures none { IfNone result ((self.new ≡ self.old) × (at.new ≡ at.old)) }
         ensures capacity { self.new.capacity ≡ self.old.capacity }
+        ensures nodes { self.new.nodes ≡ self.old.nodes }
         ensures own { walk_of K.number_of self.new.walk self.new.capacity ≡ self.new.walk }
     {
         if !seek(&self.slots, at) {
@@ -115,6 +124,7 @@ impl<K: IntKey, X, A: Allocator> Table<K, X, A> {
         requires { ArePassed K.number_of self.old.walk self.old.capacity from.old }
         ensures first { YieldsFirst (λ t. t.walk) self.old result self.new }
         ensures capacity { self.new.capacity ≡ self.old.capacity }
+        ensures nodes { self.new.nodes ≡ self.old.nodes }
         ensures own { walk_of K.number_of self.new.walk self.new.capacity ≡ self.new.walk }
         ensures passed { ArePassed K.number_of self.new.walk self.new.capacity from.new }
         ensures slot { IfSome result

@@ -1,6 +1,8 @@
 //! Walks that are kept as a cursor, and not as an iterator that borrows the map.
-ghost use Rattle.std.specs.Prelude.{◌≡◌, ◌+◌, [], ◌∷◌, cond, drop, is_some, length, take, IfNone, MatchOption, None};
+ghost use Rattle.std.specs.Prelude.{◌≡◌, ◌+◌, [], ◌∷◌, cond, drop, is_some, ◌≤◌, length, take, IfNone, IfSome, MatchOption, None};
 ghost use Rattle.intmap_table.specs.Bindings.{Updates};
+ghost use Rattle.intmap_table.specs.Classes.{slot_number};
+ghost use Rattle.intmap_table.specs.Walk.{slot_of};
 ghost use Rattle.intmap.specs.Map.{IsMap, passed, with_walk};
 
 use crate::map::IntMap;
@@ -39,6 +41,10 @@ impl<K: IntKey, V, A: Allocator + Copy> IntMap<K, V, A> {
             ≡ (pair.0.now, pair.1.now) ∷ drop (passed K.number_of self.now at.new) self.now.walk) }
         ensures passed { passed K.number_of self.now at.new
             ≡ passed K.number_of self.now at.old + cond (is_some result) 1 0 }
+        ensures slot { IfSome result (λ pair. at.new.slot
+            ≡ slot_number K.number_of pair.0.now self.now.capacity) }
+        ensures within { IfSome result (λ _. at.new.place
+            ≤ length (slot_of K.number_of self.now.walk self.now.capacity at.new.slot)) }
         ensures stays { IfNone result (at.new ≡ at.old) }
         ensures valid { IsMap K.number_of K.is_valid self.now }
     {
@@ -73,6 +79,10 @@ impl<K: IntKey, V, A: Allocator + Copy> IntMap<K, V, A> {
         ensures before { take (passed K.number_of self.new at.new) self.new.walk
             ≡ take (passed K.number_of self.old at.old) self.old.walk }
         ensures passed { passed K.number_of self.new at.new ≡ passed K.number_of self.old at.old }
+        ensures slot { IfSome result
+            (λ pair. at.new.slot ≡ slot_number K.number_of pair.0 self.old.capacity) }
+        ensures within { IfSome result (λ _. at.new.place
+            ≤ length (slot_of K.number_of self.new.walk self.new.capacity at.new.slot)) }
         ensures stays { IfNone result (at.new ≡ at.old) }
         ensures state { self.new ≡ with_walk self.old self.new.walk }
         ensures updates { MatchOption result (self.new.walk ≡ self.old.walk)

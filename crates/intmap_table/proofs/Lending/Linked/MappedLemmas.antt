@@ -27,7 +27,7 @@ module _ {P Q : Type 0} (f : P → Q) where
   map_slots S = map map_slot S
 
   abbrev pub map_pool : Pool P → Pool Q
-  map_pool a = record { nodes = map_nodes a.nodes; held = a.held; room = a.room }
+  map_pool a = record { nodes = map_nodes a.nodes; held = a.held; total = a.total }
 
   map_node-if : (b : Bool) (c : Node P) → cond b (map_node c) (Free 0) ≡ map_node (cond b c (Free 0))
   map_node-if true c = refl

@@ -49,7 +49,7 @@ module _ {K V : Type 0} where
 
   -- what contracts see of slots as they were before their values were lent
   abbrev pub lent_contents : Contents K (Ptr × V) → Contents K V
-  lent_contents h = record { rows = map lent_pairs h.rows; room = h.room }
+  lent_contents h = record { rows = map lent_pairs h.rows; total = h.total }
 
   contents-was : (r : List (K × (Ptr × V))) → contents_of (values_of r) ≡ values_of (map was r)
   contents-was [] = refl
@@ -110,7 +110,7 @@ module _ (K' A' : RattleType) (g : key.Ghosts K'.Denot) (e : eq.Ghosts K'.Denot)
   old h = contents-were (laid h.slots.items h.pool.nodes) ∙ ap (map values_of) (sym (laid-map was h.slots.items h.pool.nodes))
 
   pub fills : (h : IH) → lent_contents (view K' A' g e a Hv h) ≡ view K' A' g e a Kv (IO.fill h)
-  fills h i = record { rows = sym (rows-map was h.slots.items h.pool.nodes) i; room = h.pool.room }
+  fills h i = record { rows = sym (rows-map was h.slots.items h.pool.nodes) i; total = h.pool.total }
 
   module _ (s : I) (ok : good K' A' g e a Kv s) where
     abbrev pub S : List (Slot P)
@@ -128,12 +128,12 @@ module _ (K' A' : RattleType) (g : key.Ghosts K'.Denot) (e : eq.Ghosts K'.Denot)
 
     pub puts : (ws : List V'.Denot) → length ws ≡ length (joined (view K' A' g e a Kv s).rows)
         → view K' A' g e a Kv (IO.put s (given ws)) ≡ contents_with (view K' A' g e a Kv s) ws
-    puts ws long i = record { rows = rows-written S cs once ws long i; room = s.pool.room }
+    puts ws long i = record { rows = rows-written S cs once ws long i; total = s.pool.total }
 
     -- slots with other values still lead through their own pairs
     pub goods : (us : List V'.Denot) → good K' A' g e a Kv (IO.put s us)
     goods us = let keys = written-keys S cs once us in
-        AreRows-same_keys S cs (slots_with S us) (nodes_with S cs us) (sym keys.0) (sym keys.1) g.number_of s.pool.held s.pool.room s.bits s.mask ok
+        AreRows-same_keys S cs (slots_with S us) (nodes_with S cs us) (sym keys.0) (sym keys.1) g.number_of s.pool.held s.pool.total s.bits s.mask ok
 
     pub counted : length (drained (order S cs) (values_laid S cs)) ≡ length (joined (view K' A' g e a Kv s).rows)
     counted = ap length (values-drained S cs once) ∙ length-map (joined (rows_in S cs)) (λ p. p.1)
@@ -142,7 +142,7 @@ module _ (K' A' : RattleType) (g : key.Ghosts K'.Denot) (e : eq.Ghosts K'.Denot)
       -- slots with holes do, too
       pub goods_too : good K' A' g e a Hv h
       goods_too = AreRows-same_keys (map_slots was h.slots.items) (map_nodes was h.pool.nodes) h.slots.items h.pool.nodes
-          (slot_keys-was h.slots.items) (node_keys-was h.pool.nodes) g.number_of h.pool.held h.pool.room h.bits h.mask
+          (slot_keys-was h.slots.items) (node_keys-was h.pool.nodes) g.number_of h.pool.held h.pool.total h.bits h.mask
           (subst (good K' A' g e a Kv) (sym k) ok)
 
       -- the holes are lent in the order of a walk

@@ -138,7 +138,7 @@ module _ (K' A' : RattleType) (g : key.Ghosts K'.Denot) (e : eq.Ghosts K'.Denot)
           record {
             nodes = row_put-take NO.count NO.put cs ws i;
             held = long i - p.spare;
-            room = p.spare + (min p.nodes.cap node_limit - long i);
+            total = long i + (min p.nodes.cap node_limit - long i);
           }
 
       pub pool_goods : (p : (Ir Kv).Denot) (ws : List V'.Denot) → good Kv p → good Kv (inside_opens.put p ws)
@@ -155,7 +155,7 @@ module _ (K' A' : RattleType) (g : key.Ghosts K'.Denot) (e : eq.Ghosts K'.Denot)
           record {
             nodes = map_nodes was h.nodes.items;
             held = long i - h.spare;
-            room = h.spare + (min h.nodes.cap node_limit - long i);
+            total = long i + (min h.nodes.cap node_limit - long i);
           }
 
       pub pool_celled : (h : (Ir Hv).Denot) → inside_opens.cells_in h ≡ pool_cells (view Hv h)

@@ -37,13 +37,13 @@ module _ {K X Y : Type 0} where
         ∙ ap sizes (rows-map key T ds) ∙ sizes-map_rows key (rows_in T ds)
 
     -- the slots lead through their own pairs
-    pub AreRows-same_keys : (number : K → ℕ) (held room : ℕ) (marks : List Bool) (mask : ℕ)
-        → AreRows number S (record { nodes = cs; held = held; room = room }) marks mask → AreRows number T (record { nodes = ds; held = held; room = room }) marks mask
-    AreRows-same_keys number held room marks mask are =
+    pub AreRows-same_keys : (number : K → ℕ) (held total : ℕ) (marks : List Bool) (mask : ℕ)
+        → AreRows number S (record { nodes = cs; held = held; total = total }) marks mask → AreRows number T (record { nodes = ds; held = held; total = total }) marks mask
+    AreRows-same_keys number held total marks mask are =
         let long : length S ≡ length T = sym (length-map S (map_slot key)) ∙ ap length slots ∙ length-map T (map_slot key) in
-        let a : Pool (K × X) = record { nodes = cs; held = held; room = room } in
-        let b : Pool (K × Y) = record { nodes = ds; held = held; room = room } in
-        let pools : ◌≡◌ {A = Pool K} (map_pool key a) (map_pool key b) = λ i. record { nodes = nodes i; held = held; room = room } in
+        let a : Pool (K × X) = record { nodes = cs; held = held; total = total } in
+        let b : Pool (K × Y) = record { nodes = ds; held = held; total = total } in
+        let pools : ◌≡◌ {A = Pool K} (map_pool key a) (map_pool key b) = λ i. record { nodes = nodes i; held = held; total = total } in
         let home : ℕ → K → ℕ = λ n k. slot_number number k n in
         let linked : AreLinked (home (length T)) (slot_keys T) (map_pool key b) =
         subst (λ n. AreLinked (home n) (slot_keys T) (map_pool key b)) long (subst (λ ks. AreLinked (home (length S)) ks (map_pool key b)) slots

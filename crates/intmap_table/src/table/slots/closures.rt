@@ -25,7 +25,7 @@ impl<K: IntKey, V: Drop, A: Allocator> Slots<K, Kept<V>, A> {
         ensures row { (row : List (K × V)) × (self.new.rows ≡ set self.old.rows index row)
             × Retains (KeepsAt F.FnMut) f.old (row_at self.old index) row f.new
             × (result ≡ length row) }
-        ensures room { self.old.room ≤ self.new.room }
+        ensures total { self.new.total ≡ self.old.total }
     {
         let slot = &mut self.slots[index];
         let count = closures::retain(slot, &mut self.pool, f);
@@ -53,7 +53,7 @@ impl<K: IntKey, V, A: Allocator> Slots<K, Kept<V>, A> {
             f.new row place.new
             × (place.new ≤ length row) }
         ensures on { place.old ≤ place.new }
-        ensures room { self.old.room ≤ self.new.room }
+        ensures total { self.new.total ≡ self.old.total }
     {
         let slot = &mut self.slots[index];
         let found = closures::extract(slot, &mut self.pool, place, f);
@@ -69,7 +69,7 @@ impl<K: IntKey, V, A: Allocator> Slots<K, Kept<V>, A> {
             (row_at self.old index) }
         ensures row { (row : List (K × V)) × (self.new.rows ≡ set self.old.rows index row)
             × Writes (WritesAt F.FnMut) f.old (row_at self.old index) row f.new }
-        ensures room { self.new.room ≡ self.old.room }
+        ensures total { self.new.total ≡ self.old.total }
     {
         closures::write_each(&mut self.slots[index], &mut self.pool, f);
     }

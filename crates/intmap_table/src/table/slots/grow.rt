@@ -105,9 +105,9 @@ fn move_row<K: IntKey, X, A: Allocator>(
         bits.old mask }
     requires free { (j : ℕ) → j % (old_mask + 1) ≡ index → slice_index_or
         (rows_in (blank index (old_mask + 1) slots.old.items) pool.old.nodes) j [] ≡ [] }
-    requires room { length
+    requires room { pool.old.held + length
         (row_in old_pool.old.nodes (slice_index_or slots.old.items index Empty))
-        ≤ pool.old.room + 1 }
+        ≤ pool.old.total + 1 }
     ensures are { AreRows K.number_of (blank (index + 1) (old_mask + 1) slots.new.items) pool.new
         bits.new mask }
     ensures placed { (L : List (K × X)) → HasMoved K.number_of L (mask + 1)
@@ -120,8 +120,9 @@ fn move_row<K: IntKey, X, A: Allocator>(
         → slice_index_or slots.new.items j Empty ≡ slice_index_or slots.old.items j Empty }
     ensures spares { Spares old_pool.old.nodes old_pool.new.nodes
         (row_in old_pool.old.nodes (slice_index_or slots.old.items index Empty)) }
-    ensures room { pool.old.room + 1 ≤ pool.new.room
+    ensures held { pool.new.held + 1 ≤ pool.old.held
         + length (row_in old_pool.old.nodes (slice_index_or slots.old.items index Empty)) }
+    ensures total { pool.old.total ≤ pool.new.total }
     ensures counted { placed.new ≡ placed.old
         + length (row_in old_pool.old.nodes (slice_index_or slots.old.items index Empty)) }
 {
@@ -170,14 +171,16 @@ fn move_rows<K: IntKey, X, A: Allocator>(
         bits.old mask }
     requires none { (j : ℕ) → slice_index_or
         (rows_in (blank 0 (old_mask + 1) slots.old.items) pool.old.nodes) j [] ≡ [] }
-    requires room { further (rows_in (take (old_mask + 1) slots.old.items) old_pool.old.nodes)
-        ≤ pool.old.room }
+    requires room { pool.old.held
+        + further (rows_in (take (old_mask + 1) slots.old.items) old_pool.old.nodes)
+        ≤ pool.old.total }
     ensures are { AreRows K.number_of slots.new.items pool.new bits.new mask }
     ensures placed { HasMoved K.number_of
         (joined (rows_in (take (old_mask + 1) slots.old.items) old_pool.old.nodes)) (mask + 1)
         (rows_in slots.new.items pool.new.nodes) }
-    ensures room { pool.old.room ≤ pool.new.room
+    ensures held { pool.new.held ≤ pool.old.held
         + further (rows_in (take (old_mask + 1) slots.old.items) old_pool.old.nodes) }
+    ensures total { pool.old.total ≤ pool.new.total }
     ensures counted { placed.new ≡ placed.old + length
         (joined (rows_in (take (old_mask + 1) slots.old.items) old_pool.old.nodes)) }
 {
@@ -191,7 +194,7 @@ fn move_rows<K: IntKey, X, A: Allocator>(
 
 impl<K: IntKey, X, A: Allocator> Slots<K, X, A> {
     /// How many pairs are behind the first ones of their slots.
-    pub(super) fn further(&self) -> usize
+    pub(crate) fn further(&self) -> usize
         ensures further { result ≡ further self.now.rows }
         ensures limit { result ≤ node_limit }
     {
@@ -224,7 +227,7 @@ fn bits_and_room<P: Drop, A: Allocator + Copy>(
     requires { capacity ≤ 2 ^ 63 }
     ensures bits { IfOk result (λ r. r.0 ≡ replicate (64 * ((capacity + 63) / 64)) false) }
     ensures held { IfOk result (λ r. r.1.held ≡ 0) }
-    ensures room { IfOk result (λ r. r.1.room ≡ room) }
+    ensures total { IfOk result (λ r. r.1.total ≡ room) }
 {
     let bits = Bits::new(alloc, capacity)?;
     let pool = Pool::with_room(alloc, room)?;
@@ -236,8 +239,10 @@ impl<K: IntKey, X: Drop, A: Allocator + Copy> Slots<K, X, A> {
     /// changes.
     pub(crate) fn reserve(&mut self, additional: usize) -> Result<(), AllocError>
         ensures rows { self.new.rows ≡ self.old.rows }
-        ensures room { OnOk result (additional ≤ self.new.room) }
-        ensures none { OnErr result (self.old.room < additional) }
+        ensures room { OnOk result (further self.new.rows + additional ≤ self.new.total) }
+        ensures some { OnErr result (0 < additional) }
+        ensures none { OnErr result (self.old.total < further self.old.rows + additional) }
+        ensures total { self.old.total ≤ self.new.total }
         ensures err { OnErr result (self.new ≡ self.old) }
     {
         self.pool.reserve(additional)
@@ -256,7 +261,8 @@ impl<K: IntKey, X: Drop, A: Allocator + Copy> Slots<K, X, A> {
         requires room { further self.old.rows ≤ room }
         ensures placed { OnOk result
             (HasMoved K.number_of (joined self.old.rows) capacity self.new.rows) }
-        ensures room { OnOk result (room ≤ self.new.room + further self.old.rows) }
+        ensures further { OnOk result (further self.new.rows ≤ further self.old.rows) }
+        ensures total { OnOk result (room ≤ self.new.total) }
         ensures counted { OnOk result (placed.new ≡ placed.old + length (joined self.old.rows)) }
         ensures err { OnErr result (self.new ≡ self.old) }
         ensures none_placed { OnErr result (placed.new ≡ placed.old) }
@@ -296,7 +302,7 @@ impl<K: IntKey, X: Drop, A: Allocator + Copy> Slots<K, X, A> {
         ensures len { OnOk result (length self.new.rows ≡ capacity) }
         ensures rows { OnOk result ((j : ℕ) → j < capacity
             → row_at self.new j ≡ slot_of K.number_of (joined self.old.rows) capacity j) }
-        ensures room { OnOk result (additional ≤ self.new.room) }
+        ensures room { OnOk result (further self.new.rows + additional ≤ self.new.total) }
         ensures counted { OnOk result (placed.new ≡ placed.old + length (joined self.old.rows)) }
         ensures err { OnErr result (self.new ≡ self.old) }
         ensures none_placed { OnErr result (placed.new ≡ placed.old) }

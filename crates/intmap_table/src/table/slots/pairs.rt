@@ -2,6 +2,7 @@
 ghost use Rattle.std.specs.Prelude.{◌≡◌, ◌+◌, ◌<◌, ◌≤◌, [], ◌∷◌, ◌++◌, List, drop, length, set, swap_remove, take, slice_index_or, slice_set, cond, false, IfOk, IfErr, IsOk, OnErr, OnOk};
 ghost use Rattle.intmap_table.specs.Classes.{slot_number};
 ghost use Rattle.intmap_table.specs.Tables.Rows.{row_at};
+ghost use Rattle.intmap_table.specs.Tables.Nodes.{further};
 
 use crate::bits::Bits;
 use crate::key::IntKey;
@@ -37,9 +38,9 @@ impl<K: IntKey, X, A: Allocator> Slots<K, X, A> {
             (self.new.rows ≡ set self.old.rows index (row_at self.old index ++ pair ∷ [])) }
         ensures err { OnErr result (self.new ≡ self.old) }
         ensures pair_returned { IfErr result (λ returned. returned ≡ pair) }
-        ensures room { OnOk result (self.old.room ≤ self.new.room + 1) }
+        ensures total { self.old.total ≤ self.new.total }
         ensures memory { OnErr result (0 < length (row_at self.old index)) }
-        ensures succeeds { 0 < self.old.room → IsOk result }
+        ensures succeeds { further self.old.rows < self.old.total → IsOk result }
     {
         let slot = &mut self.slots[index];
         let place = row::push(slot, &mut self.pool, pair)?;
@@ -52,8 +53,11 @@ impl<K: IntKey, X, A: Allocator> Slots<K, X, A> {
     pub(crate) fn put_back(&mut self, index: usize, pair: (Stored<K>, X))
         requires within { index < length self.old.rows }
         requires own { slot_number K.number_of pair.0 (length self.old.rows) ≡ index }
-        requires ready { 0 < length (row_at self.old index) → 0 < self.old.room }
-        ensures { self.new.rows ≡ set self.old.rows index (row_at self.old index ++ pair ∷ []) }
+        requires ready { 0 < length (row_at self.old index)
+            → further self.old.rows < self.old.total }
+        ensures rows { self.new.rows
+            ≡ set self.old.rows index (row_at self.old index ++ pair ∷ []) }
+        ensures total { self.old.total ≤ self.new.total }
     {
         match self.push(index, pair) {
             Ok(_) => {}
@@ -68,8 +72,9 @@ impl<K: IntKey, X, A: Allocator> Slots<K, X, A> {
         ensures value { result ≡ slice_index_or (row_at self.old index) place result }
         ensures rows { self.new.rows
             ≡ set self.old.rows index (swap_remove (row_at self.old index) place result) }
-        ensures room { self.old.room ≤ self.new.room }
-        ensures ready { 0 < length (row_at self.new index) → 0 < self.new.room }
+        ensures total { self.new.total ≡ self.old.total }
+        ensures ready { 0 < length (row_at self.new index)
+            → further self.new.rows < self.new.total }
     {
         let slot = &mut self.slots[index];
         let pair = row::take(slot, &mut self.pool, place);
@@ -83,7 +88,7 @@ impl<K: IntKey, X, A: Allocator> Slots<K, X, A> {
         ensures value { result ≡ slice_index_or (row_at self.old index) place result }
         ensures rows { self.new.rows ≡ set self.old.rows index
             (take place (row_at self.old index) ++ drop (place + 1) (row_at self.old index)) }
-        ensures room { self.old.room ≤ self.new.room }
+        ensures total { self.new.total ≡ self.old.total }
     {
         let slot = &mut self.slots[index];
         let pair = row::remove(slot, &mut self.pool, place);
@@ -105,7 +110,7 @@ impl<K: IntKey, X, A: Allocator> Slots<K, X, A> {
         ensures value { result ≡ slice_index_or (row_at self.old index) place result }
         ensures rows { self.new.rows ≡ set self.old.rows index
             (swap_remove (row_at self.old index) place result ++ new ∷ []) }
-        ensures room { self.new.room ≡ self.old.room }
+        ensures total { self.new.total ≡ self.old.total }
     {
         row::replace(&mut self.slots[index], &mut self.pool, place, new)
     }
@@ -116,7 +121,7 @@ impl<K: IntKey, X, A: Allocator> Slots<K, X, A> {
         requires { 0 < length (row_at self.old index) }
         ensures row { (row : List (K × X)) × (row_at self.old index ≡ result ∷ row)
             × (self.new.rows ≡ set self.old.rows index row) }
-        ensures room { self.old.room ≤ self.new.room }
+        ensures total { self.new.total ≡ self.old.total }
     {
         let slot = &mut self.slots[index];
         let pair = row::take_front(slot, &mut self.pool);

@@ -10,7 +10,8 @@ use crate::linked::slot::Slot;
 use crate::steps::Steps;
 use std::alloc::Allocator;
 
-/// Puts a pair behind the first one of a slot, or before it, marks the slot, and counts the pair. If the slot holds a pair, there must be room for another.
+/// Puts a pair behind the first one of a slot, or before it, marks the slot, and counts the pair.
+/// If the slot holds a pair, there must be room for another.
 #[inline(always)]
 pub(super) fn put_at<P, A: Allocator>(
     slots: &mut Vec<Slot<P>, A>,
@@ -25,15 +26,13 @@ pub(super) fn put_at<P, A: Allocator>(
     requires mark { index < length bits.old }
     requires leads { IsSlot pool.old.nodes (slice_index_or slots.old.items index Empty) }
     requires ready { 0 < length (row_in pool.old.nodes (slice_index_or slots.old.items index Empty))
-        → 0 < pool.old.room }
+        → pool.old.held < pool.old.total }
     ensures row { (t : Slot P) × (slots.new.items ≡ set slots.old.items index t)
         × IsSlotSet pool.old (slice_index_or slots.old.items index Empty)
         (put_in behind (row_in pool.old.nodes (slice_index_or slots.old.items index Empty)) pair)
         pool.new t }
     ensures bits { bits.new ≡ set bits.old index true }
-    ensures room { pool.old.room ≤ pool.new.room + 1 }
-    ensures alone { row_in pool.old.nodes (slice_index_or slots.old.items index Empty) ≡ []
-        → pool.new.room ≡ pool.old.room }
+    ensures total { pool.old.total ≤ pool.new.total }
     ensures counted { placed.new ≡ placed.old + 1 }
 {
     row::put_in(&mut slots[index], pool, behind, pair);

@@ -20,7 +20,7 @@ use std::mem;
 fn drop_row<P: Drop, A: Allocator>(slot: &mut Slot<P>, pool: &mut Pool<P, A>)
     requires { IsSlot pool.old.nodes slot.old }
     ensures row { IsSlotSet pool.old slot.old [] pool.new slot.new }
-    ensures room { pool.old.room ≤ pool.new.room }
+    ensures total { pool.new.total ≡ pool.old.total }
 {
     while !slot.is_empty() {
         row::take_front(slot, pool);
@@ -41,7 +41,7 @@ fn drop_rows<K: IntKey, X: Drop, A: Allocator>(
     ensures len { length slots.new.items ≡ length slots.old.items }
     ensures empty { (i : ℕ)
         → slice_index_or (rows_in slots.new.items pool.new.nodes) i [] ≡ [] }
-    ensures room { pool.old.room ≤ pool.new.room }
+    ensures total { pool.new.total ≡ pool.old.total }
 {
     for index in bits.iter() {
         drop_row(&mut slots[index], pool);
@@ -78,7 +78,7 @@ impl<K: IntKey, X: Drop, A: Allocator> Slots<K, X, A> {
     pub(crate) fn clear(&mut self)
         ensures len { length self.new.rows ≡ length self.old.rows }
         ensures empty { (i : ℕ) → row_at self.new i ≡ [] }
-        ensures room { self.old.room ≤ self.new.room }
+        ensures total { self.new.total ≡ self.old.total }
     {
         if mem::needs_drop::<X>() {
             drop_rows(&self.bits, &mut self.slots, &mut self.pool);

@@ -8,8 +8,8 @@ use crate::proved::table::table::stored::Stored;
 use crate::memory::alloc::{AllocError, Allocator};
 
 /// Nodes, and a list of those without a pair. Contracts see what each has, how many hold a pair,
-/// and how many more pairs they take without an allocation. A call that needs more than
-/// `NODE_LIMIT` nodes fails as if an allocation failed.
+/// and how many pairs there is memory for in all. A call that needs more than `NODE_LIMIT` nodes
+/// fails as if an allocation failed.
 pub(in crate::proved::table) struct Pool<P, A: Allocator> {
     nodes: Vec<Node<P>, A>,
     free: usize,

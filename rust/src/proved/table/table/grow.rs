@@ -38,7 +38,7 @@ impl<K: IntKey, X, A: Allocator + Copy> Table<K, X, A> {
 
     /// Moves all pairs, in the order of the walk, to their slots among `capacity` slots. If the
     /// table has that many already, no pair moves. It also makes room for `additional` more pairs
-    /// that share a slot, which the contract doesn't show. If an allocation fails, nothing changes.
+    /// that share a slot. If an allocation fails, nothing changes.
     pub fn grow_to(&mut self, capacity: usize, additional: usize) -> Result<(), AllocError> {
         if capacity == self.slots.len() {
             return self.slots.reserve(additional);

@@ -1,5 +1,5 @@
 //! The slots of a table, whose further pairs lie in the nodes of one pool. Contracts see the pairs
-//! of each slot, its row, and how many more pairs that share a slot need no allocation. Which slots
+//! of each slot, its row, and for how many pairs behind the first ones there is memory. Which slots
 //! hold a pair is known here alone.
 //!
 //! `pairs` has the calls on a pair of one slot, `closures` those with a closure, `writing` that

@@ -37,12 +37,12 @@ returns-then-self g c =
     }
 
 pub invariant_of-self-in-Err-add : goal.invariant_of-self-in-Err-add
-invariant_of-self-in-Err-add g c = rw (c.in-Err-add.ensures.err, c.in-Err-add.ensures.capacity) c.self.invariant
+invariant_of-self-in-Err-add g c = rw c.in-Err-add.ensures.err c.self.invariant
 
 pub returns-in-Err-add : goal.returns-in-Err-add
 returns-in-Err-add g c =
     let at = (goal.at.returns-in-Err-add g c).After-add in let told = c.in-Err-add.ensures in
-    rw (← c.self.view_is, told.err, told.capacity) record {
+    rw (← c.self.view_is, told.err) record {
       key = tt;
       at = tt;
       known = tt;

@@ -1,4 +1,4 @@
-use Rattle.std.proofs.Common.{◌*◌, ◌%◌, ◌<◌, ap, arith, List, Bool, false, length, w64}
+use Rattle.std.proofs.Common.{◌%◌, ◌<◌, ap, arith, List, Bool, false, length, w64}
 use Rattle.std.proofs.lemmas.Bool.{ne_eqb}
 use Rattle.std.proofs.lemmas.Nat.Bits.{bit_at_clear_same, bit_at_clear_other}
 use Rattle.intmap_table.proofs.Tables.BitsLemmas.{length-marks_of, marks_of-set}

@@ -28,7 +28,7 @@ loop-next-init g c = record {
     Picked-start (PicksAt g.F.FnMut) (TakesPairMut g.F.FnMut) c.args.pool.now c.args.link c.requires.filled.0 c.args.f.now c.args.place.now c.args.slot.now c.seek_behind-before.result.0 c.seek_behind-before.result.1
         c.requires.filled.1 c.requires.behind c.seek_behind-before.ensures c.requires.callable,
   );
-  room = refl;
+  total = refl;
 }
 
 pub pick-requires : goal.pick-requires
@@ -61,12 +61,12 @@ returns-then-pick-clause-step g c =
 pub returns-then-pick-clause-on : goal.returns-then-pick-clause-on
 returns-then-pick-clause-on g c = c.loop-next.invariant.walked.2.on
 
-pub returns-then-pick-clause-room : goal.returns-then-pick-clause-room
-returns-then-pick-clause-room g c =
-    let room = c.loop-next.invariant.room in
-    let same = c.pick.ensures.4.room in
-    let more = c.unlink.ensures.room in
-    omega (arith, room, same, more)
+pub returns-then-pick-clause-total : goal.returns-then-pick-clause-total
+returns-then-pick-clause-total g c =
+    let total = c.loop-next.invariant.total in
+    let same = c.pick.ensures.4.total in
+    let more = c.unlink.ensures.total in
+    omega (arith, total, same, more)
 
 pub overflow_add-place : goal.overflow_add-place
 overflow_add-place g c =
@@ -86,7 +86,7 @@ loop-next-preserved g c =
     let w = c.loop-next.invariant.walked in
     record {
       walked = (w.0, w.1, Picked-stays (PicksAt g.F.FnMut) (TakesPairMut g.F.FnMut) c.args.pool.now c.args.link w.0 c.args.f.now c.args.place.now c.loop-next.f c.loop-next.place c.loop-next.pool c.loop-next.slot c.loop-next.before c.loop-next.at w.2 c.in-Some.next c.pick.ensures.1 c.pick.ensures.2 c.pick.new.self c.pick.new.f (held g at) (changed g at) (rw c.if-pick.false at c.pick.ensures.5));
-      room = c.loop-next.invariant.room ∙ sym c.pick.ensures.4.room;
+      total = c.loop-next.invariant.total ∙ sym c.pick.ensures.4.total;
     }
 
 pub returns-clause-step : goal.returns-clause-step

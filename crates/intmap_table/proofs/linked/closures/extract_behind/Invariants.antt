@@ -10,7 +10,7 @@ abbrev pub invariant-loop-next : goal.invariant-loop-next
 invariant-loop-next g l = record {
   walked : (first : g.row.K.Denot × g.row.V.Denot) × (l.initial.slot ≡ Filled l.link first)
       × IsPicked (PicksAt g.F.FnMut) (TakesPairMut g.F.FnMut) l.initial.pool l.link first l.initial.f l.initial.place l.f l.place l.pool l.slot l.before l.at;
-  room : l.initial.pool.room ≡ l.pool.room;
+  total : l.initial.pool.total ≡ l.pool.total;
 }
 
 abbrev pub decreases-loop-next : goal.decreases-loop-next

@@ -24,7 +24,7 @@ loop-link-init g c = record {
   row = Slot-same c.args.pool.now c.args.slot.now c.requires.leads;
   callable = c.requires.callable;
   leads = λ N h run. run;
-  room = omega arith;
+  total = omega arith;
 }
 
 pub keeps_pair-requires : goal.keeps_pair-requires
@@ -102,8 +102,8 @@ loop-link-preserved g c =
     let now = out.pairs in
     let set = slot_is pool (Filled c.in-Some.link first) c.take_front_linked.new.slot chain (row_in c.take_front_linked.new.pool.nodes c.take_front_linked.new.slot) c.take_front_linked.new.pool c.loop-link.slot c.take_front_linked.new.slot out c.in-Some.ensures.some now refl in
     let call = rw c.if-keeps_pair.false at c.keeps_pair.ensures in
-    let room = loop.room in
-    let more = c.take_front_linked.ensures.room in
+    let total = loop.total in
+    let more = c.take_front_linked.ensures.total in
     let split = loop.gone.1 ∙ ap (λ L. loop.gone.0 ++ L) (left g at) in
     record {
       gone = (loop.gone.0 ++ first ∷ [], subst (λ L. all ≡ (loop.gone.0 ++ first ∷ []) ++ L) (sym now) (gone_more all loop.gone.0 first chain split));
@@ -114,5 +114,5 @@ loop-link-preserved g c =
       leads = subst (λ L. Leads (Retains (KeepsAt g.F.FnMut)) c.args.f.now all c.keeps_pair.new.f [] L) (sym now)
           (Leads-goes_first (KeepsAt g.F.FnMut) (TakesPair g.F.FnMut) c.args.f.now c.loop-link.f c.keeps_pair.new.f all [] first chain call
           (subst (λ L. Leads (Retains (KeepsAt g.F.FnMut)) c.args.f.now all c.loop-link.f [] L) (left g at) loop.leads));
-      room = omega (arith, room, more);
+      total = omega (arith, total, more);
     }

@@ -1,4 +1,4 @@
-use Rattle.std.proofs.Common.{◌≡◌, ◌≤◌, List, [], ◌++◌, length}
+use Rattle.std.proofs.Common.{◌≡◌, List, [], ◌++◌, length}
 use Rattle.intmap_table.specs.Retaining.{KeepsAt, Retains, TakesPair}
 use Rattle.intmap_table.specs.Taking.{TakesEach}
 use Rattle.intmap_table.specs.Tables.Nodes.{row_in, IsSlotSet}
@@ -12,7 +12,7 @@ invariant-loop-link g l = record {
   row : IsSlotSet l.initial.pool l.initial.slot (row_in l.pool.nodes l.slot) l.pool l.slot;
   callable : TakesEach (KeepsAt g.F.FnMut) (TakesPair g.F.FnMut) l.f (row_in l.pool.nodes l.slot);
   leads : Leads (Retains (KeepsAt g.F.FnMut)) l.initial.f (row_in l.initial.pool.nodes l.initial.slot) l.f [] (row_in l.pool.nodes l.slot);
-  room : l.initial.pool.room ≤ l.pool.room;
+  total : l.pool.total ≡ l.initial.pool.total;
 }
 
 abbrev pub decreases-loop-link : goal.decreases-loop-link

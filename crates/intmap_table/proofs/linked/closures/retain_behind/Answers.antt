@@ -10,7 +10,7 @@ loop-next-init g c = record {
     c.requires.filled.1,
     Retained-start (KeepsAt g.F.FnMut) (TakesPair g.F.FnMut) c.args.pool.now c.args.link c.requires.filled.0 c.args.f.now c.args.slot.now c.requires.filled.1 c.requires.leads c.requires.callable,
   );
-  room = omega arith;
+  total = omega arith;
 }
 
 pub keeps_pair-requires : goal.keeps_pair-requires
@@ -42,7 +42,7 @@ loop-next-preserved-then-keeps_pair g c =
         Retained-stays (KeepsAt g.F.FnMut) (TakesPair g.F.FnMut) c.args.pool.now c.args.link w.0 c.args.f.now c.loop-next.f c.loop-next.kept c.loop-next.pool c.loop-next.slot c.loop-next.before c.loop-next.at
             c.in-Some.next c.in-Some.pair.now c.keeps_pair.new.f w.2 c.in-Some.ensures.some (rw c.if-keeps_pair.true at c.keeps_pair.ensures),
       );
-      room = c.loop-next.invariant.room;
+      total = c.loop-next.invariant.total;
     }
 
 pub loop-next-smaller : goal.loop-next-smaller
@@ -54,8 +54,8 @@ loop-next-smaller g c =
 pub loop-next-preserved : goal.loop-next-preserved
 loop-next-preserved g c =
     let w = c.loop-next.invariant.walked in
-    let room = c.loop-next.invariant.room in
-    let more = c.unlink.ensures.room in
+    let total = c.loop-next.invariant.total in
+    let more = c.unlink.ensures.total in
     record {
       walked = (
         w.0,
@@ -63,7 +63,7 @@ loop-next-preserved g c =
         Retained-goes (KeepsAt g.F.FnMut) (TakesPair g.F.FnMut) c.args.pool.now c.args.link w.0 c.args.f.now c.loop-next.f c.loop-next.kept c.loop-next.pool c.loop-next.slot c.loop-next.before c.loop-next.at
             c.in-Some.next c.in-Some.pair.now c.keeps_pair.new.f c.unlink.result c.unlink.new.pool c.unlink.new.slot w.2 c.in-Some.ensures.some (rw c.if-keeps_pair.false at c.keeps_pair.ensures) c.unlink.ensures.walks,
       );
-      room = omega (arith, room, more);
+      total = omega (arith, total, more);
     }
 
 pub returns-clause-row : goal.returns-clause-row

@@ -1,4 +1,4 @@
-use Rattle.std.proofs.Common.{◌≡◌, ◌≤◌, length}
+use Rattle.std.proofs.Common.{◌≡◌, length}
 use Rattle.intmap_table.specs.Retaining.{KeepsAt, TakesPair}
 use Rattle.intmap_table.specs.Tables.Nodes.{Filled, chain_of}
 use Rattle.intmap_table.proofs.Nodes.RetainedLemmas.{IsRetained}
@@ -9,7 +9,7 @@ abbrev pub invariant-loop-next : goal.invariant-loop-next
 invariant-loop-next g l = record {
   walked : (first : g.row.K.Denot × g.row.V.Denot) × (l.initial.slot ≡ Filled l.link first)
       × IsRetained (KeepsAt g.F.FnMut) (TakesPair g.F.FnMut) l.initial.pool l.link first l.initial.f l.f l.kept l.pool l.slot l.before l.at;
-  room : l.initial.pool.room ≤ l.pool.room;
+  total : l.pool.total ≡ l.initial.pool.total;
 }
 
 abbrev pub decreases-loop-next : goal.decreases-loop-next

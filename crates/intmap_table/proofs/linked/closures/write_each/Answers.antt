@@ -54,7 +54,7 @@ loop-next-init g c =
             (rw c.in-Some.ensures.some at c.requires.leads)
             (TakesEach-next (WritesAt g.F.FnMut) (TakesPairMut g.F.FnMut) c.args.f.now c.write.new.f c.in-Some.field-0-1.now c.write.ensures.2 (chain_of c.args.pool.now.nodes c.in-Some.link) (callable g in_some) (call g at)),
       );
-      room = refl;
+      total = refl;
     }
 
 pub write-requires-in-Some-get : goal.write-requires-in-Some-get
@@ -80,7 +80,7 @@ loop-next-preserved g c =
     let asked = c.write-in-Some-get.ensures in
     let on = Written-on (WritesAt g.F.FnMut) (TakesPairMut g.F.FnMut) c.args.pool.now c.in-Some.link w.0 c.write.new.f c.loop-next.f c.loop-next.pool c.write.new.self c.loop-next.at
     c.in-Some-get.next c.in-Some-get.field-0-1.now asked.0 asked.1 asked.2 c.write-in-Some-get.new.f c.write-in-Some-get.new.self w.2 c.in-Some-get.ensures.some asked.3 asked.4 asked.5 in
-    record { walked = (w.0, w.1, on.0); room = asked.4.room ∙ c.loop-next.invariant.room }
+    record { walked = (w.0, w.1, on.0); total = asked.4.total ∙ c.loop-next.invariant.total }
 
 pub returns-clause-row : goal.returns-clause-row
 returns-clause-row g c =

@@ -9,7 +9,7 @@ abbrev pub invariant-loop-next : goal.invariant-loop-next
 invariant-loop-next g l = record {
   walked : (first : g.row.K.Denot × g.row.V.Denot) × (l.slot ≡ Filled l.link first)
       × IsWritten (WritesAt g.F.FnMut) (TakesPairMut g.F.FnMut) l.initial.pool l.link first l.initial.f l.f l.pool l.slot l.at;
-  room : l.pool.room ≡ l.initial.pool.room;
+  total : l.pool.total ≡ l.initial.pool.total;
 }
 
 abbrev pub decreases-loop-next : goal.decreases-loop-next

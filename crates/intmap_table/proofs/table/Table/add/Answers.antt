@@ -1,9 +1,9 @@
-use Rattle.std.proofs.Common.{◌≡◌, ◌∙◌, [], ◌∷◌, ◌++◌, None, get_or, set, sym, ap}
+use Rattle.std.proofs.Common.{◌≡◌, ◌∙◌, [], ◌∷◌, ◌++◌, None, get_or, set, sym, ap, arith}
 use Rattle.intmap_table.specs.Bindings.{value_of}
 use Rattle.intmap_table.specs.Classes.{slot_number}
 use Rattle.intmap_table.specs.Tables.Slots.{Grid, joined}
 use Rattle.intmap_table.proofs.Tables.LocationLemmas.{IsAt-added, IsTable-added}
-use Rattle.intmap_table.proofs.Tables.TableLemmas.{IsSlot, walk-added, class_size-here}
+use Rattle.intmap_table.proofs.Tables.TableLemmas.{IsSlot, walk-added, class_size-here, further-joined}
 use Rattle.intmap_table.proofs.table.Table.add.Goals as goal
 use Rattle.intmap_table.proofs.table.Table.add.Goals.{After-push, In-Ok}
 
@@ -38,3 +38,8 @@ pub returns-clause-walk : goal.returns-clause-walk
 returns-clause-walk g c =
     let w = goal.at.returns-clause-walk g c in
     rw (← c.self.view_is) (ap joined (pushed g w.In-Ok) ∙ walk-added _ _ _ _ (here g w.After-push) c.args.value (missing g w.After-push))
+
+pub returns-in-Err-clause-succeeds : goal.returns-in-Err-clause-succeeds
+returns-in-Err-clause-succeeds g c =
+    let all = further-joined g.K.IntKey.number_of c.self.inside.slots.rows c.self.invariant in
+    rw (← c.self.view_is) (λ room. c.in-Err.ensures.succeeds (omega (arith, all, room)))

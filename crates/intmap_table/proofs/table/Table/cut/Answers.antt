@@ -4,8 +4,8 @@ use Rattle.intmap_table.specs.Tables.Slots.{joined, count_before}
 use Rattle.intmap_table.specs.Tables.Rows.{IsTable}
 use Rattle.intmap_table.specs.declared.table.walk.Cursor.{Cursor}
 use Rattle.intmap_table.proofs.SlotNumberLemmas.{capacity-greatest}
-use Rattle.intmap_table.proofs.Tables.CursorLemmas.{IsTable-cut, before-cut, drop-cut, pairs_before-joined, take-cut}
-use Rattle.intmap_table.proofs.Tables.TableLemmas.{walk_of-joined}
+use Rattle.intmap_table.proofs.Tables.CursorLemmas.{IsTable-cut, before-cut, drop-cut, pairs_before-joined, take-cut, within-cut}
+use Rattle.intmap_table.proofs.Tables.TableLemmas.{slot_of-joined, walk_of-joined}
 use Rattle.intmap_table.proofs.table.Table.cut.Goals as goal
 use Rattle.intmap_table.proofs.table.Table.cut.Goals.{After-seek, After-remove_at-key}
 
@@ -86,3 +86,10 @@ returns-clause-capacity g c = rw (← c.self.view_is) (ap length c.remove_at-key
 
 pub returns-clause-own : goal.returns-clause-own
 returns-clause-own g c = walk_of-joined _ _ (table g (goal.at.returns-clause-own g c).After-remove_at-key)
+
+pub returns-clause-within : goal.returns-clause-within
+returns-clause-within g c =
+    let after = (goal.at.returns-clause-within g c).After-remove_at-key in
+    let R = c.self.inside.slots.rows in let i = c.seek.new.at.slot in let j = c.seek.new.at.place in
+    rw (slot_of-joined g.K.IntKey.number_of c.remove_at-key.new.self.rows (table g after) i, c.remove_at-key.ensures.rows)
+    (within-cut g.K.IntKey.number_of R i j c.remove_at-key.result c.if-not-seek.ensures.pair (here g after))

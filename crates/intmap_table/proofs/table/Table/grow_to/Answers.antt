@@ -1,4 +1,4 @@
-use Rattle.std.proofs.Common.{◌≡◌, ◌∙◌, length, sym, subst}
+use Rattle.std.proofs.Common.{◌≡◌, ◌∙◌, length, sym, subst, arith}
 use Rattle.std.specs.Prelude.{OnOk}
 use Rattle.std.proofs.lemmas.Result.{on_ok_weaker, on_err_weaker}
 use Rattle.intmap_table.specs.Tables.Slots.{joined}
@@ -6,7 +6,7 @@ use Rattle.intmap_table.specs.Tables.Rows.{HasMoved, IsTable}
 use Rattle.intmap_table.proofs.Tables.GrownLemmas.{IsGrown-from}
 use Rattle.intmap_table.proofs.Tables.MemoryLemmas.{OnOk-always, OnOk-or, OnOk-both}
 use Rattle.intmap_table.proofs.Tables.MovedLemmas.{joined-moved, IsTable-moved}
-use Rattle.intmap_table.proofs.Tables.TableLemmas.{walk_of-joined}
+use Rattle.intmap_table.proofs.Tables.TableLemmas.{walk_of-joined, further-joined}
 use Rattle.intmap_table.proofs.table.Table.grow_to.Goals as goal
 use Rattle.intmap_table.proofs.table.Table.grow_to.Goals.{After-grow}
 
@@ -30,3 +30,13 @@ invariant_of-self-2 g c =
 
 pub returns-clause-walk : goal.returns-clause-walk
 returns-clause-walk g c = rw (← c.self.view_is) (on_ok_weaker c.grow.result (λ m. joined-moved _ _ _ _ m) (moved g (goal.at.returns-clause-walk g c).After-grow))
+
+pub returns-then-capacity-len-clause-room : goal.returns-then-capacity-len-clause-room
+returns-then-capacity-len-clause-room g c =
+    let all = further-joined g.K.IntKey.number_of c.reserve.new.self.rows (subst (IsTable g.K.IntKey.number_of) (sym c.reserve.ensures.rows) c.self.invariant) in
+    on_ok_weaker c.reserve.result (λ enough. omega (arith, all, enough)) c.reserve.ensures.room
+
+pub returns-clause-room : goal.returns-clause-room
+returns-clause-room g c =
+    let all = further-joined g.K.IntKey.number_of c.grow.new.self.rows (invariant_of-self-2 g c) in
+    on_ok_weaker c.grow.result (λ enough. omega (arith, all, enough)) c.grow.ensures.room

@@ -4,7 +4,8 @@ use Rattle.intmap_table.specs.Tables.Slots.{Grid, joined, count_before}
 use Rattle.intmap_table.specs.declared.table.walk.Cursor.{Cursor}
 use Rattle.intmap_table.proofs.Tables.AroundLemmas.{length-around}
 use Rattle.intmap_table.proofs.SlotNumberLemmas.{capacity-greatest}
-use Rattle.intmap_table.proofs.Tables.CursorLemmas.{before-here, drop-here, pairs_before-joined}
+use Rattle.intmap_table.proofs.Tables.CursorLemmas.{before-here, drop-here, pairs_before-joined, slot_number-here}
+use Rattle.intmap_table.proofs.Tables.TableLemmas.{slot_of-joined}
 use Rattle.intmap_table.proofs.table.Table.step.Goals as goal
 use Rattle.intmap_table.proofs.table.Table.step.Goals.{After-seek}
 
@@ -49,3 +50,15 @@ returns-clause-passed g c =
     let at = (goal.at.returns-clause-passed g c).After-seek in let S = c.self.inside.slots.rows in let i = c.seek.new.at.slot in let j = c.seek.new.at.place in
     rw (← c.self.view_is)
     (before g at (record { slot = i; place = j + 1 }) ∙ before-here (S) i j c.if-not-seek.ensures.pair ∙ ap (λ n. n + 1) (sought g at ∙ sym (before g at c.args.at.now)))
+
+pub returns-clause-slot : goal.returns-clause-slot
+returns-clause-slot g c =
+    let S = c.self.inside.slots.rows in let i = c.seek.new.at.slot in let j = c.seek.new.at.place in
+    let p : g.row.K.Denot × g.row.X.Denot = (c.key.result.now, c.value_at.result.now) in
+    let pair : get_or (get_or S i []) j p ≡ p = (λ k. (sym (c.key.ensures.value ∙ c.key_at-key.ensures p) k, sym (c.value_at.ensures p) k)) in
+    rw (← c.self.view_is) (sym (slot_number-here g.K.IntKey.number_of S i j p c.self.invariant c.if-not-seek.ensures.pair pair))
+
+pub returns-clause-within : goal.returns-clause-within
+returns-clause-within g c =
+    let S = c.self.inside.slots.rows in
+    rw (← c.self.view_is, slot_of-joined g.K.IntKey.number_of S c.self.invariant c.seek.new.at.slot) (omega (arith, c.if-not-seek.ensures.pair))

@@ -12,7 +12,7 @@ pub returns : goal.returns
 returns g c =
     let at = rw (← c.self.view_is) at c.requires.at in
     let once = rw (← c.self.view_is) at c.requires.once in (
-      (refl, λ w. rw (← c.self.view_is) (Grid-written g.K.IntKey.number_of c.self.inside.slots.rows c.args.at c.self.invariant at w once)),
+      (refl, λ w. rw (← c.self.view_is) (Grid-written g.K.IntKey.number_of c.self.inside.slots.rows c.args.at c.self.invariant at w once c.self.inside.slots.total)),
       record {
         writes_back = tt;
         value = rw (← c.self.view_is) (value_of-at g.K.IntKey.number_of c.self.inside.slots.rows c.args.at c.self.invariant at c.value_mut_at.result.now c.value_mut_at.ensures.value);

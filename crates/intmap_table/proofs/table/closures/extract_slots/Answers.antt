@@ -18,6 +18,7 @@ loop-slot-init g c = record {
   callable = c.requires.callable;
   table = c.requires.table;
   len = refl;
+  total = refl;
   few = c.requires.count;
   word = c.marks_from-left.ensures;
   at = IsInRows-reached g.K.IntKey.number_of c.args.slots.now.rows c.requires.table _ _ _ c.requires.reached;
@@ -77,6 +78,7 @@ returns-in-Some-found g c =
       table = table g at;
       reached = IsReached-at _ _ (table g at) _ _ _ (rw (left g at) (IsInRows-step here));
       len = len g at ∙ loop.len;
+      total = c.extract_at-found.ensures.total ∙ loop.total;
     }
 
 pub overflow_add-at-in-Some : goal.overflow_add-at-in-Some
@@ -95,6 +97,7 @@ loop-slot-preserved g c =
       callable = rw (left g at) (TakesEach-slot here (TakesPairMut g.F.FnMut) loop.callable);
       table = table g at;
       len = len g at ∙ loop.len;
+      total = c.extract_at-found.ensures.total ∙ loop.total;
       few = rw (left g at) (omega (arith, few, loop.few));
       word = rw (left g at) (IsRowWord-set c.loop-slot.slots.rows c.in-Some.slot c.extract_at-found.ensures.step.0 _ _ c.in-Some.ensures.left);
       at = rw (left g at) (IsInRows-left here c.in_default-found.is);
@@ -109,4 +112,5 @@ returns g c =
       table = loop.table;
       reached = IsReached-at _ c.loop-slot.slots.rows loop.table _ _ _ loop.at;
       len = loop.len;
+      total = loop.total;
     }

@@ -14,6 +14,7 @@ invariant-loop-slot g l = record {
   callable : TakesEach (AsksAt g.F.FnMut) (TakesPairMut g.F.FnMut) l.f (drop l.at.passed (joined l.slots.rows));
   table : IsTable g.K.IntKey.number_of l.slots.rows;
   len : length l.slots.rows ≡ length l.initial.slots.rows;
+  total : l.slots.total ≡ l.initial.slots.total;
   few : length (joined l.slots.rows) < 2 ^ 64;
   word : IsRowWord l.slots.rows l.at.slot l.left.at l.left.word;
   at : IsInRows l.slots.rows l.at.slot l.at.place l.at.passed;

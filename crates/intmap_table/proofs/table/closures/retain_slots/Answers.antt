@@ -15,6 +15,7 @@ loop-index-init g c = record {
   callable = c.requires.callable;
   table = c.requires.table;
   len = refl;
+  total = refl;
   few = omega (arith, c.requires.count);
   count = refl;
   word = c.marks_from-left.ensures;
@@ -60,6 +61,7 @@ loop-index-preserved g c =
       table = IsTable-set_at _ R loop.table index done.0 next.within
           (All-Retains Q (λ p. slot_number g.K.IntKey.number_of p.0 (length R) ≡ index) _ _ _ _ done.2 (loop.table.in_place index next.within));
       len = length-set R index done.0 ∙ loop.len;
+      total = c.retain_at-count.ensures.total ∙ loop.total;
       few = omega (arith, left, fewer, done.3, loop.few);
       count = omega (arith, taken, done.3, loop.count);
       word = IsRowWord-set R index done.0 _ _ c.in-Some.ensures.left;
@@ -73,5 +75,6 @@ returns g c =
       pairs = Leads-all (Retains (KeepsAt g.F.FnMut)) _ _ _ _ _ none (refl, refl) loop.leads;
       table = loop.table;
       len = loop.len;
+      total = loop.total;
       count = loop.count ∙ ap length (joined-before _ _ none);
     }

@@ -12,6 +12,7 @@ invariant-loop-index g l = record {
   callable : TakesEach (KeepsAt g.F.FnMut) (TakesPair g.F.FnMut) l.f (joined (drop l.from l.slots.rows));
   table : IsTable g.K.IntKey.number_of l.slots.rows;
   len : length l.slots.rows ≡ length l.initial.slots.rows;
+  total : l.slots.total ≡ l.initial.slots.total;
   few : l.count + length (joined (drop l.from l.slots.rows)) < 2 ^ 64;
   count : l.count ≡ length (joined (take l.from l.slots.rows));
   word : IsRowWord l.slots.rows l.from l.left.at l.left.word;

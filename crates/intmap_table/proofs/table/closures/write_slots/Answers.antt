@@ -14,6 +14,7 @@ loop-index-init g c = record {
   callable = c.requires.callable;
   table = c.requires.table;
   len = refl;
+  total = refl;
   word = c.marks_from-left.ensures;
   leads = λ N last run. run;
 }
@@ -44,6 +45,7 @@ loop-index-preserved g c =
       table = IsTable-set_at _ R loop.table index done.0 next.within
           (All-same_keys (λ k. slot_number g.K.IntKey.number_of k (length R) ≡ index) _ done.0 (sym (keys_of-Writes Q _ _ _ _ done.2)) (loop.table.in_place index next.within));
       len = length-set R index done.0 ∙ loop.len;
+      total = c.write_at.ensures.total ∙ loop.total;
       word = IsRowWord-set R index done.0 _ _ c.in-Some.ensures.left;
       leads = Leads-row R from index done.0 next _ _ _ _ (Writes Q) (Writes-append Q) loop.leads done.2;
     })
@@ -55,4 +57,5 @@ returns g c =
       pairs = Leads-all (Writes (WritesAt g.F.FnMut)) _ _ _ _ _ none (refl, refl) loop.leads;
       table = loop.table;
       len = loop.len;
+      total = loop.total;
     }

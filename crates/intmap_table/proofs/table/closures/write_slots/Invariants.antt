@@ -12,6 +12,7 @@ invariant-loop-index g l = record {
   callable : TakesEach (WritesAt g.F.FnMut) (TakesPairMut g.F.FnMut) l.f (joined (drop l.from l.slots.rows));
   table : IsTable g.K.IntKey.number_of l.slots.rows;
   len : length l.slots.rows ≡ length l.initial.slots.rows;
+  total : l.slots.total ≡ l.initial.slots.total;
   word : IsRowWord l.slots.rows l.from l.left.at l.left.word;
   leads : Leads (Writes (WritesAt g.F.FnMut)) l.initial.f (joined l.initial.slots.rows) l.f (joined (take l.from l.slots.rows)) (joined (drop l.from l.slots.rows));
 }

@@ -92,7 +92,7 @@ fn move_rows<K: IntKey, X, A: Allocator>(
 
 impl<K: IntKey, X, A: Allocator> Slots<K, X, A> {
     /// How many pairs are behind the first ones of their slots.
-    pub(super) fn further(&self) -> usize {
+    pub(in crate::proved::table) fn further(&self) -> usize {
         self.pool.held()
     }
 

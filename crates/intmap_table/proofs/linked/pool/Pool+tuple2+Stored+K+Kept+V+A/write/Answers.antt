@@ -33,6 +33,6 @@ returns g c =
       asked.1,
       asked.2,
       read g at ∙ asked.3,
-      record { nodes = ap (set c.self.inside.nodes.items c.args.at) asked.4; held = omega (arith, e); room = omega (arith, e) },
+      record { nodes = ap (set c.self.inside.nodes.items c.args.at) asked.4; held = omega (arith, e); total = omega (arith, e) },
       asked.5,
     )

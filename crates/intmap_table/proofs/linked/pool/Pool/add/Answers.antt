@@ -34,5 +34,5 @@ returns-clause-ok g c =
           let apart : k ≢ c.self.inside.free = λ e. (let both : Held n q ≡ Free c.in-Some.next = sym is ∙ ap (node_at c.self.inside.nodes.items) e ∙ free g at in cc) in
           node_at-set_other c.self.inside.nodes.items c.self.inside.free k c.fill.new.self apart ∙ is;
       held = omega (arith, few, e, some);
-      room = omega (arith, e, some);
+      total = omega (arith, e);
     })

@@ -28,5 +28,6 @@ returns g c =
       free = c.self.inside.free;
       nodes = ap (set c.self.inside.nodes.items c.args.at) c.release-pair.ensures.node;
       held = omega (arith, fewer, e);
-      room = omega (arith, e);
+      total = omega (arith, e);
+      ready = omega (arith, fewer, e);
     })

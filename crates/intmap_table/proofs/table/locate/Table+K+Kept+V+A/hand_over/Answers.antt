@@ -31,7 +31,7 @@ module _ (g : _) (c : After-put_back g) (slot : IsSlot g.K.IntKey.number_of c.se
       → c.put_back.new.self.rows ≡ set c.self.inside.slots.rows c.args.at.slot (row_without g.K.IntKey.number_of c.self.inside.slots.rows c.args.at.slot c.args.at.key slot ++ (c.args.at.key, c.in-Err.back) ∷ [])
   put taken =
       let R = c.self.inside.slots.rows in let i = c.args.at.slot in let row = row_without g.K.IntKey.number_of R i c.args.at.key slot in
-      c.put_back.ensures ∙ (λ k. set (taken k) i (get_or (taken k) i [] ++ (c.new.ensures.value k, c.in-Err.back) ∷ []))
+      c.put_back.ensures.rows ∙ (λ k. set (taken k) i (get_or (taken k) i [] ++ (c.new.ensures.value k, c.in-Err.back) ∷ []))
       ∙ ap (λ ps. set (set R i row) i (ps ++ (c.args.at.key, c.in-Err.back) ∷ [])) (get_or-set_same R i row [] (within _ _ _ _ slot)) ∙ set-set R i row _
 
 pub take_at-kept-requires : goal.take_at-kept-requires

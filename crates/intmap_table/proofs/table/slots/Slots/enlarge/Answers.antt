@@ -69,8 +69,8 @@ pub move_rows-requires-clause-room : goal.move_rows-requires-clause-room
 move_rows-requires-clause-room g c =
     let same = ap further (rows g (goal.at.move_rows-requires-clause-room g c).After-add_empty) in
     let enough = rw (← c.self.view_is) at c.requires.room in
-    let made = c.in-Ok.ensures.room in
-    omega (arith, same, enough, made)
+    let made = c.in-Ok.ensures.total in let none = c.in-Ok.ensures.held in
+    omega (arith, same, enough, made, none)
 
 pub returns-clause-placed : goal.returns-clause-placed
 returns-clause-placed g c =
@@ -78,12 +78,13 @@ returns-clause-placed g c =
     rw (← c.self.view_is) (subst (λ D. HasMoved g.K.IntKey.number_of (joined (rows_in c.self.inside.slots.items c.self.inside.pool.nodes)) D (rows_in c.move_rows.new.slots.items c.move_rows.new.pool.nodes)) (start g at).all
     (subst (λ R. HasMoved g.K.IntKey.number_of (joined R) (c.args.capacity - 1 + 1) (rows_in c.move_rows.new.slots.items c.move_rows.new.pool.nodes)) (rows g at) c.move_rows.ensures.placed))
 
-pub returns-clause-room : goal.returns-clause-room
-returns-clause-room g c =
-    let same = ap further (rows g (goal.at.returns-clause-room g c).After-add_empty) in
-    let made = c.in-Ok.ensures.room in
-    let left = c.move_rows.ensures.room in
-    rw (← c.self.view_is) (omega (arith, same, made, left))
+pub returns-clause-further : goal.returns-clause-further
+returns-clause-further g c =
+    let same = ap further (rows g (goal.at.returns-clause-further g c).After-add_empty) in
+    let none = c.in-Ok.ensures.held in
+    let moved = c.move_rows.ensures.held in
+    let all = c.move_rows.ensures.are.linked.held in
+    rw (← c.self.view_is) (omega (arith, same, none, moved, all))
 
 pub returns-clause-counted : goal.returns-clause-counted
 returns-clause-counted g c =

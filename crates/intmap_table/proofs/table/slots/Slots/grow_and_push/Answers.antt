@@ -2,6 +2,7 @@ use Rattle.std.proofs.Common.{inl, inr, ℕ, ◌≡◌, ◌<◌, ◌%◌, length
 use Rattle.std.specs.Prelude.{cond, nat_lt}
 use Rattle.std.proofs.lemmas.Bool.{cases_Bool}
 use Rattle.intmap_table.specs.Walk.{slot_of}
+use Rattle.intmap_table.specs.Tables.Nodes.{further}
 use Rattle.intmap_table.specs.Tables.Slots.{joined}
 use Rattle.intmap_table.proofs.SlotNumberLemmas.{slot_number-below}
 use Rattle.intmap_table.proofs.Tables.MarkedLemmas.{row-none}
@@ -20,9 +21,9 @@ put_back-requires-clause-ready g c =
     let D = c.args.capacity in let j = c.args.target in
     let going = slot_of number (joined c.args.self.now.rows) D j in
     let needed = c.needed-room.ensures in
-    let left = c.in-Ok.ensures.room in
-    λ some. elim (cases_Bool (nat_lt 0 (length going))) as (λ _. 0 < c.enlarge.new.self.room) [
-      | inl met ↦ (let one : ◌≡◌ {A = ℕ} (cond (nat_lt 0 (length going)) 1 0) 1 = ap (λ b. cond b 1 0) met in omega (arith, needed, left, one))
+    let moved = c.in-Ok.ensures.further in let made = c.in-Ok.ensures.total in
+    λ some. elim (cases_Bool (nat_lt 0 (length going))) as (λ _. further c.enlarge.new.self.rows < c.enlarge.new.self.total) [
+      | inl met ↦ (let one : ◌≡◌ {A = ℕ} (cond (nat_lt 0 (length going)) 1 0) 1 = ap (λ b. cond b 1 0) met in omega (arith, needed, moved, made, one))
       | inr alone ↦
           (let below : j < D = subst (λ n. n < D) (sym c.requires.target) (slot_number-below number c.args.pair.0 D c.requires.grown.new) in
           let gone = ap length (c.in-Ok.ensures.placed.rows j below ∙ row-none going alone) in
@@ -32,4 +33,4 @@ put_back-requires-clause-ready g c =
 pub returns-clause-rows : goal.returns-clause-rows
 returns-clause-rows g c =
     let L = joined c.args.self.now.rows in
-    (Moved-next g.K.IntKey.number_of c.args.capacity L c.enlarge.new.self.rows c.args.pair c.args.target c.put_back.new.self.rows c.in-Ok.ensures.placed (sym c.requires.target) c.put_back.ensures).rows
+    (Moved-next g.K.IntKey.number_of c.args.capacity L c.enlarge.new.self.rows c.args.pair c.args.target c.put_back.new.self.rows c.in-Ok.ensures.placed (sym c.requires.target) c.put_back.ensures.rows).rows

@@ -23,3 +23,6 @@ returns-clause-rows g c =
     let count : c.args.capacity - 1 + 1 ≡ c.args.capacity = omega (arith, some) in
     ap (λ slots. rows_in slots c.in_ok-pool.pool.nodes) (none g (goal.at.returns-clause-rows g c).After-add_empty)
     ∙ (Rows-none g.K.IntKey.number_of c.in_ok-pool.pool c.args.capacity (c.args.capacity - 1) c.requires c.in_ok-pool.ensures.held count).rows
+
+pub returns-clause-further : goal.returns-clause-further
+returns-clause-further g c = (invariant_of-result g c).linked.held ∙ c.in_ok-pool.ensures.held

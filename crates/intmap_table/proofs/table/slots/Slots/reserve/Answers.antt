@@ -1,3 +1,5 @@
+use Rattle.std.proofs.Common.{arith}
+use Rattle.std.proofs.lemmas.Result.{on_ok_weaker}
 use Rattle.intmap_table.proofs.table.slots.Slots.reserve.Goals as goal
 
 -- the nodes are as they were
@@ -11,3 +13,8 @@ invariant_of-self g c =
       marked = rw nodes is.marked;
       count = is.count;
     }
+
+pub returns-clause-room : goal.returns-clause-room
+returns-clause-room g c =
+    let now = (invariant_of-self g c).linked.held in
+    on_ok_weaker c.reserve.result (λ enough. omega (arith, now, enough)) c.reserve.ensures.room

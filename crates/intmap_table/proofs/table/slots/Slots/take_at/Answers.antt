@@ -41,4 +41,5 @@ pub returns-clause-ready : goal.returns-clause-ready
 returns-clause-ready g c =
     let r = row g (goal.at.returns-clause-ready g c).After-index_mut-slot in
     let here = ap length (Row-here g.K.IntKey.number_of c.self.inside.slots.items c.take-pair.new.pool c.args.index c.take-pair.new.slot r.within) in
-    λ filled. c.take-pair.ensures.ready (omega (arith, here, filled))
+    let now = (done g (goal.at.returns-clause-ready g c).After-take-pair (some g (goal.at.returns-clause-ready g c).After-index_mut-slot) r).are.linked.held in
+    λ filled. (let ready = c.take-pair.ensures.ready (omega (arith, here, filled)) in omega (arith, ready, now))

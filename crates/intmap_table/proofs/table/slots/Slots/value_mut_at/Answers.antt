@@ -19,7 +19,7 @@ returns-then-place-eq0 g c =
     let within : c.args.place < length (get_or (rows_in c.self.inside.slots.items c.self.inside.pool.nodes) c.args.index []) = rw (← c.self.view_is) at c.requires in (
       (
         refl,
-        λ w. rw (← c.self.view_is) (same_contents _ _ c.self.inside.pool.room
+        λ w. rw (← c.self.view_is) (same_contents _ _ c.self.inside.pool.total
             (Lent-in_slot g.K.IntKey.number_of c.self.inside.slots.items c.self.inside.pool c.self.inside.bits c.self.inside.mask c.args.index c.args.place c.index_mut.result.now c.self.invariant c.index_mut.ensures.value within
             w c.if-place-eq0.true).rows),
       ),
@@ -55,7 +55,7 @@ returns g c =
     let held = c.value_mut-2.ensures.value in (
       (
         refl,
-        λ w. rw (← c.self.view_is) (same_contents _ _ c.self.inside.pool.room
+        λ w. rw (← c.self.view_is) (same_contents _ _ c.self.inside.pool.total
             (Lent-in_node g.K.IntKey.number_of c.self.inside.slots.items c.self.inside.pool c.self.inside.bits c.self.inside.mask c.args.index c.args.place c.index.result.now c.self.invariant c.index.ensures within
             w c.in-Some.link c.in-Some.field-0-1.now c.seek-at.result held.0 held.1 c.in-Some.ensures.some (omega (arith, c.if-place-eq0.false)) c.seek-at.ensures held.2).rows),
       ),

@@ -4,7 +4,7 @@ use Rattle.std.proofs.lemmas.List.{get_or_default}
 use Rattle.intmap_table.specs.Classes.{slot_number}
 use Rattle.intmap_table.specs.Tables.Growing.{blank, put_in}
 use Rattle.intmap_table.specs.Tables.Nodes.{Empty, Filled, chain_of, row_in, rows_in, AreHome}
-use Rattle.intmap_table.proofs.Nodes.GrowingLemmas.{part-outside, home-reverse, Chain-head, Cut-chain, Taken-start, Taken-next, Moving-start, Moving-next, Moving-end, IsReached, HasPut, HasTaken, Growing-reached, Growing-put, Growing-taken}
+use Rattle.intmap_table.proofs.Nodes.GrowingLemmas.{part-outside, home-reverse, Chain-head, Cut-chain, Taken-start, Taken-next, Moving-start, Moving-next, Moving-end, IsReached, HasPut, HasTaken, Growing-reached, Growing-put, Growing-taken, length-put_in}
 use Rattle.intmap_table.proofs.Nodes.PathLemmas.{Chain-next, Chain-first, Chain-some, Chain-beyond}
 use Rattle.std.proofs.lemmas.List.{length-reverse, reverse-reverse}
 use Rattle.intmap_table.proofs.Nodes.SlotLemmas.{first_was}
@@ -81,7 +81,10 @@ loop-link-init g c =
     let turned : chain_of b.nodes m ≡ reverse left = c.turn-link.ensures.chain.pairs in
     let few = ap length turned ∙ length-reverse left in
     let n = ap length row in
-    let same = c.put_at.ensures.alone (none g at.After-take-first) in
+    let alone = ap length (none g at.After-take-first) in
+    let used = c.put_at.ensures.row.2.held in
+    let long = length-put_in false (row_in pool.nodes (get_or T j Empty)) p in
+    let more = c.put_at.ensures.total in
     let room = c.requires.room in
     let counted = c.put_at.ensures.counted in
     record {
@@ -93,8 +96,9 @@ loop-link-init g c =
           (put.rows ∙ ap (λ R. set R j (put_in false (get_or R j []) p)) t.rows);
       len = put.len ∙ t.len;
       left = λ k up lt. put.left k up lt ∙ t.left k up lt;
-      ready = omega (arith, n, few, same, room);
-      room = omega (arith, n, few, same);
+      ready = omega (arith, n, few, alone, used, long, more, room);
+      held = omega (arith, n, few, alone, used, long);
+      total = more;
       counted = omega (arith, n, few, counted);
     }
 
@@ -149,8 +153,10 @@ loop-link-preserved g c =
     Growing-put number (i + 1) C c.loop-link.slots.items c.loop-link.pool c.loop-link.bits c.args.mask j loop.are (out_next g at) c.moved_index_of-target.ensures.within (j0 == j) p T pool c.put_at-in-loop-link.new.bits mine
     c.put_at-in-loop-link.ensures.row c.put_at-in-loop-link.ensures.bits in
     let n = ap length chain in
-    let used = c.put_at-in-loop-link.ensures.room in
-    let ready = loop.ready in let room = loop.room in let before = loop.counted in
+    let used = c.put_at-in-loop-link.ensures.row.2.held in
+    let long = length-put_in (j0 == j) (row_in c.loop-link.pool.nodes (get_or c.loop-link.slots.items j Empty)) p in
+    let more = c.put_at-in-loop-link.ensures.total in
+    let ready = loop.ready in let held = loop.held in let total = loop.total in let before = loop.counted in
     let counted = c.put_at-in-loop-link.ensures.counted in
     record {
       taken = Taken-next a (row_in a.nodes (get_or S i Empty)) b l p d m loop.taken cut;
@@ -160,8 +166,9 @@ loop-link-preserved g c =
           (rows_in (blank (i + 1) C T) pool.nodes) loop.moving chain mine (c.requires.free j c.moved_index_of-target.ensures.part) put.rows;
       len = put.len ∙ loop.len;
       left = λ k up lt. put.left k up lt ∙ loop.left k up lt;
-      ready = omega (arith, n, used, ready);
-      room = omega (arith, n, used, room);
+      ready = omega (arith, n, used, long, more, ready);
+      held = omega (arith, n, used, long, held);
+      total = omega (arith, total, more);
       counted = omega (arith, n, counted, before);
     }
 

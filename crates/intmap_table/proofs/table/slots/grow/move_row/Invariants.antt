@@ -16,8 +16,9 @@ invariant-loop-link g l = record {
   moving : IsMoving g.K.IntKey.number_of (l.mask + 1) (row_in l.fn.old_pool.nodes (get_or l.fn.slots.items l.index Empty)) l.first_target (chain_of l.old_pool.nodes l.link) (rows_in (blank l.index (l.old_mask + 1) l.fn.slots.items) l.fn.pool.nodes) (rows_in (blank (l.index + 1) (l.old_mask + 1) l.slots.items) l.pool.nodes);
   len : length l.slots.items ≡ length l.fn.slots.items;
   left : (j : ℕ) → l.index + 1 ≤ j → j < l.old_mask + 1 → get_or l.slots.items j Empty ≡ get_or l.fn.slots.items j Empty;
-  ready : length (chain_of l.old_pool.nodes l.link) ≤ l.pool.room;
-  room : l.fn.pool.room + 1 + length (chain_of l.old_pool.nodes l.link) ≤ l.pool.room + length (row_in l.fn.old_pool.nodes (get_or l.fn.slots.items l.index Empty));
+  ready : l.pool.held + length (chain_of l.old_pool.nodes l.link) ≤ l.pool.total;
+  held : l.pool.held + 1 + length (chain_of l.old_pool.nodes l.link) ≤ l.fn.pool.held + length (row_in l.fn.old_pool.nodes (get_or l.fn.slots.items l.index Empty));
+  total : l.fn.pool.total ≤ l.pool.total;
   counted : l.placed + length (chain_of l.old_pool.nodes l.link) ≡ l.fn.placed + length (row_in l.fn.old_pool.nodes (get_or l.fn.slots.items l.index Empty));
 }
 

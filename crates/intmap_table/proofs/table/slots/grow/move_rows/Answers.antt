@@ -57,7 +57,8 @@ loop-index-init g c =
         len = (let n = length-map (blank 0 (c.args.old_mask + 1) c.args.slots.now.items) (row_in c.args.pool.now.nodes) in let count = c.requires.are.count in omega (arith, n, count));
         rows = λ j below. c.requires.none j;
       };
-      room = omega arith;
+      held = omega arith;
+      total = omega arith;
       counted = omega arith;
     }
 
@@ -125,9 +126,9 @@ move_row-requires-clause-room g c =
     let more = further-taken c.in-Some.index R in
     let all = further-some (c.in-Some.index + 1) R in
     let same = ap length (row g at.In-Some (less g at.Start)) in
-    let room = c.loop-index.invariant.room in
+    let held = c.loop-index.invariant.held in let total = c.loop-index.invariant.total in
     let enough = c.requires.room in
-    omega (arith, fewer, more, all, same, room, enough)
+    omega (arith, fewer, more, all, same, held, total, enough)
 
 pub loop-index-smaller : goal.loop-index-smaller
 loop-index-smaller g c =
@@ -153,7 +154,8 @@ loop-index-preserved g c =
     let fewer = further-fewer R from i n.behind in
     let more = further-taken i R in
     let filled = n.filled in
-    let room = loop.room in let used = c.move_row.ensures.room in let counted = loop.counted in
+    let held = loop.held in let used = c.move_row.ensures.held in
+    let total = loop.total in let grown = c.move_row.ensures.total in let counted = loop.counted in
     let before : HasMoved number (joined (take from R)) D (rows_in (blank i C c.loop-index.slots.items) c.loop-index.pool.nodes) =
     subst (λ T. HasMoved number (joined (take from R)) D (rows_in T c.loop-index.pool.nodes)) (passed g at.In-Some (less g at.Start)) loop.placed in
     let now = rows_in (blank (i + 1) C c.move_row.new.slots.items) c.move_row.new.pool.nodes in
@@ -165,7 +167,8 @@ loop-index-preserved g c =
       are = c.move_row.ensures.are;
       placed = subst (λ L. HasMoved number L D now) (sym taken)
           (subst (λ ps. HasMoved number (joined (take from R) ++ ps) D now) is (c.move_row.ensures.placed (joined (take from R)) before));
-      room = omega (arith, same, fewer, more, filled, room, used);
+      held = omega (arith, same, fewer, more, filled, held, used);
+      total = omega (arith, total, grown);
       counted = omega (arith, same, len, counted, c.move_row.ensures.counted);
     }
 
@@ -194,11 +197,11 @@ returns-clause-placed g c =
     subst (λ L. HasMoved g.K.IntKey.number_of L (c.args.mask + 1) (rows_in c.loop-index.slots.items c.loop-index.pool.nodes)) (all g at)
     (subst (λ T. HasMoved g.K.IntKey.number_of (joined (take c.loop-index.from (rows_in (take (c.args.old_mask + 1) c.args.slots.now.items) c.args.old_pool.now.nodes))) (c.args.mask + 1) (rows_in T c.loop-index.pool.nodes)) (whole g at) c.loop-index.invariant.placed)
 
-pub returns-clause-room : goal.returns-clause-room
-returns-clause-room g c =
+pub returns-clause-held : goal.returns-clause-held
+returns-clause-held g c =
     let some = further-some c.loop-index.from (rows_in (take (c.args.old_mask + 1) c.args.slots.now.items) c.args.old_pool.now.nodes) in
-    let room = c.loop-index.invariant.room in
-    omega (arith, some, room)
+    let held = c.loop-index.invariant.held in
+    omega (arith, some, held)
 
 pub returns-clause-counted : goal.returns-clause-counted
 returns-clause-counted g c =

@@ -15,7 +15,8 @@ invariant-loop-index g l = record {
   len : length l.slots.items ≡ l.mask + 1;
   are : AreRows g.K.IntKey.number_of (blank l.from (l.old_mask + 1) l.slots.items) l.pool l.bits l.mask;
   placed : HasMoved g.K.IntKey.number_of (joined (take l.from (rows_in (take (l.old_mask + 1) l.fn.slots.items) l.fn.old_pool.nodes))) (l.mask + 1) (rows_in (blank l.from (l.old_mask + 1) l.slots.items) l.pool.nodes);
-  room : l.fn.pool.room ≤ l.pool.room + further (take l.from (rows_in (take (l.old_mask + 1) l.fn.slots.items) l.fn.old_pool.nodes));
+  held : l.pool.held ≤ l.fn.pool.held + further (take l.from (rows_in (take (l.old_mask + 1) l.fn.slots.items) l.fn.old_pool.nodes));
+  total : l.fn.pool.total ≤ l.pool.total;
   counted : l.placed ≡ l.fn.placed + length (joined (take l.from (rows_in (take (l.old_mask + 1) l.fn.slots.items) l.fn.old_pool.nodes)));
 }
 

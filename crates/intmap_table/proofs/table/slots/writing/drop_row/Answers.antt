@@ -3,7 +3,7 @@ use Rattle.intmap_table.proofs.Nodes.DroppedLemmas.{Dropped-start, Dropped-next,
 use Rattle.intmap_table.proofs.table.slots.writing.drop_row.Goals as goal
 
 pub loop-slot-init : goal.loop-slot-init
-loop-slot-init g c = record { left = Dropped-start c.args.pool.now c.args.slot.now c.requires; room = omega arith }
+loop-slot-init g c = record { left = Dropped-start c.args.pool.now c.args.slot.now c.requires; total = omega arith }
 
 pub take_front-requires-clause-leads : goal.take_front-requires-clause-leads
 take_front-requires-clause-leads g c = c.loop-slot.invariant.left.changed.is
@@ -18,7 +18,7 @@ pub loop-slot-preserved : goal.loop-slot-preserved
 loop-slot-preserved g c = record {
   left = Dropped-next c.args.pool.now c.args.slot.now c.loop-slot.pool c.loop-slot.slot c.take_front.result c.take_front.ensures.row.0 c.take_front.new.pool c.take_front.new.slot
       c.loop-slot.invariant.left c.take_front.ensures.row.1 c.take_front.ensures.row.2;
-  room = omega (arith, c.loop-slot.invariant.room, c.take_front.ensures.room);
+  total = omega (arith, c.loop-slot.invariant.total, c.take_front.ensures.total);
 }
 
 pub returns-clause-row : goal.returns-clause-row

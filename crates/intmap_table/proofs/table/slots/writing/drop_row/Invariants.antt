@@ -1,4 +1,4 @@
-use Rattle.std.proofs.Common.{◌≤◌, length}
+use Rattle.std.proofs.Common.{◌≡◌, length}
 use Rattle.intmap_table.specs.Tables.Nodes.{row_in}
 use Rattle.intmap_table.proofs.Nodes.DroppedLemmas.{IsDropped}
 use Rattle.intmap_table.proofs.table.slots.writing.drop_row.Given as goal
@@ -7,7 +7,7 @@ use Rattle.intmap_table.proofs.table.slots.writing.drop_row.Given as goal
 abbrev pub invariant-loop-slot : goal.invariant-loop-slot
 invariant-loop-slot g l = record {
   left : IsDropped l.fn.pool l.fn.slot l.pool l.slot;
-  room : l.fn.pool.room ≤ l.pool.room;
+  total : l.pool.total ≡ l.fn.pool.total;
 }
 
 abbrev pub decreases-loop-slot : goal.decreases-loop-slot

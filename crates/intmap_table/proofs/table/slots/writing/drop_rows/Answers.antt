@@ -10,7 +10,7 @@ loop-index-init g c =
     rw (c.into_iter-index-iterator.ensures.into_iter_gives ∙ c.iter-index-items.ensures) (record {
       dropped = AreDropped-start (λ p. slot_number g.K.IntKey.number_of p.0 (length c.args.slots.now.items)) c.args.slots.now.items c.args.pool.now c.args.bits.now c.requires.linked c.requires.marks;
       len = refl;
-      room = omega arith;
+      total = omega arith;
     })
 
 module _ (g : _) (c : In-Some g) where
@@ -34,7 +34,7 @@ loop-index-preserved g c = record {
   dropped = AreDropped-next (λ p. slot_number g.K.IntKey.number_of p.0 (length c.args.slots.now.items)) c.loop-index.slots.items c.loop-index.pool c.in-Some.index c.next.new.self c.index_mut.result.now
       (left g (goal.at.loop-index-preserved g c).In-Some) c.index_mut.ensures.value c.drop_row.new.pool c.drop_row.new.slot c.drop_row.ensures.row;
   len = length-set c.loop-index.slots.items c.in-Some.index c.drop_row.new.slot ∙ c.loop-index.invariant.len;
-  room = omega (arith, c.loop-index.invariant.room, c.drop_row.ensures.room);
+  total = omega (arith, c.loop-index.invariant.total, c.drop_row.ensures.total);
 }
 
 pub returns-clause-linked : goal.returns-clause-linked
@@ -47,5 +47,5 @@ returns-clause-len g c = c.loop-index.invariant.len
 pub returns-clause-empty : goal.returns-clause-empty
 returns-clause-empty g c = let dropped = rw c.in-None.ensures.steps.0 at c.loop-index.invariant.dropped in λ i. dropped.empty i refl
 
-pub returns-clause-room : goal.returns-clause-room
-returns-clause-room g c = c.loop-index.invariant.room
+pub returns-clause-total : goal.returns-clause-total
+returns-clause-total g c = c.loop-index.invariant.total

@@ -1,4 +1,4 @@
-use Rattle.std.proofs.Common.{◌≡◌, ◌≤◌, length}
+use Rattle.std.proofs.Common.{◌≡◌, length}
 use Rattle.intmap_table.specs.Classes.{slot_number}
 use Rattle.intmap_table.proofs.Nodes.DroppedLemmas.{AreDropped}
 use Rattle.intmap_table.proofs.table.slots.writing.drop_rows.Given as goal
@@ -8,5 +8,5 @@ abbrev pub invariant-loop-index : goal.invariant-loop-index
 invariant-loop-index g l = record {
   dropped : AreDropped (λ p. slot_number g.K.IntKey.number_of p.0 (length l.fn.slots.items)) l.slots.items l.pool l.index-iterator;
   len : length l.slots.items ≡ length l.fn.slots.items;
-  room : l.fn.pool.room ≤ l.pool.room;
+  total : l.pool.total ≡ l.fn.pool.total;
 }
