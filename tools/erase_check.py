@@ -97,7 +97,7 @@ NOT_CALLED = {
         impl<K: IntKey + fmt::Debug, A: Allocator + Copy> fmt::Debug for IntSet<K, A> {""",
     "intmap_table/src/linked/chain.rt": """
         pub(crate) fn cut_behind<P, A: Allocator>(""",
-    "intmap_table/src/linked/row.rt": """
+    "intmap_table/src/linked/row/removal.rt": """
         pub(crate) fn remove<P, A: Allocator>(""",
     "intmap_table/src/table.rt": """
         pub fn further(&self)""",
@@ -113,7 +113,7 @@ NOT_CALLED = {
         pub fn cut(&mut self,""",
 }
 # names that only those items have, by source, each with what follows it in the list that it is used by
-NOT_NAMED = {"intmap_table/src/linked/row.rt": ["cut_behind, "]}
+NOT_NAMED = {"intmap_table/src/linked/row/removal.rt": ["cut_behind, "]}
 # how the items of sources begin that are left out
 LEFT_ITEMS = re.compile(r"impl\b[^;]* (Model|Drop) for |unsafe impl (Send|Sync) for Tally \{\}")
 # what an `impl Drop` may have that is left out: it takes the value apart, lets the prover see it, and drops a field
@@ -124,14 +124,36 @@ TOKEN = re.compile(r""""(?:\\.|[^"\\])*"|'(?:\\.|[^'\\])'|\w+|[&|<>=!+*/%^:.-]+|
 OTHERWISE = [
     ("#[derive(Debug, Drop)]", "#[derive(Debug)]"),
     ("    where\n        V: Drop,\n", ""),
+    ("    where\n        P: Drop,\n", ""),
     (": Drop", ""),
     (" + Drop", ""),
     ("use std::marker::{Model, Send, Sync};", ""),
     ("fn fmt<W: fmt::Write>(&self, f: &mut fmt::Formatter<W>)", "fn fmt(&self, f: &mut fmt::Formatter<'_>)"),
     # a guard holds the slots while pairs move
     (
-        "        self.move_all(&mut new, placed);",
-        "        super::mending::moving(self, &mut new, |old, new| old.move_all(new, placed));",
+        """        move_rows(
+            &mut self.slots,
+            &mut bits,
+            &mut pool,
+            &self.bits,
+            &mut self.pool,
+            &mut from,
+            &mut rest,
+            self.mask,
+            capacity - 1,
+            placed,
+        );
+""",
+        """        super::mending::moving(self, &mut bits, &mut pool, &mut from, &mut rest, |old, bits, pool, from, rest| {
+            let (slots, old_mask) = (&mut old.slots, old.mask);
+            move_rows(slots, bits, pool, &old.bits, &mut old.pool, from, rest, old_mask, capacity - 1, placed);
+        });
+""",
+    ),
+    # and the map where an insertion isn't done at once
+    (
+        "            Spot::Other(slot) => self.insert_otherwise(slot, key, value),",
+        "            Spot::Other(slot) => super::mending::held(self, |map| map.insert_otherwise(slot, key, value)),",
     ),
 ]
 # the first line of a type, up to the bound of its keys, which is left out

@@ -57,26 +57,46 @@ UNCALLED = {
     "intmap_set/set/build": ["pub fn from_array<"],
     "intmap_set/set/traits": ["impl<K: IntKey + fmt::Debug, A: Allocator + Copy> fmt::Debug for IntSet"],
     "intmap_table/linked/chain": ["pub(crate) fn cut_behind<"],
-    "intmap_table/linked/row": ["pub(crate) fn remove<"],
+    "intmap_table/linked/row/removal": ["pub(crate) fn remove<"],
     "intmap_table/table": ["pub fn further("],
     "intmap_table/table/slots": ["pub(crate) fn has_pair("],
     "intmap_table/table/slots/pairs": ["pub(crate) fn remove_at("],
     "intmap_table/table/walk": ["pub struct Cursor {", "impl Cursor {", "fn seek<", "pub fn step(", "pub fn cut("],
 }
 # What a source uses for items of UNCALLED alone, by the source: names in its `use` lists.
-UNNAMED = {"intmap_table/linked/row": ["cut_behind"]}
+UNNAMED = {"intmap_table/linked/row/removal": ["cut_behind"]}
 
 # Calls that run a key's `number` while pairs are on their way, by the source, each with what is written in its place.
 HELD = {
     "intmap_table/table/slots/grow": (
-        "self.move_all(&mut new, placed);",
-        "super::mending::moving(self, &mut new, |old, new| old.move_all(new, placed));",
+        """        move_rows(
+            &mut self.slots,
+            &mut bits,
+            &mut pool,
+            &self.bits,
+            &mut self.pool,
+            &mut from,
+            &mut rest,
+            self.mask,
+            capacity - 1,
+            placed,
+        );
+""",
+        """        super::mending::moving(self, &mut bits, &mut pool, &mut from, &mut rest, |old, bits, pool, from, rest| {
+            let (slots, old_mask) = (&mut old.slots, old.mask);
+            move_rows(slots, bits, pool, &old.bits, &mut old.pool, from, rest, old_mask, capacity - 1, placed);
+        });
+""",
+    ),
+    "intmap/map/insert": (
+        "Spot::Other(slot) => self.insert_otherwise(slot, key, value),",
+        "Spot::Other(slot) => super::mending::held(self, |map| map.insert_otherwise(slot, key, value)),",
     ),
 }
 
 DROPS = [
     "let VacantEntry { map: _, key: _, slot: _, } = self;",
-    "let Drain { map, from: _ } = self; map.known();",
+    "let Drain { map, front: _ } = self; map.known();",
     "let Drain { set, from: _ } = self; set.known();",
     "let ExtractIf { map, at: _, test } = self; map.known(); drop(test);",
 ]

@@ -70,14 +70,14 @@ impl<K: IntKey, V> IntMap<K, V> {
     /// }
     /// assert_eq!(map[21], 'b');
     /// ```
-    #[inline]
+    #[inline(always)]
     pub fn entry(&mut self, key: K) -> Entry<'_, K, V> {
         Entry::of(self.map.entry(key))
     }
 }
 
 impl<'a, K: IntKey, V> Entry<'a, K, V> {
-    #[inline]
+    #[inline(always)]
     fn of(entry: proved::Entry<'a, K, V>) -> Entry<'a, K, V> {
         match entry {
             proved::Entry::Occupied(entry) => Entry::Occupied(OccupiedEntry(entry)),
@@ -85,7 +85,7 @@ impl<'a, K: IntKey, V> Entry<'a, K, V> {
         }
     }
 
-    #[inline]
+    #[inline(always)]
     fn proved(self) -> proved::Entry<'a, K, V> {
         match self {
             Entry::Occupied(entry) => proved::Entry::Occupied(entry.0),
@@ -118,6 +118,7 @@ impl<'a, K: IntKey, V> Entry<'a, K, V> {
     /// assert_eq!(map[21], 2);
     /// ```
     #[must_use = "without an insertion it does the same as `if let Some(value) = map.get_mut(key)`"]
+    #[inline(always)]
     pub fn and_modify<F: FnOnce(&mut V)>(self, change: F) -> Entry<'a, K, V> {
         Entry::of(self.proved().and_modify(change))
     }
@@ -130,7 +131,7 @@ impl<'a, K: IntKey, V> Entry<'a, K, V> {
     /// let mut map = intmap_proved::IntMap::new();
     /// assert_eq!(map.entry(21u64).insert_entry('a').remove_entry(), (21, 'a'));
     /// ```
-    #[inline]
+    #[inline(always)]
     pub fn insert_entry(self, value: V) -> OccupiedEntry<'a, K, V> {
         granted(self.try_insert_entry(value))
     }
@@ -142,7 +143,7 @@ impl<'a, K: IntKey, V> Entry<'a, K, V> {
     ///
     /// Proved of `Entry::insert_entry`: `written`, `inserted`, `err`, `value_returned`, `refused`,
     /// `succeeds`.
-    #[inline]
+    #[inline(always)]
     pub fn try_insert_entry(self, value: V) -> Result<OccupiedEntry<'a, K, V>, Refused<V>> {
         let (map, found) = self.proved().parted();
         let place = guarded!(&mut *map, |map| {

@@ -41,9 +41,9 @@ mod walk;
 ///
 /// A new map has no nodes, even if it is made with room. A second pair in a slot takes a node that
 /// a removal has freed, if there is one. If there is none, the vector makes room as Rust's `Vec`
-/// does. A map that grows allocates its new slots, and nodes for as many pairs as were behind first
-/// ones, before any pair moves; the old slots and nodes are there until all have moved. Removals
-/// and `clear` give no memory back, but freed nodes serve all slots. Unless
+/// does. A map that grows asks for more slots in the same vector, and for nodes for as many pairs as
+/// were behind first ones, before any pair moves; the old nodes are there until all have moved.
+/// Removals and `clear` give no memory back, but freed nodes serve all slots. Unless
 /// [`reserve_insertions`](IntMap::reserve_insertions) made room for more, there are at most four
 /// nodes, or twice as many as the most pairs that were behind the first ones of their slots at one
 /// time.

@@ -1,6 +1,7 @@
 -- Entries once a value was written, and maps into which the pair of a new key was put.
-use Rattle.std.proofs.Common.{◌≡◌, ◌⊎◌, inl, inr, ℕ, ◌+◌, ◌^◌, ◌<◌, true, cond, List, [], ◌∷◌, ◌++◌, length, None, refl, sym, ap, ◌∙◌, subst}
+use Rattle.std.proofs.Common.{◌≡◌, ◌⊎◌, inl, inr, ℕ, ◌+◌, ◌^◌, ◌<◌, true, cond, List, [], ◌∷◌, ◌++◌, length, None, Some, refl, sym, ap, ◌∙◌, subst}
 use Rattle.std.specs.Prelude.{Result, Err}
+use Rattle.std.specs.Option.{option_and_then, option_map_or}
 use Rattle.std.proofs.lemmas.Bool.{cases_Bool, cases_lt, eq-eqb}
 use Rattle.std.proofs.lemmas.List.{map-append}
 use Rattle.std.proofs.Props.{props}
@@ -13,18 +14,20 @@ use Rattle.intmap_table.specs.Bindings.{value_of, take_key, put_pair, write_valu
 use Rattle.intmap_table.specs.Classes.{IsCapacity, same_key}
 use Rattle.intmap.specs.Entries.{occupied_with_value, occupied_key, IsMadeRefusal}
 use Rattle.intmap.specs.Growth.{IsNext, is_due, next_capacity}
-use Rattle.intmap_table.specs.Locations.{IsFound}
+use Rattle.intmap_table.specs.Locations.{IsAt, IsFound, key_at, write_in}
+use Rattle.intmap_table.specs.declared.table.locate.Location.{Location}
 use Rattle.intmap.specs.Insertions.{IsInsertion}
 use Rattle.intmap.specs.Map.{MapState, IsMap, Fits, with_pair, written}
-use Rattle.intmap_table.specs.Walk.{walk_of}
+use Rattle.intmap_table.specs.Walk.{slot_of, walk_of}
 use Rattle.intmap.proofs.GrowthLemmas.{IsWanted-wanted_capacity}
 use Rattle.intmap.proofs.LoadFactorLemmas.{InsertIsTooLarge, IsNext-unique}
 use Rattle.intmap_table.proofs.LocationLemmas.{walk_of-write_value}
+use Rattle.intmap_table.proofs.Tables.FoundLemmas.{IsFound-located, key_at-located}
 use Rattle.intmap.proofs.MapLemmas.{MapState-same}
 use Rattle.intmap.proofs.InsertionLemmas.{IsInsertion-put}
 use Rattle.intmap.proofs.WriteLemmas.{write_value-unbound, IsMapWalk-written}
 use Rattle.intmap_table.proofs.PositionLemmas.{swap_out-none, position-from_none}
-use Rattle.intmap_table.proofs.WrittenLemmas.{IsFound-write_value, key_at-written, the_key-same}
+use Rattle.intmap_table.proofs.WrittenLemmas.{IsFound-write_value, key_at-written, option_and_then-the_key, the_key-same, write_in-the_key}
 
 -- the error of what was made, or of its failed insertion, is one of what may be made
 pub made-so : {V E : Type 0} (Made : Result V E → Type 0) (from_gives : Refused V → E → Type 0) (is_due : Cause → Type 0) (made : Result V E) (e : E) → Made made
@@ -82,6 +85,23 @@ module _ {K V : Type 0} (number : K → ℕ) (is_valid : K → Type 0) (m n : Ma
       IsInsertion-put number is_valid m (with_pair number m k v D) k v old (subst (IsMap number is_valid) (written-added v) (IsMapWalk-written number is_valid n.walk n.capacity n.factor k v did.valid)) refl
       (subst (Fits number m.walk m.capacity m.factor k) (next_capacity-inserted number is_valid m n k x missing old did) did.fits)
 
+-- where the pair of k was located in a map
+module _ {K V : Type 0} (number : K → ℕ) (is_valid : K → Type 0) (injective : (x y : K) → is_valid x → is_valid y → number x ≡ number y → x ≡ y) (n : MapState K V) (k : K) (at : Location K)
+    (is_map : IsMap number is_valid n) (valid : is_valid k) (same : at.key ≡ k) (is : IsAt number n.walk n.capacity at) where
+  -- is that key
+  pub key_at-located_in : key_at (slot_of number n.walk n.capacity at.slot) at.place ≡ Some k
+  key_at-located_in = key_at-located number is_valid injective n.walk n.capacity at is_map.keys (subst is_valid (sym same) valid) is ∙ ap (λ q. Some q) same
+
+  pub IsFound-located_in : IsFound number n.walk n.capacity at.slot at.place
+  IsFound-located_in = IsFound-located number n.walk n.capacity at k same is key_at-located_in
+
+  -- so a write there is one of its value
+  pub written-located_in : (v : V) → record n { walk = write_in number n.walk n.capacity at.slot at.place v } ≡ written number n k v
+  written-located_in v = ap (λ o. record n { walk = option_map_or (λ q. write_value number n.walk q v) o n.walk }) key_at-located_in
+
+  pub value_of-located_in : (v : V) → option_and_then (value_of number n.walk) (key_at (slot_of number n.walk n.capacity at.slot) at.place) ≡ Some v → value_of number n.walk k ≡ Some v
+  value_of-located_in v found = ap (option_and_then (value_of number n.walk)) (sym key_at-located_in) ∙ found
+
 -- that a pair was found holds in one way
 IsFound-prop : {K V : Type 0} (number : K → ℕ) (W : List (K × V)) (C slot place : ℕ) → IsProp (IsFound number W C slot place)
 IsFound-prop number W C slot place = Prim.hlevel props
@@ -94,12 +114,21 @@ module _ {K V A : Type 0} {g : key.Ghosts K} {e : eq.Ghosts K} where
       ap (λ z. let o : OccupiedEntry K V A g e = record { map = record o.map { now = written g.number_of o.map.now (occupied_key o) w }; slot = o.slot; place = o.place; found = z } in o)
       (IsFound-prop g.number_of _ _ o.slot o.place found (IsFound-write_value g.number_of o.map.now.walk o.map.now.capacity o.slot o.place (occupied_key o) w o.found))
 
-  -- an entry whose map was written is the entry with the value, however the place of the key is known
-  pub occupied-rewritten : (o : OccupiedEntry K V A g e) (w : V) (k : K) → occupied_key o ≡ k → (found : IsFound g.number_of (written g.number_of o.map.now k w).walk (written g.number_of o.map.now k w).capacity o.slot o.place)
-      → ◌≡◌ {A = OccupiedEntry K V A g e} (record { map = record o.map { now = written g.number_of o.map.now k w }; slot = o.slot; place = o.place; found = found }) (occupied_with_value o w)
-  occupied-rewritten o w k same =
-      subst (λ k. (found : IsFound g.number_of (written g.number_of o.map.now k w).walk (written g.number_of o.map.now k w).capacity o.slot o.place)
-      → ◌≡◌ {A = OccupiedEntry K V A g e} (record { map = record o.map { now = written g.number_of o.map.now k w }; slot = o.slot; place = o.place; found = found }) (occupied_with_value o w)) same (rewritten o w)
+  -- an entry whose map was written is the entry with the value, however the map is known
+  pub occupied-rewritten : (o : OccupiedEntry K V A g e) (w : V) (n : MapState K V) → written g.number_of o.map.now (occupied_key o) w ≡ n → (found : IsFound g.number_of n.walk n.capacity o.slot o.place)
+      → ◌≡◌ {A = OccupiedEntry K V A g e} (record { map = record o.map { now = n }; slot = o.slot; place = o.place; found = found }) (occupied_with_value o w)
+  occupied-rewritten o w n same =
+      subst (λ n. (found : IsFound g.number_of n.walk n.capacity o.slot o.place)
+      → ◌≡◌ {A = OccupiedEntry K V A g e} (record { map = record o.map { now = n }; slot = o.slot; place = o.place; found = found }) (occupied_with_value o w)) same (rewritten o w)
+
+  -- the map is written at the place of the key
+  pub written-in : (o : OccupiedEntry K V A g e) (w : V) → written g.number_of o.map.now (occupied_key o) w ≡ record o.map.now { walk = write_in g.number_of o.map.now.walk o.map.now.capacity o.slot o.place w }
+  written-in o w = let m : MapState K V = o.map.now in ap (λ W. record m { walk = W }) (sym (write_in-the_key g.number_of m.walk m.capacity o.slot o.place w o.found))
+
+  -- and read there
+  pub value_of-in : (o : OccupiedEntry K V A g e) (v : V) → option_and_then (value_of g.number_of o.map.now.walk) (key_at (slot_of g.number_of o.map.now.walk o.map.now.capacity o.slot) o.place) ≡ Some v
+      → value_of g.number_of o.map.now.walk (occupied_key o) ≡ Some v
+  value_of-in o v is = sym (option_and_then-the_key (value_of g.number_of o.map.now.walk) _ o.found.some) ∙ is
 
   -- an entry with a value has the key that it had
   pub occupied_key-written : (o : OccupiedEntry K V A g e) (w : V) → occupied_key (occupied_with_value o w) ≡ occupied_key o

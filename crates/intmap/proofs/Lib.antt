@@ -16,6 +16,7 @@ pub mod WriteLemmas
 pub mod EntryLemmas
 pub mod ExtendLemmas
 pub mod LoadFactorLemmas
+pub mod SpotLemmas
 pub mod EqualityLemmas
 pub mod ContainsLemmas
 pub mod StrikeLemmas

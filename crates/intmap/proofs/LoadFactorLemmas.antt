@@ -116,15 +116,11 @@ IsNext-unique C n F D E a b = elim (cases_Bool (is_due n)) [
 ]
 
 -- what meets the load where it is checked leaves the capacity
-IsNext-if_met : (C n F : ℕ) → IsCapacity C → (is_due n ≡ true → MeetsLoad C n F) → IsNext C n F C
+pub IsNext-if_met : (C n F : ℕ) → IsCapacity C → (is_due n ≡ true → MeetsLoad C n F) → IsNext C n F C
 IsNext-if_met C n F cap meets = elim (cases_Bool (is_due n)) [ inl due ↦ rw due (IsWanted-same C n F cap (meets due)) | inr not ↦ rw not refl ]
 
 pub IsNext-met : (C n F : ℕ) → IsCapacity C → MeetsLoad C n F → IsNext C n F C
 IsNext-met C n F cap meets = IsNext-if_met C n F cap (λ _. meets)
-
--- what doesn't exceed the threshold, or isn't tested, leaves the capacity
-pub IsNext-same : (C F n threshold : ℕ) → IsCapacity C → n < 2 ^ 64 → IsThreshold C F threshold → (is_due n && nat_lt threshold n) ≡ false → IsNext C n F C
-IsNext-same C F n threshold cap fits lim test = IsNext-if_met C n F cap (λ due. (lim n fits).0 (ltb-false threshold n (rw due at test)))
 
 -- a number at which the load is checked is at most the last such number
 pub last_due-most : (m n : ℕ) → m ≤ n → is_due m ≡ true → m ≤ last_due n

@@ -12,11 +12,7 @@ use Rattle.intmap.proofs.LoadFactorLemmas.{InsertIsTooLarge, in_range-next}
 
 module _ {K V : Type 0} (number : K → ℕ) (s : PlainList K V) (k : K) where
   module _ (missing : value_of number s.pairs k ≡ None) where
-    -- of an absent key the insertion was too large
-    pub RefusalIsDue-too_large : InsertIsTooLarge s.pairs s.capacity s.factor → RefusalIsDue number s k TooLarge
-    RefusalIsDue-too_large large = record { new_key = rw missing refl; too_large = (λ _. (rw missing refl, large), λ _. refl); memory = λ e. cc }
-
-    -- or there was too little memory for the next capacity
+    -- there was too little memory for the next capacity
     pub RefusalIsDue-memory : (D : ℕ) → length s.pairs + 1 < 2 ^ 64 → IsCapacity D → IsNext s.capacity (length s.pairs + 1) s.factor D
         → (IsNext s.capacity (length s.pairs + 1) s.factor s.capacity → 0 < class_size number s.pairs s.capacity k) → RefusalIsDue number s k Memory
     RefusalIsDue-memory D few cap next shared = record {

@@ -31,3 +31,4 @@ pub mod Cloning
 pub mod Equality
 pub mod Json
 pub mod Consistency
+pub mod Spots

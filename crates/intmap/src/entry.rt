@@ -102,7 +102,7 @@ impl<K: IntKey, V, A: Allocator + Copy> IntMap<K, V, A> {
     /// map                    // {21: 6}
     /// map.entry(22).key()    // 22
     /// ```
-    #[inline]
+    #[inline(always)]
     pub fn entry(&mut self, key: K) -> Entry<'_, K, V, A>
         ensures same_reference { (entry_reference result).ghost_name ≡ self.entry.ghost_name }
         ensures state { entry_map result ≡ after_search K.number_of self.old key }
@@ -185,6 +185,7 @@ impl<'a, K: IntKey, V, A: Allocator + Copy> Entry<'a, K, V, A> {
     /// map.entry(21).and_modify(|count| *count += 1).or_insert(1)?    // 6
     /// map.entry(22).and_modify(|count| *count += 1).or_insert(1)?    // 1
     /// ```
+    #[inline(always)]
     pub fn and_modify<F: FnOnce(&mut V)>(self, f: F) -> Entry<'a, K, V, A>
         requires { (p : MutBor V) → entry_value self ≡ Some p.now → F.pre f p }
         ensures same_reference { (entry_reference result).ghost_name

@@ -1,5 +1,5 @@
 //! Whether a table has too few slots for its pairs, and how many slots it needs.
-ghost use Rattle.std.specs.Prelude.{◌≡◌, ◌<◌, ◌&&◌, nat_lt, IfSome, IfNone};
+ghost use Rattle.std.specs.Prelude.{◌≡◌, ◌+◌, ◌^◌, ◌<◌, ◌&&◌, ◌||◌, not, nat_lt, IfSome, IfNone, IsTrue};
 ghost use Rattle.intmap_table.specs.Classes.{IsCapacity};
 ghost use Rattle.intmap.specs.Growth.{IsWanted, IsThreshold, is_due, NeedsTooMuch};
 
@@ -40,9 +40,14 @@ pub(crate) fn threshold_of(capacity: usize, factor: usize) -> usize
     }
 }
 
-/// Whether the load is checked at `len` pairs, and `len` is above the threshold.
-pub(crate) fn has_outgrown(len: usize, threshold: usize) -> bool
-    ensures { result ≡ is_due len && nat_lt threshold len }
+/// Whether a map of `len` pairs takes one more in its slots: the greater length isn't above the
+/// threshold, or the load isn't checked at it.
+#[inline(always)]
+pub(crate) fn takes_one_more(len: usize, threshold: usize) -> bool
+    ensures value { result ≡ (nat_lt len threshold
+        || (nat_lt (len + 1) (2 ^ 64) && not (is_due (len + 1)))) }
+    ensures fits { IsTrue result → len + 1 < 2 ^ 64 }
 {
-    len & 4 == 4 && len > threshold
+    // the test that most insertions need comes first
+    len < threshold || len != usize::MAX && (len + 1) & 4 != 4
 }

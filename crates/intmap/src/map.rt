@@ -2,6 +2,7 @@
 //! and its capacity, the search for a key, and the calls on a pair that a search located. These
 //! calls compare no key.
 ghost use Rattle.std.specs.Prelude.{◌≡◌, ◌==◌, length, is_some, is_ok, IfOk, IfErr, OnErr, Some, None};
+ghost use Rattle.std.specs.Option.{option_and_then};
 ghost use Rattle.intmap.specs.Map.{IsMap, after_search, with_pair, without_key};
 ghost use Rattle.intmap_table.specs.Bindings.{value_of};
 ghost use Rattle.intmap_table.specs.Classes.{slot_number};
@@ -107,7 +108,7 @@ impl<K: IntKey, V, A: Allocator + Copy> IntMap<K, V, A> {
 
 impl<K: IntKey, V, A: Allocator + Copy> IntMap<K, V, A> {
     ghost use Rattle.std.specs.Borrow.{sem};
-    ghost use Rattle.intmap.specs.Lending.{map_lends};
+    ghost use Rattle.intmap.specs.Lending.{map_lends_in};
 
     /// Where the pair of the key is, or the slot of the key if the key is absent. The map counts
     /// the comparisons.
@@ -150,25 +151,29 @@ impl<K: IntKey, V, A: Allocator + Copy> IntMap<K, V, A> {
         Location { key, slot, place }
     }
 
-    /// The value of a located pair.
+    /// The value of the pair at a place of a slot.
     #[inline(always)]
-    pub(crate) fn value_at(&self, at: Location<K>) -> &V
-        requires { IsAt K.number_of self.now.walk self.now.capacity at }
-        ensures value { value_of K.number_of self.now.walk at.key ≡ Some result.now }
+    pub(crate) fn value_in(&self, slot: usize, place: usize) -> &V
+        requires { IsFound K.number_of self.now.walk self.now.capacity slot place }
+        ensures value { option_and_then (value_of K.number_of self.now.walk)
+            (key_at (slot_of K.number_of self.now.walk self.now.capacity slot) place)
+            ≡ Some result.now }
     {
-        self.table.value_at(at).get()
+        self.table.value_in(slot, place).get()
     }
 
-    /// A mutable reference to the value of a located pair.
+    /// A mutable reference to the value of the pair at a place of a slot.
     #[inline(always)]
-    pub(crate) fn value_mut_at(&mut self, at: Location<K>) -> &mut V
-        requires { IsAt K.number_of self.old.walk self.old.capacity at }
-        ensures* writes_back { sem 𝓛 (map_lends K.row V.row A.row K.IntKey.own K.PartialEq
-            A.Allocator self.entry at.key result) }
-        ensures value { value_of K.number_of self.old.walk at.key ≡ Some result.now }
+    pub(crate) fn value_mut_in(&mut self, slot: usize, place: usize) -> &mut V
+        requires { IsFound K.number_of self.old.walk self.old.capacity slot place }
+        ensures* writes_back { sem 𝓛 (map_lends_in K.row V.row A.row K.IntKey.own K.PartialEq
+            A.Allocator self.entry slot place result) }
+        ensures value { option_and_then (value_of K.number_of self.old.walk)
+            (key_at (slot_of K.number_of self.old.walk self.old.capacity slot) place)
+            ≡ Some result.now }
         ensures valid { IsMap K.number_of K.is_valid self.old }
     {
-        self.table.value_mut_at(at).get_mut()
+        self.table.value_mut_in(slot, place).get_mut()
     }
 
     /// Removes a located pair, and returns its value. The last pair of its slot takes its place.
@@ -183,19 +188,6 @@ impl<K: IntKey, V, A: Allocator + Copy> IntMap<K, V, A> {
         let kept = self.table.take_at(at);
         self.len -= 1;
         kept.into_value()
-    }
-
-    /// Removes a located pair, puts the pair of its key and this value at the end of the slot, and
-    /// returns the old value. The last pair of the slot takes the place of the removed one. It
-    /// allocates nothing.
-    #[inline(always)]
-    pub(crate) fn replace_at(&mut self, at: Location<K>, value: V) -> V
-        requires { IsAt K.number_of self.old.walk self.old.capacity at }
-        ensures value { value_of K.number_of self.old.walk at.key ≡ Some result }
-        ensures state { self.new ≡ with_pair K.number_of self.old at.key value self.old.capacity }
-        ensures valid_after { IsMap K.number_of K.is_valid self.new }
-    {
-        self.table.replace_at(at, Kept::new(value)).into_value()
     }
 
     /// Removes a located pair and hands its value to the closure. If the closure returns an error,

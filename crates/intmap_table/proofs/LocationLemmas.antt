@@ -1,5 +1,5 @@
 -- Pairs that were located: what is there, and what a table is once one was written or removed.
-use Rattle.std.proofs.Common.{◌≡◌, ◌≢◌, ℕ, zero, suc, ◌<◌, ◌≤◌, Bool, true, cond, List, [], ◌∷◌, ◌++◌, length, Option, Some, None, IsSome, is_some, Result, Ok, Err, refl, sym, ap, ◌∙◌, subst, arith}
+use Rattle.std.proofs.Common.{◌≡◌, ◌≢◌, ℕ, zero, suc, ◌≤◌, Bool, true, cond, List, [], ◌∷◌, ◌++◌, length, Option, Some, None, IsSome, is_some, Result, Ok, Err, refl, sym, ap, ◌∙◌, subst, arith}
 use Rattle.std.specs.Prelude.{All, IfOk, OnErr, is_ok, count_by, filter, position}
 use Rattle.std.specs.List.{position_or_len, range_with_len}
 use Rattle.std.proofs.lemmas.Bool.Decides.{nat_tests}
@@ -15,7 +15,7 @@ use Rattle.intmap_table.specs.Walk.{slot_of, walk_of}
 use Rattle.intmap_table.proofs.WrittenLemmas.{slot_of-write_value}
 use Rattle.intmap_table.specs.declared.table.locate.Location.{Location}
 use Rattle.intmap_table.proofs.MappedLemmas.{flat_map-map}
-use Rattle.intmap_table.proofs.PositionLemmas.{swap_out-none, position-within, position_or_len-none, position-from_none}
+use Rattle.intmap_table.proofs.PositionLemmas.{swap_out-none, position_or_len-none, position-from_none}
 use Rattle.intmap_table.proofs.WalkLemmas.{same_key-slot, value_of-slot_of}
 
 -- no more elements pass a test once others were left out
@@ -50,18 +50,12 @@ module _ {K X : Type 0} (number : K → ℕ) where
       let rest = write_value-missing L k v in
       grind (arith, more, rest, none)
 
-  write_at-found : (L : List (K × X)) (k : K) (v : X) → position_or_len (λ q. same_key number k q.0) L < length L → count_by (λ q. same_key number k q.0) L ≤ 1
-      → write_at L (position_or_len (λ q. same_key number k q.0) L) v ≡ write_value number L k v
-  write_at-found [] k v below once = refl
-  write_at-found (p ∷ L) k v below once =
+  -- if the key occurs once at most, a write at its place is a write of its value
+  pub write_at-position_or_len : (L : List (K × X)) (k : K) (v : X) → count_by (λ q. same_key number k q.0) L ≤ 1 → write_at L (position_or_len (λ q. same_key number k q.0) L) v ≡ write_value number L k v
+  write_at-position_or_len [] k v once = refl
+  write_at-position_or_len (p ∷ L) k v once =
       let more = sum_by-cons (λ (q : K × X). cond (same_key number k q.0) 1 0) p L in
-      let missing = write_value-missing L k v in let rest = write_at-found L k v in grind (arith, below, once, more, missing, rest)
-
-  -- if the key occurs once, a write at its place is a write of its value
-  pub write_at-position : (L : List (K × X)) (k : K) (v : X) (i : ℕ) → position (λ q. same_key number k q.0) L ≡ Some i → count_by (λ q. same_key number k q.0) L ≤ 1 → write_at L i v ≡ write_value number L k v
-  write_at-position L k v i found once =
-      let p = position-within (λ (q : K × X). same_key number k q.0) L i found in
-      ap (λ n. write_at L n v) (sym p.0) ∙ write_at-found L k v (subst (λ n. n < length L) (sym p.0) p.1) once
+      let missing = write_value-missing L k v in let rest = write_at-position_or_len L k v in grind (arith, once, more, missing, rest)
 
   -- another slot keeps its values
   pub slot_of-write_value-other : (L : List (K × X)) (C : ℕ) (k : K) (v : X) (j : ℕ) → slot_number number k C ≢ j → slot_of number (write_value number L k v) C j ≡ slot_of number L C j

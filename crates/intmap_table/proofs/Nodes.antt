@@ -5,6 +5,8 @@ pub mod PathLemmas
 pub mod PassedLemmas
 pub mod ChainLemmas
 pub mod SlotLemmas
+pub mod PutLemmas
+pub mod PutRowLemmas
 pub mod LinkedLemmas
 pub mod HomeLemmas
 pub mod TurnLemmas
@@ -14,8 +16,14 @@ pub mod WrittenLemmas
 pub mod PlacedLemmas
 pub mod LentLemmas
 pub mod WalkedLemmas
+pub mod AlongLemmas
 pub mod RetainedLemmas
-pub mod PairsWrittenLemmas
 pub mod PickedLemmas
 pub mod DroppedLemmas
+pub mod FoundLemmas
 pub mod GrowingLemmas
+pub mod OwnedLemmas
+pub mod AskedLemmas
+pub mod BehindLemmas
+pub mod TakenLemmas
+pub mod SoughtLemmas

@@ -23,7 +23,7 @@ module _ {X : Type 0} where
       let e : suc (length zs) - 1 ≡ length zs = omega arith in
       ap (λ n. take n (set (z ∷ zs) i (get_or (z ∷ zs) n x))) e
 
-  swap_remove-behind : (y z : X) (zs : List X) (i : ℕ) (x : X) → swap_remove (y ∷ z ∷ zs) (suc i) x ≡ y ∷ swap_remove (z ∷ zs) i x
+  pub swap_remove-behind : (y z : X) (zs : List X) (i : ℕ) (x : X) → swap_remove (y ∷ z ∷ zs) (suc i) x ≡ y ∷ swap_remove (z ∷ zs) i x
   swap_remove-behind y z zs i x = swap_remove-cons y (z ∷ zs) (suc i) x ∙ ap (λ l. y ∷ l) (sym (swap_remove-cons z zs i x))
 
   last_passing-any : (d z : X) (zs : List X) (e : X) → last_passing any d (z ∷ zs) ≡ get_or (z ∷ zs) (length zs) e
@@ -34,7 +34,7 @@ module _ {X : Type 0} where
   without_last-any z [] = refl
   without_last-any z (y ∷ zs) = ap (λ r. z ∷ r) (without_last-any y zs)
 
-  swap_remove-first : (y x : X) (ys : List X) → x ≡ y → swap_remove (y ∷ ys) 0 x ≡ cond (list_any any ys) (last_passing any y ys ∷ without_last any ys) ys
+  pub swap_remove-first : (y x : X) (ys : List X) → x ≡ y → swap_remove (y ∷ ys) 0 x ≡ cond (list_any any ys) (last_passing any y ys ∷ without_last any ys) ys
   swap_remove-first y x [] e = refl
   swap_remove-first y x (z ∷ zs) e =
       swap_remove-cons y (z ∷ zs) 0 x ∙ simp (last_passing-any y z zs x, without_last-any z zs)

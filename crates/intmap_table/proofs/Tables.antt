@@ -16,3 +16,5 @@ pub mod NextMarkLemmas
 pub mod SameKeysLemmas
 pub mod SwapOutLemmas
 pub mod TableLemmas
+pub mod WordRowsLemmas
+pub mod FirstLemmas

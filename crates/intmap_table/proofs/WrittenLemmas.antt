@@ -2,11 +2,12 @@
 use Rattle.std.proofs.Common.{◌≡◌, ℕ, cond, zero, suc, List, [], ◌∷◌, Option, Some, None, IsSome, refl, sym, ap, ◌∙◌, subst, arith}
 use Rattle.std.specs.Prelude.{position}
 use Rattle.std.specs.List.{position_or_len}
+use Rattle.std.specs.Option.{option_and_then, option_map_or}
 use Rattle.std.proofs.lemmas.List.{length-map}
 use Rattle.intmap_table.specs.Classes.{same_key}
 use Rattle.intmap_table.specs.Bindings.{write_value}
 use Rattle.intmap_table.specs.Walk.{slot_of}
-use Rattle.intmap_table.specs.Locations.{IsAt, IsFound, key_at, the_key}
+use Rattle.intmap_table.specs.Locations.{IsAt, IsFound, key_at, the_key, write_in}
 use Rattle.intmap_table.specs.declared.table.locate.Location.{Location}
 
 module _ {K V : Type 0} (number : K → ℕ) where
@@ -45,6 +46,15 @@ the_key-same (Some x) (Some y) s t e = let same : x ≡ y = cc in same
 the_key-same (Some x) None s t e = absurd cc
 the_key-same None p s t e = absurd cc
 
+-- what is made of the key of an option that has one
+pub option_and_then-the_key : {K X : Type 0} (f : K → Option X) (o : Option K) (s : IsSome o) → option_and_then f o ≡ f (the_key o s)
+option_and_then-the_key f (Some k) s = refl
+option_and_then-the_key f None s = absurd cc
+
+pub option_map_or-the_key : {K X : Type 0} (f : K → X) (o : Option K) (d : X) (s : IsSome o) → option_map_or f o d ≡ f (the_key o s)
+option_map_or-the_key f (Some k) d s = refl
+option_map_or-the_key f None d s = absurd cc
+
 module _ {K V : Type 0} (number : K → ℕ) where
   -- a pair that was found is still there
   pub IsFound-write_value : (W : List (K × V)) (C slot place : ℕ) (k : K) (v : V) → IsFound number W C slot place → IsFound number (write_value number W k v) C slot place
@@ -55,3 +65,16 @@ module _ {K V : Type 0} (number : K → ℕ) where
         some = some;
         at = subst (λ q. IsAt number (write_value number W k v) C (record { key = q; slot = slot; place = place })) (sym (the_key-same _ _ some is.some same)) (IsAt-write_value number W C _ k v is.at);
       }
+
+  -- a write at a place where a pair is found
+  module _ (W : List (K × V)) (C slot place : ℕ) (v : V) (is : IsFound number W C slot place) where
+    -- is one of the value of the key there
+    pub write_in-the_key : write_in number W C slot place v ≡ write_value number W (the_key (key_at (slot_of number W C slot) place) is.some) v
+    write_in-the_key = option_map_or-the_key (λ k. write_value number W k v) (key_at (slot_of number W C slot) place) W is.some
+
+    -- and leaves that key there
+    pub key_at-write_in : key_at (slot_of number (write_in number W C slot place v) C slot) place ≡ key_at (slot_of number W C slot) place
+    key_at-write_in = ap (λ M. key_at (slot_of number M C slot) place) write_in-the_key ∙ key_at-written number W C slot place _ v
+
+    pub IsFound-write_in : IsFound number (write_in number W C slot place v) C slot place
+    IsFound-write_in = subst (λ M. IsFound number M C slot place) (sym write_in-the_key) (IsFound-write_value W C slot place _ v is)

@@ -1,13 +1,16 @@
 -- What a stored value, a slot, a node, a pool of nodes and a table end as, once a value of theirs, or each, was lent and written.
 use denote.Struct.Tuple.{Tuple}
-use Rattle.std.specs.Prelude.{ℕ, [], ◌∷◌}
-use Rattle.std.specs.Borrow.{Lends, Fml, RattleType, MutBor}
+use Rattle.std.specs.Prelude.{ℕ, [], ◌∷◌, Option}
+use Rattle.std.specs.List.{position_or_len}
+use Rattle.std.specs.Borrow.{Lends, LendsIf, Fml, RattleType, MutBor}
 use Rattle.std.specs.declared.alloc.Allocator as allocator
 use Rattle.std.specs.declared.cmp.PartialEq as eq
 use Rattle.intmap_table.specs.declared.key.IntKey as key
 use Rattle.intmap_table.specs.Bindings.{write_value}
+use Rattle.intmap_table.specs.Classes.{same_key}
+use Rattle.intmap_table.specs.Locations.{write_in}
 use Rattle.intmap_table.specs.Tables.Slots.{Grid}
-use Rattle.intmap_table.specs.Tables.Rows.{Contents, write_rows}
+use Rattle.intmap_table.specs.Tables.Rows.{Contents, row_at, write_rows}
 use Rattle.intmap_table.specs.Tables.Nodes.{Node, Slot, Pool, node_with, slot_with, write_node}
 use Rattle.intmap_table.specs.contracts.kept.Kept.{the_row as kept_row}
 use Rattle.intmap_table.specs.contracts.table.stored.Stored.{the_row as stored_row}
@@ -43,7 +46,18 @@ abbrev pub slots_lends : (K X A : RattleType) → key.Ghosts K.Denot → eq.Ghos
     → MutBor (Contents K.Denot X.Denot) → ℕ → ℕ → MutBor X.Denot → Fml
 slots_lends K X A g e a s i j r = Lends (slots_row K X A g e a) X s r (λ v. record s.now { rows = write_rows s.now.rows i j v })
 
--- once the loan named r ends, the table behind t has that value at the key k
-abbrev pub table_lends : (K X A : RattleType) → (g : key.Ghosts K.Denot) → eq.Ghosts K.Denot → allocator.Ghosts A.Denot
-    → MutBor (Grid K.Denot X.Denot) → K.Denot → MutBor X.Denot → Fml
-table_lends K X A g e a t k r = Lends (table_row K X A g e a) X t r (λ v. record t.now { walk = write_value g.number_of t.now.walk k v })
+-- the same once the key k was sought in slot i; if it is absent there, the slots are as they were
+abbrev pub slots_lends_present : (K V A : RattleType) → (g : key.Ghosts K.Denot) → eq.Ghosts K.Denot → allocator.Ghosts A.Denot
+    → MutBor (Contents K.Denot V.Denot) → ℕ → K.Denot → Option (MutBor V.Denot) → Fml
+slots_lends_present K V A g e a s i k r =
+    LendsIf (slots_row K (kept_row V) A g e a) V s r (λ v. record s.now { rows = write_rows s.now.rows i (position_or_len (λ p. same_key g.number_of k p.0) (row_at s.now i)) v }) s.now
+
+-- once the loan named r ends, the table behind t has that value as that of the key at place j of slot i
+abbrev pub table_lends_in : (K X A : RattleType) → (g : key.Ghosts K.Denot) → eq.Ghosts K.Denot → allocator.Ghosts A.Denot
+    → MutBor (Grid K.Denot X.Denot) → ℕ → ℕ → MutBor X.Denot → Fml
+table_lends_in K X A g e a t i j r = Lends (table_row K X A g e a) X t r (λ v. record t.now { walk = write_in g.number_of t.now.walk t.now.capacity i j v })
+
+-- the same of the key k, once it was sought; if it is absent, the table is as it was
+abbrev pub table_lends_present : (K V A : RattleType) → (g : key.Ghosts K.Denot) → eq.Ghosts K.Denot → allocator.Ghosts A.Denot
+    → MutBor (Grid K.Denot V.Denot) → K.Denot → Option (MutBor V.Denot) → Fml
+table_lends_present K V A g e a t k r = LendsIf (table_row K (kept_row V) A g e a) V t r (λ v. record t.now { walk = write_value g.number_of t.now.walk k v }) t.now

@@ -10,8 +10,10 @@ pub mod Writes
 pub mod Picking
 pub mod HandingOver
 pub mod Locations
+pub mod Firsts
 pub mod Lending
 pub mod Values
 pub mod Cloning
 pub mod Tables
 pub mod Apart
+pub mod Fronts

@@ -1,6 +1,8 @@
 -- Where the pair of a key is in a table.
 use Rattle.std.proofs.Common.{subst}
 use Rattle.std.specs.Prelude.{◌≡◌, ℕ, zero, suc, List, [], ◌∷◌, cond, Option, Some, None, IsSome, position}
+use Rattle.std.specs.Option.{option_map_or}
+use Rattle.intmap_table.specs.Bindings.{write_value}
 use Rattle.intmap_table.specs.Classes.{slot_number, same_key}
 use Rattle.intmap_table.specs.Walk.{slot_of}
 use Rattle.intmap_table.specs.declared.table.locate.Location.{Location}
@@ -26,3 +28,7 @@ module _ {K V : Type 0} (number : K → ℕ) where
   pub record IsFound (W : List (K × V)) (C slot place : ℕ) : Type 0 where
     pub some : IsSome (key_at (slot_of number W C slot) place)
     pub at : IsAt W C (record { key = the_key (key_at (slot_of number W C slot) place) some; slot = slot; place = place })
+
+  -- with v as the value of the key at place j of slot i, if a pair is there
+  abbrev pub write_in : List (K × V) → ℕ → ℕ → ℕ → V → List (K × V)
+  write_in W C i j v = option_map_or (λ k. write_value number W k v) (key_at (slot_of number W C i) j) W

@@ -2,6 +2,10 @@
 pub mod Bits
 pub mod Nodes
 pub mod Growing
+pub mod Owned
+pub mod Behind
+pub mod Putting
 pub mod Rows
 pub mod Walked
 pub mod Slots
+pub mod WordRows

@@ -7,7 +7,7 @@ use std::alloc::{AllocError, Allocator};
 use std::marker::Model;
 
 /// The number of bits of a word.
-const BITS: usize = 64;
+pub(crate) const BITS: usize = 64;
 
 /// One bit for each index: whether it is marked.
 #[derive(Drop)]
@@ -43,6 +43,18 @@ impl<A: Allocator> Bits<A> {
         ensures { IsWordOf self.now index result }
     {
         self.words[index / BITS]
+    }
+
+    /// Replaces the word that has the bit of an index. The bits of other words stay.
+    #[inline(always)]
+    pub(crate) fn set_word(&mut self, index: usize, word: u64)
+        requires { index < length self.old }
+        ensures word { IsWordOf self.new index word }
+        ensures others { (j : ℕ) → (j / 64 ≡ index / 64 → ⊥)
+            → marked self.new j ≡ marked self.old j }
+        ensures len { length self.new ≡ length self.old }
+    {
+        self.words[index / BITS] = word;
     }
 
     /// Marks an index, whose word was read before. No other index changes.

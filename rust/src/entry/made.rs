@@ -1,21 +1,22 @@
 //! Insertions of a value if the key is absent.
 use super::Entry;
 use crate::IntKey;
-use crate::refusal::{Refused, granted};
+use crate::refusal::Refused;
 
 impl<'a, K: IntKey, V> Entry<'a, K, V> {
     /// Inserts `value` if the key is absent, and drops it if the key is present. Returns a mutable
-    /// reference to the value of the key. Where [`try_or_insert`](Self::try_or_insert) fails, this
-    /// call panics or ends the process.
+    /// reference to the value of the key. It is [`or_insert_with`](Self::or_insert_with) of a closure
+    /// that returns `value`. Where [`try_or_insert`](Self::try_or_insert) fails, this call panics or
+    /// ends the process.
     ///
     /// ```
     /// let mut map = intmap_proved::IntMap::new();
     /// *map.entry(21u64).or_insert(1) += 1;
     /// assert_eq!(map[21], 2);
     /// ```
-    #[inline]
+    #[inline(always)]
     pub fn or_insert(self, value: V) -> &'a mut V {
-        granted(self.try_or_insert(value))
+        self.or_insert_with(|| value)
     }
 
     /// The same as [`or_insert`](Self::or_insert), but it returns a failure, by
@@ -33,29 +34,30 @@ impl<'a, K: IntKey, V> Entry<'a, K, V> {
     /// assert_eq!(map[21], 2);
     /// # Ok::<(), Refused<i32>>(())
     /// ```
-    #[inline]
+    #[inline(always)]
     pub fn try_or_insert(self, value: V) -> Result<&'a mut V, Refused<V>> {
         self.try_or_insert_with(|| value)
     }
 
     /// The same as [`or_insert`](Self::or_insert), with the value that `make` returns. `make` is
-    /// called only if the key is absent. [`try_or_insert_with`](Self::try_or_insert_with) returns a
+    /// called only if the key is absent. It is [`or_insert_with_key`](Self::or_insert_with_key) of a
+    /// closure that leaves the key aside. [`try_or_insert_with`](Self::try_or_insert_with) returns a
     /// failure.
     ///
     /// ```
     /// let mut map = intmap_proved::IntMap::new();
     /// assert_eq!(map.entry(21u64).or_insert_with(|| "a".to_string()), "a");
     /// ```
-    #[inline]
+    #[inline(always)]
     pub fn or_insert_with<F: FnOnce() -> V>(self, make: F) -> &'a mut V {
-        granted(self.try_or_insert_with(make))
+        self.or_insert_with_key(|_| make())
     }
 
     /// The same as [`or_insert_with`](Self::or_insert_with), but it returns a failure.
     ///
     /// # Errors
     /// Those of [`try_or_insert_with_key`](Self::try_or_insert_with_key).
-    #[inline]
+    #[inline(always)]
     pub fn try_or_insert_with<F: FnOnce() -> V>(self, make: F) -> Result<&'a mut V, Refused<V>> {
         self.try_or_insert_with_key(|_| make())
     }
@@ -63,13 +65,24 @@ impl<'a, K: IntKey, V> Entry<'a, K, V> {
     /// The same as [`or_insert_with`](Self::or_insert_with), but `make` takes the key.
     /// [`try_or_insert_with_key`](Self::try_or_insert_with_key) returns a failure.
     ///
+    /// Proved in part: the value of a present key is that of
+    /// [`OccupiedEntry::into_mut`](crate::OccupiedEntry::into_mut), and one that the closure made
+    /// is inserted by [`VacantEntry::insert`](crate::VacantEntry::insert). The choice between the
+    /// two, and the call of the closure, are by hand.
+    ///
     /// ```
     /// let mut map = intmap_proved::IntMap::new();
     /// assert_eq!(map.entry(21u64).or_insert_with_key(|key| key * 2), &42);
     /// ```
-    #[inline]
+    #[inline(always)]
     pub fn or_insert_with_key<F: FnOnce(&K) -> V>(self, make: F) -> &'a mut V {
-        granted(self.try_or_insert_with_key(make))
+        match self {
+            Entry::Occupied(entry) => entry.into_mut(),
+            Entry::Vacant(entry) => {
+                let value = make(entry.key());
+                entry.insert(value)
+            }
+        }
     }
 
     /// The same as [`or_insert_with_key`](Self::or_insert_with_key), but it returns a failure.
@@ -81,7 +94,7 @@ impl<'a, K: IntKey, V> Entry<'a, K, V> {
     /// [`OccupiedEntry::into_mut`](crate::OccupiedEntry::into_mut), and one that the closure made
     /// is inserted by [`VacantEntry::try_insert`](crate::VacantEntry::try_insert). The choice
     /// between the two, and the call of the closure, are by hand.
-    #[inline]
+    #[inline(always)]
     pub fn try_or_insert_with_key<F: FnOnce(&K) -> V>(
         self,
         make: F,
@@ -126,20 +139,21 @@ impl<'a, K: IntKey, V> Entry<'a, K, V> {
         }
     }
 
-    /// The same as [`or_insert`](Self::or_insert), with the default value of the type.
-    /// [`try_or_default`](Self::try_or_default) returns a failure.
+    /// The same as [`or_insert`](Self::or_insert), with the default value of the type, which
+    /// [`or_insert_with`](Self::or_insert_with) makes. [`try_or_default`](Self::try_or_default)
+    /// returns a failure.
     ///
     /// ```
     /// let mut map = intmap_proved::IntMap::<u64, Vec<u8>>::new();
     /// map.entry(21).or_default().push(1);
     /// assert_eq!(map[21], [1]);
     /// ```
-    #[inline]
+    #[inline(always)]
     pub fn or_default(self) -> &'a mut V
     where
         V: Default,
     {
-        granted(self.try_or_default())
+        self.or_insert_with(V::default)
     }
 
     /// The same as [`or_default`](Self::or_default), but it returns a failure, by
@@ -147,7 +161,7 @@ impl<'a, K: IntKey, V> Entry<'a, K, V> {
     ///
     /// # Errors
     /// Those of [`try_or_insert`](Self::try_or_insert).
-    #[inline]
+    #[inline(always)]
     pub fn try_or_default(self) -> Result<&'a mut V, Refused<V>>
     where
         V: Default,

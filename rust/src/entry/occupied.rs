@@ -23,7 +23,7 @@ impl<'a, K: IntKey, V> OccupiedEntry<'a, K, V> {
     ///     assert_eq!((entry.key(), entry.get()), (&21, &'a'));
     /// }
     /// ```
-    #[inline]
+    #[inline(always)]
     pub fn get(&self) -> &V {
         self.0.get()
     }
@@ -41,7 +41,7 @@ impl<'a, K: IntKey, V> OccupiedEntry<'a, K, V> {
     ///     assert_eq!(entry.get(), &2);
     /// }
     /// ```
-    #[inline]
+    #[inline(always)]
     pub fn get_mut(&mut self) -> &mut V {
         self.0.get_mut()
     }
@@ -61,7 +61,7 @@ impl<'a, K: IntKey, V> OccupiedEntry<'a, K, V> {
     /// *value += 1;
     /// assert_eq!(map[21], 2);
     /// ```
-    #[inline]
+    #[inline(always)]
     pub fn into_mut(self) -> &'a mut V {
         self.0.into_mut()
     }
@@ -79,7 +79,7 @@ impl<'a, K: IntKey, V> OccupiedEntry<'a, K, V> {
     /// }
     /// assert_eq!(map[21], 'b');
     /// ```
-    #[inline]
+    #[inline(always)]
     pub fn insert(&mut self, value: V) -> V {
         self.0.insert(value)
     }
@@ -87,7 +87,7 @@ impl<'a, K: IntKey, V> OccupiedEntry<'a, K, V> {
     /// Removes the pair as [`IntMap::remove`](crate::IntMap::remove) does, and returns the value.
     ///
     /// Proved of `OccupiedEntry::remove`: `value`, `state`, `updates`, `len`.
-    #[inline]
+    #[inline(always)]
     pub fn remove(self) -> V {
         self.0.remove()
     }
@@ -104,7 +104,7 @@ impl<'a, K: IntKey, V> OccupiedEntry<'a, K, V> {
     ///     assert_eq!(entry.remove_entry(), (21, 'a'));
     /// }
     /// ```
-    #[inline]
+    #[inline(always)]
     pub fn remove_entry(self) -> (K, V) {
         self.0.remove_entry()
     }

@@ -33,6 +33,10 @@ impl<'a, K: IntKey, V> VacantEntry<'a, K, V> {
     /// Inserts the pair at the end of its slot, and returns a mutable reference to the value. Where
     /// [`try_insert`](Self::try_insert) fails, this call panics or ends the process.
     ///
+    /// Proved in part: a slot that holds no pair is filled by the calls by which `insert` of a map
+    /// fills one. Otherwise the pair is inserted by `try_insert`. The choice between the two is by
+    /// hand.
+    ///
     /// ```
     /// use intmap_proved::{Entry, IntMap};
     ///
@@ -42,8 +46,18 @@ impl<'a, K: IntKey, V> VacantEntry<'a, K, V> {
     /// }
     /// assert_eq!(map[21], 2);
     /// ```
-    #[inline]
+    #[inline(always)]
     pub fn insert(self, value: V) -> &'a mut V {
+        match self.0.insert_first(value) {
+            Ok(value) => value,
+            Err((entry, value)) => VacantEntry(entry).insert_rest(value),
+        }
+    }
+
+    /// Inserts a pair whose slot holds another, or with which the map grows.
+    #[cold]
+    #[inline(never)]
+    fn insert_rest(self, value: V) -> &'a mut V {
         granted(self.try_insert(value))
     }
 
@@ -54,7 +68,7 @@ impl<'a, K: IntKey, V> VacantEntry<'a, K, V> {
     ///
     /// Proved in part: it is [`try_insert_entry`](VacantEntry::try_insert_entry), and then
     /// [`into_mut`](OccupiedEntry::into_mut) of the entry.
-    #[inline]
+    #[inline(always)]
     pub fn try_insert(self, value: V) -> Result<&'a mut V, Refused<V>> {
         Ok(self.try_insert_entry(value)?.into_mut())
     }
@@ -71,7 +85,7 @@ impl<'a, K: IntKey, V> VacantEntry<'a, K, V> {
     ///     assert_eq!(entry.insert_entry('a').get(), &'a');
     /// }
     /// ```
-    #[inline]
+    #[inline(always)]
     pub fn insert_entry(self, value: V) -> OccupiedEntry<'a, K, V> {
         granted(self.try_insert_entry(value))
     }
@@ -83,7 +97,7 @@ impl<'a, K: IntKey, V> VacantEntry<'a, K, V> {
     ///
     /// Proved of `VacantEntry::insert_entry`: `written`, `absent`, `inserted`, `err`,
     /// `value_returned`, `refused`, `succeeds`.
-    #[inline]
+    #[inline(always)]
     pub fn try_insert_entry(self, value: V) -> Result<OccupiedEntry<'a, K, V>, Refused<V>> {
         let (map, key, slot) = self.0.parted();
         let place = guarded!(&mut *map, |map| {

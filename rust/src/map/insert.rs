@@ -50,7 +50,8 @@ impl<K: IntKey, V> IntMap<K, V> {
     /// ```
     #[inline(always)]
     pub fn try_insert(&mut self, key: K, value: V) -> Result<Option<V>, Refused<V>> {
-        guarded!(&mut self.map, |map| map.insert(key, value))
+        // a guard holds the map only where a `number` is called once a pair has changed
+        self.map.insert(key, value)
     }
 
     /// Inserts the pair if the key is absent, and returns whether it was. A present key keeps its

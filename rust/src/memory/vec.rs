@@ -59,6 +59,19 @@ impl<T, A: Allocator> Vec<T, A> {
         self.items.try_reserve_exact(additional).map_err(|_| AllocError)
     }
 
+    /// Gives back the room that no item needs. It moves the items to a smaller block, and keeps the
+    /// present one if that allocation fails: Rust's `shrink_to_fit` would end the process.
+    pub fn shrink_to_fit(&mut self) {
+        if self.items.capacity() == self.items.len() {
+            return;
+        }
+        let mut made = alloc::vec::Vec::new();
+        if made.try_reserve_exact(self.items.len()).is_ok() {
+            made.append(&mut self.items);
+            self.items = made;
+        }
+    }
+
     /// Adds an item at the end. The proof shows that there is room. If a type of keys breaks the
     /// rules of its trait there may be none, and then this allocates as Rust's `push` does.
     #[inline]

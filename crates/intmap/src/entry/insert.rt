@@ -25,6 +25,7 @@ impl<'a, K: IntKey, V: Drop, A: Allocator + Copy> VacantEntry<'a, K, V, A> {
     ///     entry.get()    // 'd'
     /// }
     /// ```
+    #[inline(always)]
     pub fn insert_entry(self, value: V) -> Result<OccupiedEntry<'a, K, V, A>, Refused<V>>
         // what is returned and left
         ensures written { IfOk result (λ entry. IsWritten (Vacant self.entry) value
@@ -87,7 +88,7 @@ impl<'a, K: IntKey, V: Drop, A: Allocator + Copy> VacantEntry<'a, K, V, A> {
             Ok(at) => at,
             Err(refused) => return Err(E::from(refused)),
         };
-        Ok(map.value_mut_at(at))
+        Ok(map.value_mut_in(at.slot, at.place))
     }
 }
 
@@ -287,8 +288,7 @@ impl<'a, K: IntKey, V: Drop, A: Allocator + Copy> Entry<'a, K, V, A> {
             Entry::Occupied(entry) => {
                 // taken apart before the write, so that the proof follows the map into the result
                 let OccupiedEntry { map, slot, place } = entry;
-                let at = map.location(slot, place);
-                *map.value_mut_at(at) = value;
+                *map.value_mut_in(slot, place) = value;
                 Ok(OccupiedEntry { map, slot, place })
             }
             Entry::Vacant(entry) => entry.insert_entry(value),

@@ -26,8 +26,7 @@ impl<'a, K: IntKey, V, A: Allocator + Copy> OccupiedEntry<'a, K, V, A> {
     pub fn get(&self) -> &V
         ensures value { entry_value (Occupied self.now) ≡ Some result.now }
     {
-        let at = self.map.location(self.slot, self.place);
-        self.map.value_at(at)
+        self.map.value_in(self.slot, self.place)
     }
 
     /// A mutable reference to the value of the key. It can't outlive the entry; `into_mut` returns
@@ -47,8 +46,7 @@ impl<'a, K: IntKey, V, A: Allocator + Copy> OccupiedEntry<'a, K, V, A> {
     {
         let slot = self.slot;
         let place = self.place;
-        let at = self.map.location(slot, place);
-        self.map.value_mut_at(at)
+        self.map.value_mut_in(slot, place)
     }
 
     /// A mutable reference to the value of the key, for as long as the map is borrowed.
@@ -66,8 +64,7 @@ impl<'a, K: IntKey, V, A: Allocator + Copy> OccupiedEntry<'a, K, V, A> {
             → IsMap K.number_of K.is_valid (map_with_value (Occupied self.entry) v) }
     {
         let OccupiedEntry { map, slot, place } = self;
-        let at = map.location(slot, place);
-        map.value_mut_at(at)
+        map.value_mut_in(slot, place)
     }
 
     /// Sets the value of the key in its place, and returns the old value.

@@ -82,6 +82,6 @@ impl<'a, K: IntKey, V: Drop, A: Allocator + Copy> VacantEntry<'a, K, V, A> {
             Ok(at) => at,
             Err(refused) => return Err(refused),
         };
-        Ok(map.value_mut_at(at))
+        Ok(map.value_mut_in(at.slot, at.place))
     }
 }

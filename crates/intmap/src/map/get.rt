@@ -68,10 +68,10 @@ impl<K: IntKey, V, A: Allocator + Copy> IntMap<K, V, A> {
             ≡ steps.old + reach K.number_of self.now.walk self.now.capacity key }
         ensures valid { IsMap K.number_of K.is_valid self.now }
     {
-        let Ok(at) = self.table.locate(key, steps) else {
+        let Some((_, kept)) = self.table.pair_of(key, steps) else {
             return None;
         };
-        Some(self.table.value_at(at).get())
+        Some(kept.get())
     }
 
     /// A mutable reference to the value of the key, or `None` if the key is absent. Only the count
@@ -98,10 +98,7 @@ impl<K: IntKey, V, A: Allocator + Copy> IntMap<K, V, A> {
         ensures valid_after { (v : V) → IsMap K.number_of K.is_valid
             (written K.number_of (after_search K.number_of self.old key) key v) }
     {
-        match self.locate(key) {
-            Ok(at) => Some(self.value_mut_at(at)),
-            Err(_) => None,
-        }
+        self.table.value_mut_of(key, &mut self.compared)
     }
 
     /// The key as the map holds it, with its value, or `None` if the key is absent. It never fails.
@@ -117,11 +114,10 @@ impl<K: IntKey, V, A: Allocator + Copy> IntMap<K, V, A> {
         ensures valid { IsMap K.number_of K.is_valid self.now }
     {
         let mut steps = Steps::new();
-        let Ok(at) = self.table.locate(key, &mut steps) else {
+        let Some((found, kept)) = self.table.pair_of(key, &mut steps) else {
             return None;
         };
-        let found = self.table.key_at(at.slot, at.place);
-        Some((found, self.table.value_at(at).get()))
+        Some((found, kept.get()))
     }
 
     /// Whether the key is present. It never fails.

@@ -1,20 +1,30 @@
 //! Insertions.
-ghost use Rattle.std.specs.Prelude.{◌≡◌, ◌+◌, ◌*◌, ◌/◌, ◌<◌, length, IfOk, IfErr, IsOk, OnOk, OnErr, None, true, is_none, unwrap_or, MatchBool};
+ghost use Rattle.std.specs.Prelude.{◌≡◌, ◌<◌, IfOk, IfErr, IsOk, OnOk, OnErr, None, Some, is_none, unwrap_or, MatchBool};
 ghost use Rattle.intmap_table.specs.Classes.{slot_number};
 ghost use Rattle.intmap_table.specs.Bindings.{value_of};
+ghost use Rattle.intmap_table.specs.Firsts.{first_of, IsFirst};
 ghost use Rattle.intmap_table.specs.Locations.{IsAt};
-ghost use Rattle.intmap.specs.Growth.{is_due};
 ghost use Rattle.intmap.specs.Insertions.{IsInsertion};
 ghost use Rattle.intmap.specs.Map.{NeedsNoMemory, IsMap, after_search, after_insert, with_pair};
 ghost use Rattle.intmap.specs.PlainLists.{RefusalIsDue, list_of};
+ghost use Rattle.intmap.specs.Spots.{slot_in, IsSpot, TakesFirst, TakesOneMore, after_first, after_rest};
 
-use crate::load::{has_outgrown, threshold_of, wanted_capacity};
+use crate::load::{takes_one_more, threshold_of, wanted_capacity};
 use crate::map::IntMap;
 use crate::refusal::{Cause, Refused};
 use intmap_table::IntKey;
 use intmap_table::kept::Kept;
 use intmap_table::table::locate::Location;
 use std::alloc::Allocator;
+
+/// Where the pair of a key can be put at once: into its slot, which holds no pair, or into the place
+/// of the first pair of its slot. `Other` is a slot for which neither is so.
+#[derive(Clone, Copy)]
+pub(crate) enum Spot {
+    Vacant(usize),
+    First(usize),
+    Other(usize),
+}
 
 impl<K: IntKey, V: Drop, A: Allocator + Copy> IntMap<K, V, A> {
     /// Inserts the pair of the key and the value at the end of its slot, and returns the value that
@@ -63,14 +73,188 @@ impl<K: IntKey, V: Drop, A: Allocator + Copy> IntMap<K, V, A> {
         ensures valid { IsMap K.number_of K.is_valid self.old }
         ensures valid_after { IsMap K.number_of K.is_valid self.new }
     {
-        let slot = match self.locate(key) {
-            Ok(at) => return Ok(Some(self.replace_at(at, value))),
-            Err(slot) => slot,
+        match self.spot_for(key) {
+            Spot::Vacant(slot) => {
+                self.add_first(slot, key, value);
+                Ok(None)
+            }
+            Spot::First(slot) => Ok(Some(self.replace_first(slot, key, value))),
+            Spot::Other(slot) => self.insert_otherwise(slot, key, value),
+        }
+    }
+
+    /// Where the pair of a key can be put at once. If the slot of the key holds a pair, the first
+    /// one there is compared.
+    #[inline(always)]
+    pub(crate) fn spot_for(&mut self, key: K) -> Spot
+        ensures slot { slot_in result ≡ slot_number K.number_of key self.old.capacity }
+        ensures spot { IsSpot K.number_of self.old key result }
+        ensures state { self.new ≡ after_first K.number_of self.old (slot_in result) }
+        ensures valid { IsMap K.number_of K.is_valid self.old }
+    {
+        let slot = self.table.slot_of(&key);
+        if self.takes_first(slot) {
+            return Spot::Vacant(slot);
+        }
+        if self.table.first_is(slot, &key, &mut self.compared) {
+            return Spot::First(slot);
+        }
+        Spot::Other(slot)
+    }
+
+    /// Whether a slot holds no pair, and the map needn't grow for one more.
+    #[inline(always)]
+    pub(crate) fn takes_first(&self, slot: usize) -> bool
+        requires { slot < self.now.capacity }
+        ensures { MatchBool result (TakesFirst K.number_of self.now.walk self.now.capacity
+            self.now.factor slot) (TakesFirst K.number_of self.now.walk self.now.capacity
+            self.now.factor slot → ⊥) }
+    {
+        self.table.is_vacant(slot) && self.takes_one_more()
+    }
+
+    /// Whether the map needn't grow for one more pair.
+    #[inline(always)]
+    fn takes_one_more(&self) -> bool
+        ensures { MatchBool result
+            (TakesOneMore self.now.walk self.now.capacity self.now.factor)
+            (TakesOneMore self.now.walk self.now.capacity self.now.factor → ⊥) }
+    {
+        takes_one_more(self.len, self.threshold)
+    }
+
+    /// Adds the pair of a key to its slot, which holds none. The map needn't grow.
+    #[inline(always)]
+    pub(crate) fn add_first(&mut self, slot: usize, key: K, value: V)
+        requires slot { slot ≡ slot_number K.number_of key self.old.capacity }
+        requires free { TakesFirst K.number_of self.old.walk self.old.capacity self.old.factor
+            slot }
+        ensures absent { value_of K.number_of self.old.walk key ≡ None }
+        ensures first { IsFirst K.number_of self.new.walk self.new.capacity slot key }
+        ensures known { K.is_valid key }
+        ensures inserted { IsInsertion K.number_of K.is_valid self.old key value self.new }
+        ensures state { self.new
+            ≡ with_pair K.number_of self.old key value self.new.capacity }
+        ensures valid { IsMap K.number_of K.is_valid self.old }
+        ensures valid_after { IsMap K.number_of K.is_valid self.new }
+    {
+        self.table.fill(slot, key, Kept::new(value));
+        self.len += 1;
+    }
+
+    /// Replaces the pair of a key, which is the first one of its slot, and returns the old value.
+    /// The last pair of the slot takes its place, and the pair of the key and this value is put
+    /// last. It allocates nothing.
+    #[inline(always)]
+    pub(crate) fn replace_first(&mut self, slot: usize, key: K, value: V) -> V
+        requires { IsFirst K.number_of self.old.walk self.old.capacity slot key }
+        ensures value { value_of K.number_of self.old.walk key ≡ Some result }
+        ensures state { self.new ≡ with_pair K.number_of self.old key value self.old.capacity }
+        ensures valid_after { IsMap K.number_of K.is_valid self.new }
+    {
+        self.table
+            .replace_first(slot, key, Kept::new(value))
+            .into_value()
+    }
+
+    /// Inserts the pair of a key and a value as `insert` does, if it can't be put at once. Keys are
+    /// compared from the second pair of the slot on, up to the one sought.
+    #[inline(never)]
+    pub(crate) fn insert_otherwise(
+        &mut self,
+        slot: usize,
+        key: K,
+        value: V,
+    ) -> Result<Option<V>, Refused<V>>
+        requires slot { slot ≡ slot_number K.number_of key self.old.capacity }
+        requires taken { TakesFirst K.number_of self.old.walk self.old.capacity self.old.factor slot
+            → ⊥ }
+        requires other { value_of K.number_of
+            (first_of K.number_of self.old.walk self.old.capacity slot) key ≡ None }
+        ensures old { IfOk result (λ old. old ≡ value_of K.number_of self.old.walk key) }
+        ensures inserted { OnOk result
+            (IsInsertion K.number_of K.is_valid self.old key value self.new) }
+        ensures state { OnOk result (self.new ≡ with_pair K.number_of
+            (after_rest K.number_of self.old slot key) key value self.new.capacity) }
+        ensures err { OnErr result (self.new ≡ after_rest K.number_of self.old slot key) }
+        ensures value_returned { IfErr result (λ refused. refused.value ≡ value) }
+        ensures refused { IfErr result (λ refused. RefusalIsDue K.number_of (list_of self.old) key
+            refused.cause) }
+        ensures valid { IsMap K.number_of K.is_valid self.old }
+        ensures valid_after { IsMap K.number_of K.is_valid self.new }
+    {
+        if !self.takes_one_more() {
+            return self.insert_growing(slot, key, value);
+        }
+        match self
+            .table
+            .put(slot, key, Kept::new(value), &mut self.compared)
+        {
+            Ok(Some(old)) => Ok(Some(old.into_value())),
+            Ok(None) => {
+                self.len += 1;
+                Ok(None)
+            }
+            Err(kept) => Err(Refused {
+                value: kept.into_value(),
+                cause: Cause::Memory,
+            }),
+        }
+    }
+
+    /// Inserts the pair of a key and a value as `insert_otherwise` does, if a new key makes the map
+    /// grow.
+    fn insert_growing(&mut self, slot: usize, key: K, value: V) -> Result<Option<V>, Refused<V>>
+        requires slot { slot ≡ slot_number K.number_of key self.old.capacity }
+        requires full { TakesOneMore self.old.walk self.old.capacity self.old.factor → ⊥ }
+        requires other { value_of K.number_of
+            (first_of K.number_of self.old.walk self.old.capacity slot) key ≡ None }
+        ensures old { IfOk result (λ old. old ≡ value_of K.number_of self.old.walk key) }
+        ensures inserted { OnOk result
+            (IsInsertion K.number_of K.is_valid self.old key value self.new) }
+        ensures state { OnOk result (self.new ≡ with_pair K.number_of
+            (after_rest K.number_of self.old slot key) key value self.new.capacity) }
+        ensures err { OnErr result (self.new ≡ after_rest K.number_of self.old slot key) }
+        ensures value_returned { IfErr result (λ refused. refused.value ≡ value) }
+        ensures refused { IfErr result (λ refused. RefusalIsDue K.number_of (list_of self.old) key
+            refused.cause) }
+        ensures valid { IsMap K.number_of K.is_valid self.old }
+        ensures valid_after { IsMap K.number_of K.is_valid self.new }
+    {
+        let value = match self.replace_further(slot, key, value) {
+            Ok(old) => return Ok(Some(old)),
+            Err(value) => value,
         };
-        if let Err(refused) = self.add(slot, key, value) {
+        if let Err(refused) = self.add_growing(slot, key, value) {
             return Err(refused);
         }
         Ok(None)
+    }
+
+    /// Replaces the pair of a key, if it is behind the first one of its slot, and returns the old
+    /// value. If the key is absent, it returns the new value, and only the count of compared keys
+    /// changes.
+    fn replace_further(&mut self, slot: usize, key: K, value: V) -> Result<V, V>
+        requires slot { slot ≡ slot_number K.number_of key self.old.capacity }
+        requires other { value_of K.number_of
+            (first_of K.number_of self.old.walk self.old.capacity slot) key ≡ None }
+        ensures value { IfOk result (λ old. value_of K.number_of self.old.walk key ≡ Some old) }
+        ensures state { OnOk result (self.new ≡ with_pair K.number_of
+            (after_rest K.number_of self.old slot key) key value self.old.capacity) }
+        ensures missing { OnErr result (value_of K.number_of self.old.walk key ≡ None) }
+        ensures err { OnErr result (self.new ≡ after_rest K.number_of self.old slot key) }
+        ensures value_returned { IfErr result (λ returned. returned ≡ value) }
+        ensures valid { IsMap K.number_of K.is_valid self.old }
+        ensures valid_after { IsMap K.number_of K.is_valid self.new }
+    {
+        let kept = match self
+            .table
+            .replace_further(slot, key, Kept::new(value), &mut self.compared)
+        {
+            Ok(old) => return Ok(old.into_value()),
+            Err(kept) => kept,
+        };
+        Err(kept.into_value())
     }
 
     /// Inserts the pair if the key is absent, and returns whether it inserted it. If the key is
@@ -134,23 +318,16 @@ impl<K: IntKey, V: Drop, A: Allocator + Copy> IntMap<K, V, A> {
         ensures valid { IsMap K.number_of K.is_valid self.old }
         ensures valid_after { IsMap K.number_of K.is_valid self.new }
     {
-        if self.len == usize::MAX {
-            return Err(Refused {
-                value,
-                cause: Cause::TooLarge,
-            });
-        }
-        let len = self.len + 1;
-        if has_outgrown(len, self.threshold) {
+        if !self.takes_one_more() {
             // taken apart, since the compiler otherwise writes the location byte by byte
-            match self.add_growing(len, slot, key, value) {
+            match self.add_growing(slot, key, value) {
                 Ok(at) => return Ok(at),
                 Err(refused) => return Err(refused),
             }
         }
         match self.table.add(slot, key, Kept::new(value)) {
             Ok(at) => {
-                self.len = len;
+                self.len += 1;
                 Ok(at)
             }
             Err(kept) => Err(Refused {
@@ -160,21 +337,13 @@ impl<K: IntKey, V: Drop, A: Allocator + Copy> IntMap<K, V, A> {
         }
     }
 
-    /// Adds the pair of an absent key, if the new length exceeds the load factor, and returns where
-    /// it is. All memory is allocated before a pair moves.
+    /// Adds the pair of an absent key, if the slots don't take one more, and returns where it is.
+    /// All memory is allocated before a pair moves.
     #[inline(never)]
-    fn add_growing(
-        &mut self,
-        len: usize,
-        slot: usize,
-        key: K,
-        value: V,
-    ) -> Result<Location<K>, Refused<V>>
+    fn add_growing(&mut self, slot: usize, key: K, value: V) -> Result<Location<K>, Refused<V>>
         requires missing { value_of K.number_of self.old.walk key ≡ None }
         requires slot { slot ≡ slot_number K.number_of key self.old.capacity }
-        requires count { len ≡ length self.old.walk + 1 }
-        requires due { is_due len ≡ true }
-        requires exceeds { self.old.factor < len * 1000 / self.old.capacity }
+        requires full { TakesOneMore self.old.walk self.old.capacity self.old.factor → ⊥ }
         ensures key { IfOk result (λ at. at.key ≡ key) }
         ensures at { IfOk result (IsAt K.number_of self.new.walk self.new.capacity) }
         ensures known { OnOk result (K.is_valid key) }
@@ -188,6 +357,13 @@ impl<K: IntKey, V: Drop, A: Allocator + Copy> IntMap<K, V, A> {
             refused.cause) }
         ensures valid_after { IsMap K.number_of K.is_valid self.new }
     {
+        if self.len == usize::MAX {
+            return Err(Refused {
+                value,
+                cause: Cause::TooLarge,
+            });
+        }
+        let len = self.len + 1;
         let Some(capacity) = wanted_capacity(len, self.table.capacity(), self.factor) else {
             return Err(Refused {
                 value,

@@ -6,12 +6,14 @@ ghost use Rattle.intmap_table.specs.Bindings.{value_of, Updates};
 ghost use Rattle.intmap_table.specs.Classes.{slot_number};
 ghost use Rattle.intmap.specs.Map.{IsMap, after_remove, emptied, with_walk};
 ghost use Rattle.intmap_table.specs.Walk.{ArePassed};
+ghost use Rattle.intmap_table.specs.Fronts.{IsFront};
 ghost use Rattle.intmap_table.specs.Retaining.{KeepsAt, Retains, TakesPair};
 ghost use Rattle.intmap_table.specs.Taking.{TakesEach};
 ghost use Rattle.intmap.specs.Answering.{AnswersKey, AnswersPair, TestsPairs};
 
 use crate::map::IntMap;
 use intmap_table::IntKey;
+use intmap_table::table::front::Front;
 use std::alloc::Allocator;
 
 impl<K: IntKey, V, A: Allocator + Copy> IntMap<K, V, A> {
@@ -34,10 +36,11 @@ impl<K: IntKey, V, A: Allocator + Copy> IntMap<K, V, A> {
         ensures valid { IsMap K.number_of K.is_valid self.old }
         ensures valid_after { IsMap K.number_of K.is_valid self.new }
     {
-        let Ok(at) = self.locate(key) else {
+        let Some(kept) = self.table.remove(key, &mut self.compared) else {
             return None;
         };
-        Some(self.take_at(at))
+        self.len -= 1;
+        Some(kept.into_value())
     }
 
     /// The same as [`remove`](IntMap::remove), but it returns the key beside its value. It never
@@ -65,8 +68,8 @@ impl<K: IntKey, V, A: Allocator + Copy> IntMap<K, V, A> {
     }
 
     /// Removes the first pair of the walk and returns it, or `None` if there is none. It serves a
-    /// type that holds a map and has an iterator of its own; [`drain`](IntMap::drain) is an
-    /// iterator of such calls.
+    /// type that holds a map and has an iterator of its own; [`drain`](IntMap::drain) is the
+    /// map's own.
     ///
     /// The search begins at the slot number `from`. No slot before it may hold a pair, so begin
     /// with 0. The call sets `from` to the number of the slot that held the pair, so the next call
@@ -84,6 +87,7 @@ impl<K: IntKey, V, A: Allocator + Copy> IntMap<K, V, A> {
     /// map.take_front(&mut from)    // Some((2, 12))
     /// from                         // 2
     /// ```
+    #[inline(always)]
     pub fn take_front(&mut self, from: &mut usize) -> Option<(K, V)>
         requires { ArePassed K.number_of self.old.walk self.old.capacity from.old }
         ensures first { YieldsFirst (λ m. m.walk) self.old result self.new }
@@ -99,6 +103,21 @@ impl<K: IntKey, V, A: Allocator + Copy> IntMap<K, V, A> {
         ensures valid_after { IsMap K.number_of K.is_valid self.new }
     {
         let Some((key, kept)) = self.table.take_front(from) else {
+            return None;
+        };
+        self.len -= 1;
+        Some((key, kept.into_value()))
+    }
+
+    /// Removes the first pair of the walk and returns it. All pairs before the front were taken.
+    #[inline(always)]
+    pub(crate) fn take_next(&mut self, front: &mut Front) -> Option<(K, V)>
+        requires { IsFront K.number_of self.old.walk self.old.capacity front.old }
+        ensures first { YieldsFirst (λ m. m.walk) self.old result self.new }
+        ensures state { self.new ≡ with_walk self.old self.new.walk }
+        ensures passed { IsFront K.number_of self.new.walk self.new.capacity front.new }
+    {
+        let Some((key, kept)) = self.table.take_next(front) else {
             return None;
         };
         self.len -= 1;

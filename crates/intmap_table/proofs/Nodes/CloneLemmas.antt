@@ -1,8 +1,8 @@
 -- Clones of chains and of slots, in new nodes.
-use Rattle.std.proofs.Common.{⊎_elim, ◌≡◌, ℕ, zero, suc, ◌+◌, ◌-◌, ◌*◌, ◌/◌, ◌<◌, ◌≤◌, Bool, List, [], ◌∷◌, ◌++◌, length, get_or, take, refl, sym, ap, ◌∙◌, subst, arith}
+use Rattle.std.proofs.Common.{⊎_elim, ◌≡◌, ◌≢◌, ℕ, zero, suc, ◌+◌, ◌-◌, ◌*◌, ◌/◌, ◌<◌, ◌≤◌, Bool, List, [], ◌∷◌, ◌++◌, length, get_or, set, replicate, get_or-set_same, get_or-set_other, refl, sym, ap, ◌∙◌, subst, arith}
 use Rattle.std.specs.Prelude.{nat_lt}
 use Rattle.std.specs.List.{AllZip}
-use Rattle.std.proofs.lemmas.List.{append_assoc, append-nil, length-map, length_push, get_or_append_left, get_or_push, get_or-map, map-append, take_all, take_more, ext_get_or}
+use Rattle.std.proofs.lemmas.List.{append_assoc, append-nil, length-map, length_push, get_or_append_left, get_or_push, get_or-map, map-append, ext_get_or}
 use Rattle.std.proofs.lemmas.List.Sums.{sum_by-append, sum_by-cons}
 use Rattle.intmap_table.specs.Classes.{slot_number}
 use Rattle.intmap_table.specs.Cloning.{IsPairClone}
@@ -11,8 +11,8 @@ use Rattle.intmap_table.specs.Tables.Rows.{AreRows, IsChainClone, IsRowClone}
 use Rattle.intmap_table.proofs.Nodes.NodeLemmas.{below_or_not, Stop, held_limit}
 use Rattle.intmap_table.proofs.Nodes.PathLemmas.{Path-append, Chain-next, Chain-end, Chain-none, Chain-nowhere, Chain-beyond}
 use Rattle.intmap_table.proofs.Nodes.ChainLemmas.{set_of_leads}
-use Rattle.intmap_table.proofs.Nodes.SlotLemmas.{Slot-first}
-use Rattle.intmap_table.proofs.Nodes.LinkedLemmas.{Stays, slot_stays, IsRow, Row-of}
+use Rattle.intmap_table.proofs.Nodes.SlotLemmas.{Slot-first, Slot-none}
+use Rattle.intmap_table.proofs.Nodes.LinkedLemmas.{same_or_not, Stays, slot_stays, Linked-set, IsRow}
 use Rattle.intmap_table.proofs.Tables.CloneLemmas.{AreClones, AllZip-append}
 
 module _ {P : Type 0} where
@@ -65,6 +65,19 @@ module _ {P : Type 0} (home : P → ℕ) where
         linked = record { chains = λ j below. (at j below).chain; own = λ j below. (at j below).own; held = omega (arith, sum, one, held, before) };
         rows = rows;
       }
+
+module _ {P : Type 0} where
+  -- a row without pairs at the end shows nowhere
+  get_or-none : (S : List (List P)) (j : ℕ) → get_or (S ++ [] ∷ []) j [] ≡ get_or S j []
+  get_or-none [] zero = refl
+  get_or-none [] (suc j) = refl
+  get_or-none (s ∷ S) zero = refl
+  get_or-none (s ∷ S) (suc j) = get_or-none S j
+
+  -- a slot whose row has no pair is empty
+  empty_row : (cs : List (Node P)) (s : Slot P) → row_in cs s ≡ [] → s ≡ Empty
+  empty_row cs Empty none = refl
+  empty_row cs (Filled l p) none = cc
 
 module _ {K X : Type 0} (clones : X → X → Type 0) where
   -- the pairs before link `link` of a chain have clones, and node `first` leads through them, to node m: it comes next, if there are further pairs
@@ -166,6 +179,13 @@ module _ {K X : Type 0} (clones : X → X → Type 0) where
         };
       }
 
+  -- clones at each place are clones of all
+  zip_rows : (R S : List (List (K × X))) → length R ≡ length S → ((j : ℕ) → j < length R → AreClones clones (get_or R j []) (get_or S j [])) → AllZip (AreClones clones) R S
+  zip_rows [] [] len each = tt
+  zip_rows [] (s ∷ S) len each = absurd (omega (arith, len))
+  zip_rows (r ∷ R) [] len each = absurd (omega (arith, len))
+  zip_rows (r ∷ R) (s ∷ S) len each = (each 0 (omega arith), zip_rows R S (omega (arith, len)) (λ j less. each (suc j) (omega (arith, less))))
+
   -- there are as many rows of clones
   same_lengths : (R S : List (List (K × X))) → AllZip (AreClones clones) R S → length R ≡ length S
   same_lengths [] [] all = refl
@@ -195,69 +215,83 @@ module _ {K X : Type 0} (clones : X → X → Type 0) where
   home_cloned C number i (p ∷ r) [] all own = absurd all
   home_cloned C number i (p ∷ r) (q ∷ s) all own = (ap (λ k. slot_number number k C) all.0.0 ∙ own.0, home_cloned C number i r s all.1 own.1)
 
-  -- slots T with nodes b have clones of the first n rows
-  pub record AreFirstCloned (number : K → ℕ) (R : List (List (K × X))) (n : ℕ) (T : List (Slot (K × X))) (b : Pool (K × X)) : Type 0 where
-    pub linked : AreLinked (λ p. slot_number number p.0 (length R)) T b
-    pub are : AllZip (AreClones clones) (take n R) (rows_in T b.nodes)
+  -- slots T with nodes b have clones of the rows before row k, and no other pairs
+  pub record AreClonedBelow (number : K → ℕ) (R : List (List (K × X))) (C k : ℕ) (T : List (Slot (K × X))) (b : Pool (K × X)) : Type 0 where
+    pub linked : AreLinked (λ p. slot_number number p.0 C) T b
+    pub are : (j : ℕ) → j < k → AreClones clones (get_or R j []) (get_or (rows_in T b.nodes) j [])
+    pub none : (j : ℕ) → k ≤ j → get_or (rows_in T b.nodes) j [] ≡ []
 
-  -- no slot is cloned yet
-  pub First-start : (number : K → ℕ) (R : List (List (K × X))) (a : Pool (K × X)) → a.held ≡ 0 → AreFirstCloned number R 0 [] a
-  First-start number R a held = record {
-    linked = record { chains = λ i below. absurd (omega (arith, below)); own = λ i below. absurd (omega (arith, below)); held = sym held };
-    are = tt;
+  -- slots without a pair are added
+  Below-added : (number : K → ℕ) (R : List (List (K × X))) (C k : ℕ) (T : List (Slot (K × X))) (a : Pool (K × X)) (n : ℕ) → AreClonedBelow number R C k T a → AreClonedBelow number R C k (T ++ replicate n Empty) a
+  Below-added number R C k T a zero h = subst (λ S. AreClonedBelow number R C k S a) (sym (append-nil T)) h
+  Below-added number R C k T a (suc n) h =
+      let more = Linked-push (λ (p : K × X). slot_number number p.0 C) T a [] a Empty h.linked (Slot-none a) tt in
+      let same : (j : ℕ) → get_or (rows_in (T ++ Empty ∷ []) a.nodes) j [] ≡ get_or (rows_in T a.nodes) j [] = λ j. ap (λ S. get_or S j []) more.rows ∙ get_or-none (rows_in T a.nodes) j in
+      let one : AreClonedBelow number R C k (T ++ Empty ∷ []) a = record {
+        linked = more.linked;
+        are = λ j below. subst (λ row. AreClones clones (get_or R j []) row) (sym (same j)) (h.are j below);
+        none = λ j le. same j ∙ h.none j le;
+      } in
+      subst (λ S. AreClonedBelow number R C k S a) (append_assoc T (Empty ∷ []) (replicate n Empty)) (Below-added number R C k (T ++ Empty ∷ []) a n one)
+
+  pub Below-more : (number : K → ℕ) (R : List (List (K × X))) (C k : ℕ) (T S : List (Slot (K × X))) (a : Pool (K × X)) (n : ℕ) → AreClonedBelow number R C k T a → S ≡ T ++ replicate n Empty → AreClonedBelow number R C k S a
+  Below-more number R C k T S a n h is = subst (λ U. AreClonedBelow number R C k U a) (sym is) (Below-added number R C k T a n h)
+
+  -- rows without pairs are passed
+  pub Below-passed : (number : K → ℕ) (R : List (List (K × X))) (C k m : ℕ) (T : List (Slot (K × X))) (a : Pool (K × X)) → k ≤ m → ((j : ℕ) → k ≤ j → j < m → get_or R j [] ≡ []) → AreClonedBelow number R C k T a → AreClonedBelow number R C m T a
+  Below-passed number R C k m T a up empty h = record {
+    linked = h.linked;
+    are = λ j below. ⊎_elim (λ less. h.are j less)
+        (λ le. subst (λ row. AreClones clones row (get_or (rows_in T a.nodes) j [])) (sym (empty j le below)) (subst (λ row. AreClones clones [] row) (sym (h.none j le)) tt))
+        (below_or_not j k);
+    none = λ j le. h.none j (omega (arith, up, le));
   }
 
-  -- the next slot is cloned too
-  pub First-next : (number : K → ℕ) (slots : List (Slot (K × X))) (pool : Pool (K × X)) (n : ℕ) (s : Slot (K × X)) (T : List (Slot (K × X))) (a : Pool (K × X)) (t : Slot (K × X)) (b : Pool (K × X))
-      → IsRow number slots pool (rows_in slots pool.nodes) n s → IsRowClone clones (row_in pool.nodes s) a b t → AreFirstCloned number (rows_in slots pool.nodes) n T a → length T ≡ n
-      → AreFirstCloned number (rows_in slots pool.nodes) (n + 1) (T ++ t ∷ []) b
-  First-next number slots pool n s T a t b row h first len =
+  -- the next slot is cloned
+  pub Below-next : (number : K → ℕ) (slots : List (Slot (K × X))) (pool : Pool (K × X)) (k : ℕ) (s : Slot (K × X)) (T : List (Slot (K × X))) (a : Pool (K × X)) (t : Slot (K × X)) (b : Pool (K × X))
+      → IsRow number slots pool (rows_in slots pool.nodes) k s → IsRowClone clones (row_in pool.nodes s) a b t → AreClonedBelow number (rows_in slots pool.nodes) (length slots) k T a → k < length T
+      → AreClonedBelow number (rows_in slots pool.nodes) (length slots) (k + 1) (set T k t) b
+  Below-next number slots pool k s T a t b row h below within =
       let R = rows_in slots pool.nodes in
-      let all : length R ≡ length slots = length-map slots (row_in pool.nodes) in
-      let own : AreHome (λ p. slot_number number p.0 (length R)) n (row_in pool.nodes s) = subst (λ C. AreHome (λ p. slot_number number p.0 C) n (row_in pool.nodes s)) (sym all) row.own in
-      let more = Linked-push (λ (p : K × X). slot_number number p.0 (length R)) T a h.copies b t first.linked h.slot
-      (subst (λ k. AreHome (λ p. slot_number number p.0 (length R)) k h.copies) (sym len) (home_cloned (length R) number n (row_in pool.nodes s) h.copies h.are own)) in
-      let within : n < length R = (let w = row.within in omega (arith, all, w)) in
-      let front : take (n + 1) R ≡ take n R ++ row_in pool.nodes s ∷ [] = take_more R n [] within ∙ ap (λ ps. take n R ++ ps ∷ []) (sym row.is) in
+      let len = length-map T (row_in a.nodes) in
+      let was : get_or T k Empty ≡ Empty = empty_row a.nodes (get_or T k Empty) (sym (get_or-map (row_in a.nodes) T k Empty [] within) ∙ below.none k (omega arith)) in
+      let own = home_cloned (length slots) number k (row_in pool.nodes s) h.copies h.are row.own in
+      let next = Linked-set (λ (p : K × X). slot_number number p.0 (length slots)) T a k h.copies b t within below.linked (subst (λ u. IsSlotSet a u h.copies b t) (sym was) h.slot) own in
+      let here : get_or (rows_in (set T k t) b.nodes) k [] ≡ h.copies = ap (λ S. get_or S k []) next.rows ∙ get_or-set_same (rows_in T a.nodes) k h.copies [] (omega (arith, len, within)) in
+      let other : (j : ℕ) → j ≢ k → get_or (rows_in (set T k t) b.nodes) j [] ≡ get_or (rows_in T a.nodes) j [] = λ j apart. ap (λ S. get_or S j []) next.rows ∙ get_or-set_other (rows_in T a.nodes) k j h.copies [] apart in
+      let mine : AreClones clones (get_or R k []) (get_or (rows_in (set T k t) b.nodes) k []) = subst (λ ps. AreClones clones ps (get_or (rows_in (set T k t) b.nodes) k [])) row.is (subst (λ ps. AreClones clones (row_in pool.nodes s) ps) (sym here) h.are) in
       record {
-        linked = more.linked;
-        are = subst (λ S. AllZip (AreClones clones) S (rows_in (T ++ t ∷ []) b.nodes)) (sym front) (subst (λ S. AllZip (AreClones clones) (take n R ++ row_in pool.nodes s ∷ []) S) (sym more.rows)
-            (AllZip-append (AreClones clones) (take n R) (row_in pool.nodes s ∷ []) (rows_in T a.nodes) (h.copies ∷ []) first.are (h.are, tt)));
+        linked = next.linked;
+        are = λ j less. ⊎_elim
+            (λ e. subst (λ i. AreClones clones (get_or R i []) (get_or (rows_in (set T k t) b.nodes) i [])) (sym e) mine)
+            (λ apart. subst (λ ps. AreClones clones (get_or R j []) ps) (sym (other j apart)) (below.are j (omega (arith, less, apart))))
+            (same_or_not j k);
+        none = λ j le. other j (λ e. omega (arith, e, le)) ∙ below.none j (omega (arith, le));
       }
 
+  -- all rows are cloned
+  pub Below-all : (number : K → ℕ) (R : List (List (K × X))) (C k : ℕ) (T : List (Slot (K × X))) (b : Pool (K × X)) → AreClonedBelow number R C k T b → ((j : ℕ) → k ≤ j → get_or R j [] ≡ []) → length T ≡ length R
+      → AllZip (AreClones clones) R (rows_in T b.nodes)
+  Below-all number R C k T b h empty len =
+      let all = Below-passed number R C k (k + length R) T b (omega arith) (λ j le less. empty j le) h in
+      zip_rows R (rows_in T b.nodes) (sym len ∙ sym (length-map T (row_in b.nodes))) (λ j less. all.are j (omega (arith, less)))
+
   -- clones of all rows are the rows of slots with the same marks
-  pub First-all : (number : K → ℕ) (slots : List (Slot (K × X))) (pool : Pool (K × X)) (marks : List Bool) (mask n : ℕ) (T : List (Slot (K × X))) (b : Pool (K × X)) → AreRows number slots pool marks mask
-      → AreFirstCloned number (rows_in slots pool.nodes) n T b → AllZip (AreClones clones) (rows_in slots pool.nodes) (rows_in T b.nodes) → AreRows number T b marks mask
-  First-all number slots pool marks mask n T b are first all =
+  pub Rows-cloned : (number : K → ℕ) (slots : List (Slot (K × X))) (pool : Pool (K × X)) (marks : List Bool) (mask : ℕ) (T : List (Slot (K × X))) (b : Pool (K × X)) → AreRows number slots pool marks mask
+      → AreLinked (λ p. slot_number number p.0 (length slots)) T b → AllZip (AreClones clones) (rows_in slots pool.nodes) (rows_in T b.nodes) → AreRows number T b marks mask
+  Rows-cloned number slots pool marks mask T b are linked all =
       let R = rows_in slots pool.nodes in
       let S = rows_in T b.nodes in
       let rows : length R ≡ length S = same_lengths R S all in
       let old : length R ≡ length slots = length-map slots (row_in pool.nodes) in
       let new : length S ≡ length T = length-map T (row_in b.nodes) in
       let len : length T ≡ length slots = omega (arith, rows, old, new) in
-      let words = are.marked.words in
       record {
-        linked = subst (λ C. AreLinked (λ p. slot_number number p.0 C) T b) (rows ∙ new) first.linked;
+        linked = subst (λ C. AreLinked (λ p. slot_number number p.0 C) T b) (sym len) linked;
         capacity = rw len are.capacity;
         marked = record {
-          words = words ∙ ap (λ n. 64 * ((n + 63) / 64)) rows;
+          words = are.marked.words ∙ ap (λ n. 64 * ((n + 63) / 64)) rows;
           own = λ i. are.marked.own i ∙ ap (nat_lt 0) (same_rows R S i all);
         };
         count = are.count ∙ sym len;
       }
-
-  -- all slots are cloned
-  pub First-done : (number : K → ℕ) (slots items : List (Slot (K × X))) (cs : List (Node (K × X))) (n : ℕ) (T : List (Slot (K × X))) (b : Pool (K × X)) → AreFirstCloned number (rows_in slots cs) n T b → items ≡ slots → length items ≤ n
-      → AllZip (AreClones clones) (rows_in slots cs) (rows_in T b.nodes)
-  First-done number slots items cs n T b first e le =
-      let len = length-map slots (row_in cs) in
-      let same = ap length e in
-      subst (λ R. AllZip (AreClones clones) R (rows_in T b.nodes)) (take_all n (rows_in slots cs) (omega (arith, len, same, le))) first.are
-
--- the slot at the place of a loop has its row
-pub Row-read : {K X : Type 0} (number : K → ℕ) (slots : List (Slot (K × X))) (pool : Pool (K × X)) (marks : List Bool) (mask : ℕ) (items : List (Slot (K × X))) (i : ℕ) (s : Slot (K × X)) → AreRows number slots pool marks mask
-    → items ≡ slots → i < length items → s ≡ get_or items i s → IsRow number slots pool (rows_in slots pool.nodes) i s
-Row-read number slots pool marks mask items i s are e below read =
-    let len = length-map slots (row_in pool.nodes) in
-    let same = ap length e in
-    Row-of number slots pool marks mask i s are (omega (arith, len, same, below)) (subst (λ xs. s ≡ get_or xs i s) e read)

@@ -6,18 +6,20 @@ use Rattle.std.proofs.Math.Seq.{take-append_seam}
 use Rattle.std.proofs.lemmas.Bool.{lt-ltb, le-ltb}
 use Rattle.std.proofs.lemmas.Grind.{reverse_onto}
 use Rattle.std.proofs.lemmas.List.Elements.{filter-append}
-use Rattle.std.proofs.lemmas.List.{reverse-append, ext_get_or, get_or_default, get_or-map, get_or-take, get_or-append_right, length-append, length-map, length-replicate, length-set, length-take-le, get_or-set_same, get_or-set_other}
+use Rattle.std.proofs.lemmas.List.{length_push, reverse-append, ext_get_or, get_or_default, get_or-map, get_or-take, get_or-append_right, length-append, length-map, length-replicate, length-set, length-take-le, get_or-set_same, get_or-set_other}
 use Rattle.std.proofs.lemmas.List.FromFn.{length-map-range_with_len, get_or-map-range_with_len}
 use Rattle.intmap_table.specs.Classes.{slot_number}
+use Rattle.intmap_table.specs.declared.linked.row.growth.Order.{Order}
+use Rattle.intmap_table.specs.declared.linked.row.growth.Order.TheVariants as orders
 use Rattle.intmap_table.specs.Walk.{slot_of}
-use Rattle.intmap_table.specs.Tables.Growing.{blank, moved_slot, put_in}
+use Rattle.intmap_table.specs.Tables.Growing.{blank, moved_slot, place_in, put_in}
 use Rattle.intmap_table.specs.Tables.Nodes.{Node, Held, Slot, Empty, Filled, Pool, node_at, chain_of, row_in, rows_in, AreHome, AreLinked, IsChain, IsChainSet, IsCut, IsSlot, IsSlotSet, Misses, Spares}
 use Rattle.intmap_table.specs.Tables.Rows.{AreRows, HasMoved, IsGrown}
 use Rattle.intmap_table.proofs.SlotNumberLemmas.{capacity-positive}
-use Rattle.intmap_table.proofs.Tables.FilledLemmas.{marks-enough, AreMarked-set}
+use Rattle.intmap_table.proofs.Tables.FilledLemmas.{filled-pushed, marks-enough, AreMarked-set}
 use Rattle.intmap_table.proofs.Tables.GrownLemmas.{grown-more}
 use Rattle.intmap_table.proofs.Tables.MarkedLemmas.{get_or-of_default}
-use Rattle.intmap_table.proofs.Nodes.LinkedLemmas.{HaveRows, Row-of, Row-set, Stays, home-join, same_or_not, slot_stays}
+use Rattle.intmap_table.proofs.Nodes.LinkedLemmas.{HaveRows, Row-of, Row-set, Stays, home-append, home-join, same_or_not, slot_stays}
 use Rattle.intmap_table.proofs.Nodes.NodeLemmas.{below_or_not}
 use Rattle.intmap_table.proofs.Nodes.PathLemmas.{Chain-next}
 use Rattle.intmap_table.proofs.Nodes.PlacedLemmas.{home-put_second, put_second-filled}
@@ -27,25 +29,39 @@ pub part-outside : (C i j : ℕ) → j % C ≡ i → (j < i + 1) ⊎ (C ≤ j)
 part-outside C i j part = elim (below_or_not j C) [ inl lt ↦ inl (let e = mod-eq_of_lt lt in omega (arith, e, part)) | inr le ↦ inr le ]
 
 -- a pair that is put in before the other ones, or between the first one and them
-put_between : {P : Type 0} (b : Bool) (first p : P) (ps : List P) → put_in b (cond b (first ∷ ps) ps) p ≡ cond b (first ∷ p ∷ ps) (p ∷ ps)
+put_between : {P : Type 0} (b : Bool) (first p : P) (ps : List P) → put_in (cond b orders.Second orders.First) (cond b (first ∷ ps) ps) p ≡ cond b (first ∷ p ∷ ps) (p ∷ ps)
 put_between true first p ps = refl
 put_between false first p ps = refl
 
-home_put_in : {P : Type 0} (home : P → ℕ) (i : ℕ) (b : Bool) (ps : List P) (p : P) → AreHome home i ps → home p ≡ i → AreHome home i (put_in b ps p)
-home_put_in home i true ps p own e = home-put_second home i ps p own e
-home_put_in home i false ps p own e = (e, own)
+-- a pair that is alone
+pub put_in-alone : {P : Type 0} (o : Order) (p : P) → put_in o [] p ≡ p ∷ []
+put_in-alone orders.First p = refl
+put_in-alone orders.Second p = refl
+put_in-alone orders.Last p = refl
 
 -- there is one more
-pub length-put_in : {P : Type 0} (b : Bool) (ps : List P) (p : P) → length (put_in b ps p) ≡ length ps + 1
-length-put_in true [] p = refl
-length-put_in true (q ∷ ps) p = omega arith
-length-put_in false ps p = omega arith
+pub length-put_in : {P : Type 0} (o : Order) (ps : List P) (p : P) → length (put_in o ps p) ≡ length ps + 1
+length-put_in orders.First ps p = omega arith
+length-put_in orders.Second [] p = refl
+length-put_in orders.Second (q ∷ ps) p = omega arith
+length-put_in orders.Last ps p = length_push ps p
 
-put_in_filled : {P : Type 0} (b : Bool) (ps : List P) (p : P) → true ≡ nat_lt 0 (length (put_in b ps p))
-put_in_filled true ps p = put_second-filled ps p
-put_in_filled false ps p = sym (lt-ltb 0 (length (p ∷ ps)) (omega arith))
+pub place_in-alone : {P : Type 0} (o : Order) (row : List P) → row ≡ [] → place_in o row ≡ 0
+place_in-alone orders.First row none = refl
+place_in-alone orders.Second row none = ap (place_in orders.Second) none
+place_in-alone orders.Last row none = ap length none
 
-pub cond_same : {X : Type 0} (b : Bool) (x : X) → cond b x x ≡ x
+home_put_in : {P : Type 0} (home : P → ℕ) (i : ℕ) (o : Order) (ps : List P) (p : P) → AreHome home i ps → home p ≡ i → AreHome home i (put_in o ps p)
+home_put_in home i orders.First ps p own e = (e, own)
+home_put_in home i orders.Second ps p own e = home-put_second home i ps p own e
+home_put_in home i orders.Last ps p own e = home-append home i ps p own e
+
+put_in_filled : {P : Type 0} (o : Order) (ps : List P) (p : P) → true ≡ nat_lt 0 (length (put_in o ps p))
+put_in_filled orders.First ps p = sym (lt-ltb 0 (length (p ∷ ps)) (omega arith))
+put_in_filled orders.Second ps p = put_second-filled ps p
+put_in_filled orders.Last ps p = sym (filled-pushed ps p)
+
+cond_same : {X : Type 0} (b : Bool) (x : X) → cond b x x ≡ x
 cond_same true x = refl
 cond_same false x = refl
 
@@ -234,9 +250,9 @@ module _ {K X : Type 0} (number : K → ℕ) where
     pub row : row_in pool.nodes (get_or S j Empty) ≡ get_or R j []
 
   -- slot j got a pair
-  pub record HasPut (n C mask : ℕ) (S : List (Slot (K × X))) (pool : Pool (K × X)) (j : ℕ) (behind : Bool) (p : K × X) (T : List (Slot (K × X))) (pool' : Pool (K × X)) (marks' : List Bool) : Type 0 where
+  pub record HasPut (n C mask : ℕ) (S : List (Slot (K × X))) (pool : Pool (K × X)) (j : ℕ) (order : Order) (p : K × X) (T : List (Slot (K × X))) (pool' : Pool (K × X)) (marks' : List Bool) : Type 0 where
     pub are : AreRows number (blank n C T) pool' marks' mask
-    pub rows : rows_in (blank n C T) pool'.nodes ≡ set (rows_in (blank n C S) pool.nodes) j (put_in behind (get_or (rows_in (blank n C S) pool.nodes) j []) p)
+    pub rows : rows_in (blank n C T) pool'.nodes ≡ set (rows_in (blank n C S) pool.nodes) j (put_in order (get_or (rows_in (blank n C S) pool.nodes) j []) p)
     pub len : length T ≡ length S
     pub left : (k : ℕ) → n ≤ k → k < C → get_or T k Empty ≡ get_or S k Empty
 
@@ -261,18 +277,18 @@ module _ {K X : Type 0} (number : K → ℕ) where
       row = ap (row_in pool.nodes) (sym slot_is) ∙ sym (get_or-map (row_in pool.nodes) (blank n C S) j Empty [] in_blank);
     }
 
-    pub Growing-put : (behind : Bool) (p : K × X) (T : List (Slot (K × X))) (pool' : Pool (K × X)) (marks' : List Bool) → slot_number number p.0 (mask + 1) ≡ j
-        → (t : Slot (K × X)) × (T ≡ set S j t) × IsSlotSet pool (get_or S j Empty) (put_in behind (row_in pool.nodes (get_or S j Empty)) p) pool' t → marks' ≡ set marks j true → HasPut n C mask S pool j behind p T pool' marks'
-    Growing-put behind p T pool' marks' own put marked =
+    pub Growing-put : (order : Order) (p : K × X) (T : List (Slot (K × X))) (pool' : Pool (K × X)) (marks' : List Bool) → slot_number number p.0 (mask + 1) ≡ j
+        → (t : Slot (K × X)) × (T ≡ set S j t) × IsSlotSet pool (get_or S j Empty) (put_in order (row_in pool.nodes (get_or S j Empty)) p) pool' t → marks' ≡ set marks j true → HasPut n C mask S pool j order p T pool' marks'
+    Growing-put order p T pool' marks' own put marked =
         let B = blank n C S in
         let R = rows_in B pool.nodes in
         let s = get_or S j Empty in
         let t = put.0 in
         let row = Row-of number B pool marks mask j s are in_rows (sym slot_is ∙ get_or_default B j Empty s in_blank) in
-        let done : HaveRows number (set B j t) pool' (set marks j true) mask (set R j (put_in behind (get_or R j []) p)) =
-        Row-set number B pool marks mask j s (λ ps. put_in behind ps p) pool' t (set marks j true) are row put.2
-        (home_put_in (λ q. slot_number number q.0 (length B)) j behind (row_in pool.nodes s) p row.own (ap (slot_number number p.0) (sym are.count) ∙ own))
-        (AreMarked-set R marks are.marked j in_rows (put_in behind (get_or R j []) p) true (put_in_filled behind (get_or R j []) p)) in
+        let done : HaveRows number (set B j t) pool' (set marks j true) mask (set R j (put_in order (get_or R j []) p)) =
+        Row-set number B pool marks mask j s (λ ps. put_in order ps p) pool' t (set marks j true) are row put.2
+        (home_put_in (λ q. slot_number number q.0 (length B)) j order (row_in pool.nodes s) p row.own (ap (slot_number number p.0) (sym are.count) ∙ own))
+        (AreMarked-set R marks are.marked j in_rows (put_in order (get_or R j []) p) true (put_in_filled order (get_or R j []) p)) in
         let same : set B j t ≡ blank n C T = sym (ap (blank n C) put.1 ∙ blank-set n C S j t out below) in
         record {
           are = subst (λ ms. AreRows number (blank n C T) pool' ms mask) (sym marked) (subst (λ U. AreRows number U pool' (set marks j true) mask) same done.are);
@@ -308,33 +324,33 @@ module _ {K X : Type 0} (number : K → ℕ) where
     pub rows : (k : ℕ) → k < length R → get_or S k [] ≡ get_or R k [] ++ slot_of number (first ∷ done) D k
 
   pub Moving-start : (D : ℕ) (row : List (K × X)) (j : ℕ) (left : List (K × X)) (R S : List (List (K × X))) (p : K × X) → row ≡ p ∷ reverse left → slot_number number p.0 D ≡ j → get_or R j [] ≡ []
-      → S ≡ set R j (put_in false (get_or R j []) p) → IsMoving D row j left R S
+      → S ≡ set R j (put_in orders.First (get_or R j []) p) → IsMoving D row j left R S
   Moving-start D row j left R S p is own none put = record {
     first = p;
     done = [];
     pairs = is ∙ ap (λ ps. p ∷ ps) (sym (append-nil (reverse left)));
     own = own;
-    len = ap length put ∙ length-set R j (put_in false (get_or R j []) p);
+    len = ap length put ∙ length-set R j (put_in orders.First (get_or R j []) p);
     rows = λ k below.
         ap (λ T. get_or T k []) put
         ∙ ⊎_elim (λ e.
         let yes : (slot_number number p.0 D == k) ≡ true = grind (arith, own, e) in
-        ap (λ i. get_or (set R j (put_in false (get_or R j []) p)) i []) e ∙ get_or-set_same R j (put_in false (get_or R j []) p) [] (omega (arith, e, below)) ∙ ap (λ ps. p ∷ ps) none
+        ap (λ i. get_or (set R j (put_in orders.First (get_or R j []) p)) i []) e ∙ get_or-set_same R j (put_in orders.First (get_or R j []) p) [] (omega (arith, e, below)) ∙ ap (λ ps. p ∷ ps) none
         ∙ sym (ap (λ b. get_or R k [] ++ cond b (p ∷ []) []) yes ∙ ap (λ i. get_or R i [] ++ p ∷ []) e ∙ ap (λ ps. ps ++ p ∷ []) none))
         (λ apart.
         let no : (slot_number number p.0 D == k) ≡ false = grind (arith, own, apart) in
-        get_or-set_other R j k (put_in false (get_or R j []) p) [] apart ∙ sym (ap (λ b. get_or R k [] ++ cond b (p ∷ []) []) no ∙ append-nil (get_or R k [])))
+        get_or-set_other R j k (put_in orders.First (get_or R j []) p) [] apart ∙ sym (ap (λ b. get_or R k [] ++ cond b (p ∷ []) []) no ∙ append-nil (get_or R k [])))
         (same_or_not k j);
   }
 
-  pub Moving-next : (D : ℕ) (row : List (K × X)) (j : ℕ) (left : List (K × X)) (R S : List (List (K × X))) (p : K × X) (rest : List (K × X)) (i : ℕ) (T : List (List (K × X))) → IsMoving D row j left R S → left ≡ p ∷ rest
-      → slot_number number p.0 D ≡ i → get_or R i [] ≡ [] → T ≡ set S i (put_in (j == i) (get_or S i []) p) → IsMoving D row j rest R T
-  Moving-next D row j left R S p rest i T h is own none put = record {
+  pub Moving-next : (D : ℕ) (row : List (K × X)) (j : ℕ) (left : List (K × X)) (R S : List (List (K × X))) (p : K × X) (rest : List (K × X)) (i : ℕ) (o : Order) (T : List (List (K × X))) → IsMoving D row j left R S → left ≡ p ∷ rest
+      → slot_number number p.0 D ≡ i → o ≡ cond (j == i) orders.Second orders.First → get_or R i [] ≡ [] → T ≡ set S i (put_in o (get_or S i []) p) → IsMoving D row j rest R T
+  Moving-next D row j left R S p rest i o T h is own which none put = record {
     first = h.first;
     done = p ∷ h.done;
     pairs = h.pairs ∙ ap (λ ps. h.first ∷ (reverse ps ++ h.done)) is ∙ ap (λ ps. h.first ∷ ps) (ap (λ xs. xs ++ h.done) (reverse_onto rest p []) ∙ append_assoc (reverse rest) (p ∷ []) h.done);
     own = h.own;
-    len = ap length put ∙ length-set S i (put_in (j == i) (get_or S i []) p) ∙ h.len;
+    len = ap length put ∙ length-set S i (put_in o (get_or S i []) p) ∙ h.len;
     rows = λ k below.
         let len = h.len in
         ap (λ U. get_or U k []) put
@@ -342,15 +358,15 @@ module _ {K X : Type 0} (number : K → ℕ) where
         let yes : (slot_number number p.0 D == i) ≡ true = grind (arith, own) in
         let same : (slot_number number h.first.0 D == i) ≡ (j == i) = ap (λ n. n == i) h.own in
         let Z = slot_of number h.done D i in
-        ap (λ n. get_or (set S i (put_in (j == i) (get_or S i []) p)) n []) e ∙ get_or-set_same S i (put_in (j == i) (get_or S i []) p) [] (omega (arith, e, below, len))
-        ∙ ap (λ ps. put_in (j == i) ps p) (h.rows i (omega (arith, e, below)) ∙ ap (λ ps. ps ++ slot_of number (h.first ∷ h.done) D i) none ∙ ap (λ b. cond b (h.first ∷ Z) Z) same)
-        ∙ put_between (j == i) h.first p Z
+        ap (λ n. get_or (set S i (put_in o (get_or S i []) p)) n []) e ∙ get_or-set_same S i (put_in o (get_or S i []) p) [] (omega (arith, e, below, len))
+        ∙ ap (λ ps. put_in o ps p) (h.rows i (omega (arith, e, below)) ∙ ap (λ ps. ps ++ slot_of number (h.first ∷ h.done) D i) none ∙ ap (λ b. cond b (h.first ∷ Z) Z) same)
+        ∙ ap (λ u. put_in u (cond (j == i) (h.first ∷ Z) Z) p) which ∙ put_between (j == i) h.first p Z
         ∙ sym (ap (λ n. get_or R n [] ++ slot_of number (h.first ∷ p ∷ h.done) D n) e ∙ ap (λ ps. ps ++ slot_of number (h.first ∷ p ∷ h.done) D i) none
         ∙ ap (λ b. cond (slot_number number h.first.0 D == i) (h.first ∷ cond b (p ∷ Z) Z) (cond b (p ∷ Z) Z)) yes ∙ ap (λ b. cond b (h.first ∷ p ∷ Z) (p ∷ Z)) same))
         (λ apart.
         let no : (slot_number number p.0 D == k) ≡ false = grind (arith, own, apart) in
         let Z = slot_of number h.done D k in
-        get_or-set_other S i k (put_in (j == i) (get_or S i []) p) [] apart ∙ h.rows k below
+        get_or-set_other S i k (put_in o (get_or S i []) p) [] apart ∙ h.rows k below
         ∙ sym (ap (λ b. get_or R k [] ++ cond (slot_number number h.first.0 D == k) (h.first ∷ cond b (p ∷ Z) Z) (cond b (p ∷ Z) Z)) no))
         (same_or_not k i);
   }

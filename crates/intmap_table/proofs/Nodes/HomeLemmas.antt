@@ -6,12 +6,12 @@ use Rattle.std.specs.Borrow.{MutBor}
 use Rattle.std.specs.List.Retain.{ExtractsNext}
 use Rattle.std.proofs.lemmas.List.{take-append-drop, get_or-map, length-map}
 use Rattle.std.proofs.lemmas.List.Elements.{All-nil, All-cons}
-use Rattle.intmap_table.specs.Classes.{slot_number}
+use Rattle.intmap_table.specs.Classes.{slot_number, IsCapacity}
 use Rattle.intmap_table.specs.Picking.{ExtractsBehind, PicksAt}
 use Rattle.intmap_table.specs.Retaining.{Retains}
 use Rattle.intmap_table.specs.Writes.{Writes}
 use Rattle.intmap_table.specs.Tables.Nodes.{Slot, Empty, Pool, AreHome, AreLinked, row_in, rows_in}
-use Rattle.intmap_table.specs.Tables.Rows.{AreRows}
+use Rattle.intmap_table.specs.Tables.Rows.{AreRows, IsTable}
 use Rattle.intmap_table.proofs.ExtractLemmas.{ExtractsNext-induct}
 use Rattle.intmap_table.proofs.Nodes.LinkedLemmas.{home_take, home_drop, home-join}
 
@@ -32,6 +32,13 @@ Rows-own number slots a marks mask are i below =
     let long = length-map slots (row_in a.nodes) in
     subst (λ n. All (λ p. slot_number number p.0 n ≡ i) (get_or (rows_in slots a.nodes) i [])) (sym long)
     (Linked-own (λ p. slot_number number p.0 (length slots)) slots a are.linked i (omega (arith, long, below)))
+
+-- they are a table
+pub Rows-table : {K X : Type 0} (number : K → ℕ) (slots : List (Slot (K × X))) (a : Pool (K × X)) (marks : List Bool) (mask : ℕ) → AreRows number slots a marks mask → IsTable number (rows_in slots a.nodes)
+Rows-table number slots a marks mask are = record {
+  capacity = subst IsCapacity (sym (length-map slots (row_in a.nodes))) are.capacity;
+  in_place = Rows-own number slots a marks mask are;
+}
 
 module _ {F P : Type 0} (home : P → ℕ) (i : ℕ) (R : F → P → Bool → F → Type 0) where
   one_kept : (b : Bool) (p : P) (ps : List P) → home p ≡ i → AreHome home i ps → AreHome home i (cond b (p ∷ ps) ps)

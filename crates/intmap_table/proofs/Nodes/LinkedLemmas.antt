@@ -161,19 +161,23 @@ module _ {K X : Type 0} (number : K → ℕ) where
     pub is : row_in pool.nodes s ≡ get_or R i []
     pub own : AreHome (λ p. slot_number number p.0 (length slots)) i (row_in pool.nodes s)
 
-  pub Row-of : (slots : List (Slot (K × X))) (pool : Pool (K × X)) (marks : List Bool) (mask : ℕ) (i : ℕ) (s : Slot (K × X))
-      → AreRows number slots pool marks mask → i < length (rows_in slots pool.nodes) → s ≡ get_or slots i s → IsRow slots pool (rows_in slots pool.nodes) i s
-  Row-of slots pool marks mask i s are within read =
+  pub Row-in : (slots : List (Slot (K × X))) (pool : Pool (K × X)) (i : ℕ) (s : Slot (K × X))
+      → AreLinked (λ p. slot_number number p.0 (length slots)) slots pool → i < length (rows_in slots pool.nodes) → s ≡ get_or slots i s → IsRow slots pool (rows_in slots pool.nodes) i s
+  Row-in slots pool i s linked within read =
       let len = length-map slots (row_in pool.nodes) in
       let less : i < length slots = omega (arith, len, within) in
       let slot : s ≡ get_or slots i Empty = read ∙ get_or_default slots i s Empty less in
       record {
         within = less;
         slot = slot;
-        chain = subst (λ t. IsSlot pool.nodes t) (sym slot) (are.linked.chains i less);
+        chain = subst (λ t. IsSlot pool.nodes t) (sym slot) (linked.chains i less);
         is = ap (row_in pool.nodes) slot ∙ sym (get_or-map (row_in pool.nodes) slots i Empty [] less);
-        own = subst (λ t. AreHome (λ p. slot_number number p.0 (length slots)) i (row_in pool.nodes t)) (sym slot) (are.linked.own i less);
+        own = subst (λ t. AreHome (λ p. slot_number number p.0 (length slots)) i (row_in pool.nodes t)) (sym slot) (linked.own i less);
       }
+
+  pub Row-of : (slots : List (Slot (K × X))) (pool : Pool (K × X)) (marks : List Bool) (mask : ℕ) (i : ℕ) (s : Slot (K × X))
+      → AreRows number slots pool marks mask → i < length (rows_in slots pool.nodes) → s ≡ get_or slots i s → IsRow slots pool (rows_in slots pool.nodes) i s
+  Row-of slots pool marks mask i s are = Row-in slots pool i s are.linked
 
   -- with another row of slot i, and with marks that say so
   pub Row-set : (slots : List (Slot (K × X))) (a : Pool (K × X)) (marks : List Bool) (mask : ℕ) (i : ℕ) (s : Slot (K × X)) (f : List (K × X) → List (K × X)) (b : Pool (K × X)) (t : Slot (K × X)) (marks' : List Bool)

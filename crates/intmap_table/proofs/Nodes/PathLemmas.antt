@@ -262,31 +262,9 @@ module _ {P : Type 0} where
       let e = ap length next.pairs in
       omega (arith, none, all, e)
 
-  -- the second node of a chain of several
-  pub Chain-second : (cs : List (Node P)) (l n : ℕ) (p : P) → IsChain cs l → 1 < length (chain_of cs l) → node_at cs l ≡ Held n p → (m : ℕ) × (q : P) × (node_at cs n ≡ Held m q)
-  Chain-second cs l n p leads several is =
-      let next = Chain-next cs l n p leads is in
-      let e = ap length next.pairs in
-      Chain-first cs n next.is (omega (arith, e, several))
-
   -- where more pairs are left behind a node, the next one is held
   pub NodeAt-more : (cs : List (Node P)) (from i l n : ℕ) (p : P) → IsNodeAt cs from i l → node_at cs l ≡ Held n p → i + 1 < length (chain_of cs from) → (m : ℕ) × (q : P) × (node_at cs n ≡ Held m q)
   NodeAt-more cs from i l n p r is more = NodeAt-some cs from (i + 1) n (NodeAt-next cs from i l n p r is) more
-
-  -- where one pair is left behind a node, it is the last one
-  pub NodeAt-end : (cs : List (Node P)) (from i l n : ℕ) (p : P) → IsNodeAt cs from i l → node_at cs l ≡ Held n p → length (chain_of cs from) ≡ i + 2 → (q : P) × (node_at cs n ≡ Held nowhere q)
-  NodeAt-end cs from i l n p r is len =
-      let next = NodeAt-next cs from i l n p r is in
-      let held = NodeAt-some cs from (i + 1) n next (omega (arith, len)) in
-      let behind = Chain-next cs n held.0 held.1 next.is held.2 in
-      let all = NodeAt-len cs from (i + 1) n next in
-      let e = ap length behind.pairs in
-      let none : length (chain_of cs held.0) ≡ 0 = omega (arith, all, e, len) in
-      (held.1, held.2 ∙ ap (λ m. Held m held.1) (Chain-nowhere cs held.0 behind.is (nil (chain_of cs held.0) none)))
-    where
-      nil : (ps : List P) → length ps ≡ 0 → ps ≡ []
-      nil [] e = refl
-      nil (q ∷ ps) e = absurd (omega arith)
 
   pub Last-len : (cs : List (Node P)) (from i l : ℕ) → IsLast cs from i l → length (chain_of cs from) ≡ i + 1
   Last-len cs from i l last = let e = ap length last.pairs ∙ length-append last.before (last.pair ∷ []) in let n = last.len in omega (arith, e, n)

@@ -1,9 +1,9 @@
 -- Changes of one slot.
-use Rattle.std.proofs.Common.{◌≡◌, ◌≢◌, ℕ, zero, suc, ◌+◌, ◌-◌, ◌<◌, ◌≤◌, Bool, false, List, [], ◌∷◌, ◌++◌, length, get_or, set, take, drop, refl, sym, ap, ◌∙◌, subst, arith}
+use Rattle.std.proofs.Common.{◌≡◌, ℕ, zero, suc, ◌+◌, ◌-◌, ◌<◌, ◌≤◌, Bool, List, [], ◌∷◌, ◌++◌, length, get_or, set, take, drop, refl, sym, ap, ◌∙◌, subst, arith}
 use Rattle.std.specs.Prelude.{swap_remove}
-use Rattle.std.proofs.lemmas.List.{length-append, get_or_append_left, set-append_left, length-set}
+use Rattle.std.proofs.lemmas.List.{length-append, set-append_left, length-set}
 use Rattle.std.proofs.Math.Seq.{set-append_seam, take-append_seam}
-use Rattle.intmap_table.specs.Tables.Nodes.{Slot, Empty, Filled, Pool, nowhere, node_limit, chain_of, IsChain, Misses, Spares, IsChainSet, IsPopped, IsCut, IsLastSet, row_in, IsSlotSet}
+use Rattle.intmap_table.specs.Tables.Nodes.{Slot, Empty, Filled, Pool, nowhere, node_limit, chain_of, IsChain, Misses, IsChainSet, IsPopped, IsCut, IsLastSet, row_in, IsSlotSet}
 use Rattle.intmap_table.proofs.Nodes.PathLemmas.{IsChain-none, Chain-none, Chain-beyond}
 
 module _ {P : Type 0} where
@@ -53,7 +53,7 @@ module _ {P : Type 0} where
   pub Slot-only : (a : Pool P) (l : ℕ) (p q : P) → IsChain a.nodes l → IsSlotSet a (Filled l p) (q ∷ chain_of a.nodes l) a (Filled l q)
   Slot-only a l p q is = record { is = is; pairs = refl; spares = λ t misses k n r passes at. at; held = omega arith }
 
-  misses_left : (t : P → Bool) (xs ys : List P) → Misses t (xs ++ ys) → Misses t xs
+  pub misses_left : (t : P → Bool) (xs ys : List P) → Misses t (xs ++ ys) → Misses t xs
   misses_left t [] ys h = tt
   misses_left t (x ∷ xs) ys h = (h.0, misses_left t xs ys h.1)
 
@@ -74,7 +74,7 @@ module _ {P : Type 0} where
         held = omega (arith, left, len, len', one, two);
       }
 
-  last_is : (xs : List P) (x d : P) (n : ℕ) → n ≡ length xs → get_or (xs ++ x ∷ []) n d ≡ x
+  pub last_is : (xs : List P) (x d : P) (n : ℕ) → n ≡ length xs → get_or (xs ++ x ∷ []) n d ≡ x
   last_is [] x d n e = ap (λ k. get_or (x ∷ []) k d) e
   last_is (y ∷ xs) x d n e = ap (λ k. get_or (y ∷ (xs ++ x ∷ [])) k d) e ∙ last_is xs x d (length xs) refl
 
@@ -92,10 +92,6 @@ module _ {P : Type 0} where
 
   pub swap_other : (xs : List P) (x d : P) (i : ℕ) → i < length xs → swap_remove (xs ++ x ∷ []) i d ≡ set xs i x
   swap_other xs x d i less = swap_take xs x d i (set xs i x) (set-append_left xs (x ∷ []) i x less) (length-set xs i x)
-
-  pub set-behind : (f : P) (xs : List P) (i : ℕ) (x : P) → 0 < i → set (f ∷ xs) i x ≡ f ∷ set xs (i - 1) x
-  set-behind f xs zero x some = absurd (omega arith)
-  set-behind f xs (suc n) x some = let e : n ≡ suc n - 1 = omega arith in ap (λ k. f ∷ set xs k x) e
 
   pub get_or-behind : (f : P) (xs : List P) (i : ℕ) (d : P) → 0 < i → get_or (f ∷ xs) i d ≡ get_or xs (i - 1) d
   get_or-behind f xs zero d some = absurd (omega arith)
@@ -121,46 +117,7 @@ module _ {P : Type 0} where
       (sym (ap (λ ps. swap_remove ps place p) (row_is a l i p x b m h) ∙ swap_other (p ∷ h.left) x p place (omega arith) ∙ ap (λ k. set (p ∷ h.left) k x) front))
       (Slot-first a l p x h.left b m h.chain)
 
-  pub Take-last-value : (a : Pool P) (l i : ℕ) (p x : P) (b : Pool P) (m place : ℕ) → IsPopped a l i x b m → 0 < place → place - 1 ≡ i → x ≡ get_or (row_in a.nodes (Filled l p)) place x
-  Take-last-value a l i p x b m place h some last = sym (ap (λ ps. get_or ps place x) (row_is a l i p x b m h) ∙ last_is (p ∷ h.left) x x place (let n = h.len in omega (arith, n)))
-
-  pub Take-last : (a : Pool P) (l i : ℕ) (p x : P) (b : Pool P) (m place : ℕ) → IsPopped a l i x b m → 0 < place → place - 1 ≡ i → IsSlotSet a (Filled l p) (swap_remove (row_in a.nodes (Filled l p)) place x) b (Filled m p)
-  Take-last a l i p x b m place h some last =
-      subst (λ ps. IsSlotSet a (Filled l p) ps b (Filled m p))
-      (sym (ap (λ ps. swap_remove ps place x) (row_is a l i p x b m h) ∙ swap_last (p ∷ h.left) x x place (let n = h.len in omega (arith, n))))
-      (Slot-first a l p p h.left b m h.chain)
-
-  -- a place of the chain before the last one
-  pub within_left : (a : Pool P) (l i : ℕ) (p x : P) (b : Pool P) (m place : ℕ) (h : IsPopped a l i x b m) → 0 < place → place - 1 ≢ i → place < length (row_in a.nodes (Filled l p)) → place - 1 < length h.left
-  within_left a l i p x b m place h some apart within =
-      let sum = length-append h.left (x ∷ []) in
-      let all = ap length h.pairs in
-      let n = h.len in
-      omega (arith, sum, all, n, apart, within)
-
-  pub Take-behind-value : (a : Pool P) (l i : ℕ) (p x : P) (b : Pool P) (m place : ℕ) (r : P) → (h : IsPopped a l i x b m) → 0 < place → place - 1 < length h.left → r ≡ get_or (chain_of b.nodes m) (place - 1) r
-      → r ≡ get_or (row_in a.nodes (Filled l p)) place r
-  Take-behind-value a l i p x b m place r h some less value =
-      value ∙ ap (λ ps. get_or ps (place - 1) r) h.chain.pairs ∙ sym (ap (λ ps. get_or ps place r) (row_is a l i p x b m h)
-      ∙ get_or-behind p (h.left ++ x ∷ []) place r some ∙ get_or_append_left h.left (x ∷ []) r (place - 1) less)
-
-  pub Take-behind : (a : Pool P) (l i : ℕ) (p x : P) (b : Pool P) (m place : ℕ) (r : P) (d : Pool P) → (h : IsPopped a l i x b m) → 0 < place → place - 1 < length h.left
-      → IsChainSet b m (set (chain_of b.nodes m) (place - 1) x) d m → IsSlotSet a (Filled l p) (swap_remove (row_in a.nodes (Filled l p)) place r) d (Filled m p)
-  Take-behind a l i p x b m place r d h some less s =
-      subst (λ ps. IsSlotSet a (Filled l p) ps d (Filled m p))
-      (sym (ap (λ ps. swap_remove ps place r) (row_is a l i p x b m h) ∙ swap_other (p ∷ h.left) x r place (omega (arith, less)) ∙ set-behind p h.left place x some))
-      (Slot-first a l p p (set h.left (place - 1) x) d m (Pop-swap a l i x b m h (place - 1) x d s))
-
-  -- the pair at place i was r, the last one took its place, and a new one came behind
-  pub Replace-only : (a : Pool P) (l : ℕ) (p q : P) (i : ℕ) → IsChain a.nodes l → node_limit ≤ l → i < length (row_in a.nodes (Filled l p)) → IsSlotSet a (Filled l p) (swap_remove (row_in a.nodes (Filled l p)) i p ++ q ∷ []) a (Filled l q)
-  Replace-only a l p q i is last within =
-      let none : chain_of a.nodes l ≡ [] = Chain-beyond a.nodes l is last in
-      let len = ap length none in
-      let zero : i ≡ 0 = omega (arith, len, within) in
-      let row : p ∷ chain_of a.nodes l ≡ p ∷ [] = ap (λ ps. p ∷ ps) none in
-      let left : swap_remove (p ∷ chain_of a.nodes l) i p ≡ [] = ap (λ ps. swap_remove ps i p) row ∙ swap_last [] p p i zero in
-      subst (λ ps. IsSlotSet a (Filled l p) ps a (Filled l q)) (ap (λ ps. q ∷ ps) none ∙ sym (ap (λ ps. ps ++ q ∷ []) left)) (Slot-only a l p q is)
-
+  -- the first pair was replaced: the last one took its place, and a new one came behind
   set_row : (a : Pool P) (l i : ℕ) (p r q : P) (b : Pool P) (h : IsLastSet a l i r q b) → row_in a.nodes (Filled l p) ≡ (p ∷ h.before) ++ r ∷ []
   set_row a l i p r q b h = ap (λ ps. p ∷ ps) h.pairs
 
@@ -170,55 +127,6 @@ module _ {P : Type 0} where
       ap (λ ps. swap_remove ps place p) (set_row a l i p r q b h) ∙ swap_other (p ∷ h.before) r p place (omega arith) ∙ ap (λ k. set (p ∷ h.before) k r) front in
       subst (λ ps. IsSlotSet a (Filled l p) ps b (Filled l r)) (sym (ap (λ ps. ps ++ q ∷ []) left)) (Slot-first a l p r (h.before ++ q ∷ []) b l h.chain)
 
-  pub Replace-last-value : (a : Pool P) (l i : ℕ) (p r q : P) (b : Pool P) (place : ℕ) → IsLastSet a l i r q b → 0 < place → place - 1 ≡ i → r ≡ get_or (row_in a.nodes (Filled l p)) place r
-  Replace-last-value a l i p r q b place h some last = sym (ap (λ ps. get_or ps place r) (set_row a l i p r q b h) ∙ last_is (p ∷ h.before) r r place (let n = h.len in omega (arith, n)))
-
-  pub Replace-last : (a : Pool P) (l i : ℕ) (p r q : P) (b : Pool P) (place : ℕ) → IsLastSet a l i r q b → 0 < place → place - 1 ≡ i → IsSlotSet a (Filled l p) (swap_remove (row_in a.nodes (Filled l p)) place r ++ q ∷ []) b (Filled l p)
-  Replace-last a l i p r q b place h some last =
-      let left : swap_remove (row_in a.nodes (Filled l p)) place r ≡ p ∷ h.before = ap (λ ps. swap_remove ps place r) (set_row a l i p r q b h) ∙ swap_last (p ∷ h.before) r r place (let n = h.len in omega (arith, n)) in
-      subst (λ ps. IsSlotSet a (Filled l p) ps b (Filled l p)) (sym (ap (λ ps. ps ++ q ∷ []) left)) (Slot-first a l p p (h.before ++ q ∷ []) b l h.chain)
-
-  pub within_before : (a : Pool P) (l i : ℕ) (p r q : P) (b : Pool P) (place : ℕ) (h : IsLastSet a l i r q b) → 0 < place → place - 1 ≢ i → place < length (row_in a.nodes (Filled l p)) → place - 1 < length h.before
-  within_before a l i p r q b place h some apart within =
-      let sum = length-append h.before (r ∷ []) in
-      let all = ap length h.pairs in
-      let n = h.len in
-      omega (arith, sum, all, n, apart, within)
-
-  pub Replace-behind-value : (a : Pool P) (l i : ℕ) (p r q : P) (b : Pool P) (place : ℕ) (x : P) → (h : IsLastSet a l i r q b) → 0 < place → place - 1 < length h.before → x ≡ get_or (chain_of b.nodes l) (place - 1) x
-      → x ≡ get_or (row_in a.nodes (Filled l p)) place x
-  Replace-behind-value a l i p r q b place x h some less value =
-      value ∙ ap (λ ps. get_or ps (place - 1) x) h.chain.pairs ∙ get_or_append_left h.before (q ∷ []) x (place - 1) less
-      ∙ sym (ap (λ ps. get_or ps place x) (set_row a l i p r q b h) ∙ get_or-behind p (h.before ++ r ∷ []) place x some ∙ get_or_append_left h.before (r ∷ []) x (place - 1) less)
-
-  misses_at : (t : P → Bool) (ps : List P) (i : ℕ) (d : P) → Misses t ps → i < length ps → t (get_or ps i d) ≡ false
-  misses_at t [] i d h less = absurd (omega arith)
-  misses_at t (p ∷ ps) zero d h less = h.0
-  misses_at t (p ∷ ps) (suc i) d h less = misses_at t ps i d h.1 (omega arith)
-
-  pub Replace-behind : (a : Pool P) (l i : ℕ) (p r q : P) (b : Pool P) (place : ℕ) (x : P) (d : Pool P) → (h : IsLastSet a l i r q b) → 0 < place → place - 1 < length h.before
-      → x ≡ get_or (chain_of b.nodes l) (place - 1) x → Spares b.nodes d.nodes (x ∷ []) → IsChainSet b l (set (chain_of b.nodes l) (place - 1) r) d l
-      → IsSlotSet a (Filled l p) (swap_remove (row_in a.nodes (Filled l p)) place x ++ q ∷ []) d (Filled l p)
-  Replace-behind a l i p r q b place x d h some less value alone s =
-      let j = place - 1 in
-      let list : set (chain_of b.nodes l) j r ≡ set h.before j r ++ q ∷ [] = ap (λ ps. set ps j r) h.chain.pairs ∙ set-append_left h.before (q ∷ []) j r less in
-      let here : x ≡ get_or h.before j x = value ∙ ap (λ ps. get_or ps j x) h.chain.pairs ∙ get_or_append_left h.before (q ∷ []) x j less in
-      let left : swap_remove (row_in a.nodes (Filled l p)) place x ≡ p ∷ set h.before j r =
-      ap (λ ps. swap_remove ps place x) (set_row a l i p r q b h) ∙ swap_other (p ∷ h.before) r x place (omega (arith, less)) ∙ set-behind p h.before place r some in
-      let len = length-set (chain_of b.nodes l) j r in
-      let e = ap length list in
-      let one = h.chain.held in let two = s.held in
-      let whole : IsChainSet a l (set h.before j r ++ q ∷ []) d l = record {
-        is = s.is;
-        pairs = s.pairs ∙ list;
-        spares = λ t misses k n y passes at.
-            let mine : Misses t (h.before ++ r ∷ []) = subst (λ xs. Misses t xs) h.pairs misses in
-            let fails : t x ≡ false = ap t here ∙ misses_at t h.before j x (misses_left t h.before (r ∷ []) mine) less in
-            alone t (fails, tt) k n y passes (h.chain.spares t misses k n y passes at);
-        held = (let f = ap length h.chain.pairs in omega (arith, len, e, f, one, two));
-      } in
-      subst (λ ps. IsSlotSet a (Filled l p) ps d (Filled l p)) (sym (ap (λ ps. ps ++ q ∷ []) left)) (Slot-first a l p p (set h.before j r ++ q ∷ []) d l whole)
-
   -- the pairs behind the first one of a slot are left: none, or those that another first one is taken out of
   pub Front-only : (a : Pool P) (l : ℕ) (p : P) → IsChain a.nodes l → node_limit ≤ l → IsSlotSet a (Filled l p) (chain_of a.nodes l) a Empty
   Front-only a l p is last =
@@ -226,7 +134,7 @@ module _ {P : Type 0} where
       let len = ap length none in
       record { is = tt; pairs = sym none; spares = λ t misses k n q passes at. at; held = omega (arith, len) }
 
-  cut_front : (a : Pool P) (l : ℕ) (q : P) (b : Pool P) (m : ℕ) → (cut : IsCut a l 0 q b m) → cut.before ≡ []
+  pub cut_front : (a : Pool P) (l : ℕ) (q : P) (b : Pool P) (m : ℕ) → (cut : IsCut a l 0 q b m) → cut.before ≡ []
   cut_front a l q b m cut = nil cut.before cut.len
     where
       nil : (ps : List P) → length ps ≡ 0 → ps ≡ []

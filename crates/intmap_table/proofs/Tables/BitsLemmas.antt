@@ -1,17 +1,18 @@
 -- What the bits of words say of the indices that they mark.
 use Rattle.std.proofs.Common.{◌≡◌, ◌≢◌, inl, inr, ℕ, zero, suc, ◌+◌, ◌-◌, ◌*◌, ◌/◌, ◌%◌, ◌^◌, ◌<◌, ◌≤◌, Bool, true, false, List, [], ◌∷◌, ◌++◌, length, map, get_or, set, replicate, sum_by, refl, sym, ap, subst, ◌∙◌, arith, zero-add, bit_and, w64, length-set, get_or-set_same, get_or-set_other, length-append}
-use Rattle.std.specs.Prelude.{◌==◌, cond, filter, nat_eq}
+use Rattle.std.specs.Prelude.{◌==◌, cond, filter, min, nat_eq}
 use Rattle.std.specs.Int.RustNames.{count_ones}
-use Rattle.std.specs.Int.{bit_at, trailing_zeros}
+use Rattle.std.specs.Int.{bit_at, bit_not, trailing_zeros}
+use Rattle.std.specs.Int.Bits.{bit_xor}
 use Rattle.std.specs.List.{range_with_len}
 use Rattle.std.proofs.lemmas.Bool.{cases_eq, cases_lt, eq-eqb, ne_eqb}
 use Rattle.std.proofs.lemmas.Bool.Decides.{nat_tests}
-use Rattle.std.proofs.lemmas.List.{ext_get_or, get_or-replicate, length-replicate, length-map}
+use Rattle.std.proofs.lemmas.List.{ext_get_or, get_or-replicate, get_or_past, length-replicate, length-map}
 use Rattle.std.proofs.lemmas.List.Elements.{filter-append}
 use Rattle.std.proofs.lemmas.List.FromFn.{length-map-range_with_len, get_or-map-range_with_len}
 use Rattle.std.proofs.lemmas.List.Sums.{sum_by-cons}
-use Rattle.std.proofs.lemmas.Nat.{ones_cat}
-use Rattle.std.proofs.lemmas.Nat.Bits.{bit_at-zero, bit_at-suc, bit_at_lowest, bit_at_and, bit_at-trailing_zeros}
+use Rattle.std.proofs.lemmas.Nat.{and_le_l, ones_cat, xor_lt}
+use Rattle.std.proofs.lemmas.Nat.Bits.{bit_at-lt, bit_at-zero, bit_at-suc, bit_at_lowest, bit_at_and, bit_at_not, bit_at_xor, bit_at-trailing_zeros}
 use Rattle.std.proofs.Math.Nat.{pow-suc}
 use Rattle.intmap_table.specs.Tables.Bits.{marked, marked_indices, has_bit, marks_of, indices_from, IsWordOf}
 use Rattle.intmap_table.proofs.Tables.MarkedLemmas.{range_with_len-add, filter-same, filter-none, filter-shift, filter-both}
@@ -49,20 +50,43 @@ pub record IsLowest (word t : ℕ) : Type 0 where
 abbrev pub without_lowest : ℕ → ℕ
 without_lowest word = bit_and word (word - 1)
 
-pub has_bit-without_lowest : (word t : ℕ) → IsLowest word t → has_bit (without_lowest word) t ≡ false
-has_bit-without_lowest word t lowest =
-    let a = bit_at_and word (word - 1) t in
-    let p = (bit_at-pred t word lowest.one lowest.below).0 in
-    ne_eqb (bit_at (without_lowest word) t) 1 (λ e. omega (arith, a, p, e))
+pub bit_at-without_lowest : (word t : ℕ) → IsLowest word t → bit_at (without_lowest word) t ≡ 0
+bit_at-without_lowest word t lowest = let a = bit_at_and word (word - 1) t in let p = (bit_at-pred t word lowest.one lowest.below).0 in omega (arith, a, p)
 
-pub has_bit-without_lowest_other : (word t : ℕ) → IsLowest word t → (i : ℕ) → i ≢ t → has_bit (without_lowest word) i ≡ has_bit word i
-has_bit-without_lowest_other word t lowest i apart =
+pub bit_at-without_lowest_other : (word t : ℕ) → IsLowest word t → (i : ℕ) → i ≢ t → bit_at (without_lowest word) i ≡ bit_at word i
+bit_at-without_lowest_other word t lowest i apart =
     let a = bit_at_and word (word - 1) i in
-    let same : bit_at (without_lowest word) i ≡ bit_at word i = elim (cases_lt i t) [
+    elim (cases_lt i t) [
       | inl down ↦ (let z = lowest.below i down in omega (arith, a, z))
       | inr up ↦ (let p = (bit_at-pred t word lowest.one lowest.below).1 i (omega (arith, up, apart)) in omega (arith, a, p))
-    ] in
-    ap (λ (b : ℕ). nat_eq b 1) same
+    ]
+
+pub has_bit-without_lowest : (word t : ℕ) → IsLowest word t → has_bit (without_lowest word) t ≡ false
+has_bit-without_lowest word t lowest = ne_eqb (bit_at (without_lowest word) t) 1 (λ e. let z = bit_at-without_lowest word t lowest in omega (arith, z, e))
+
+pub has_bit-without_lowest_other : (word t : ℕ) → IsLowest word t → (i : ℕ) → i ≢ t → has_bit (without_lowest word) i ≡ has_bit word i
+has_bit-without_lowest_other word t lowest i apart = ap (λ (b : ℕ). nat_eq b 1) (bit_at-without_lowest_other word t lowest i apart)
+
+-- a word without the lowest bit of another one
+abbrev pub without_lowest_of : ℕ → ℕ → ℕ
+without_lowest_of left word = bit_and word (bit_not w64 (bit_xor left (without_lowest left)))
+
+module _ (word left t : ℕ) (lowest : IsLowest left t) (fits : left < 2 ^ 64) where
+  bit_at-cleared : (i : ℕ) → i < 64 → bit_at (without_lowest_of left word) i ≡ min (bit_at word i) (1 - (bit_at left i + bit_at (without_lowest left) i) % 2)
+  bit_at-cleared i small =
+      let le = and_le_l left (left - 1) in
+      let below : bit_xor left (without_lowest left) < 2 ^ 64 = xor_lt 64 left (without_lowest left) fits (omega (arith, le, fits)) in
+      bit_at_and word (bit_not w64 (bit_xor left (without_lowest left))) i
+      ∙ ap (λ b. min (bit_at word i) b) (bit_at_not w64 (bit_xor left (without_lowest left)) i below small ∙ ap (λ b. 1 - b) (bit_at_xor left (without_lowest left) i))
+
+  pub has_bit-cleared : t < 64 → has_bit (without_lowest_of left word) t ≡ false
+  has_bit-cleared small = ne_eqb _ 1 (λ e. omega (arith, lowest.one, bit_at-without_lowest left t lowest, bit_at-cleared t small, e))
+
+  pub has_bit-cleared_other : (i : ℕ) → i < 64 → i ≢ t → has_bit (without_lowest_of left word) i ≡ has_bit word i
+  has_bit-cleared_other i small apart =
+      let same = bit_at-without_lowest_other left t lowest i apart in
+      let both : bit_at (without_lowest_of left word) i ≡ bit_at word i = omega (arith, same, bit_at-cleared i small, bit_at-lt word i, bit_at-lt left i) in
+      ap (λ (b : ℕ). nat_eq b 1) both
 
 -- the lowest bit that is set is the first index of a word
 bits_of-add : (t r word : ℕ) → IsLowest word t → bits_of (t + suc r) word ≡ t ∷ bits_of (t + suc r) (without_lowest word)
@@ -118,6 +142,10 @@ pub length-marks_of : (words : List ℕ) → length (marks_of words) ≡ 64 * le
 unfolding marks_of
 length-marks_of words = length-map-range_with_len (λ i. has_bit (get_or words (i / 64) 0) (i % 64)) 0 (64 * length words)
 
+-- an index has a word
+pub below-marks_of : (words : List ℕ) (marks : List Bool) (i : ℕ) → marks_of words ≡ marks → i < length marks → i < 64 * length words
+below-marks_of words marks i view within = let m = ap (λ (marks : List Bool). length marks) view in omega (arith, within, length-marks_of words, m)
+
 -- an index is marked by its bit
 pub marked-marks_of : (words : List ℕ) (i : ℕ) → i < 64 * length words → marked (marks_of words) i ≡ has_bit (get_or words (i / 64) 0) (i % 64)
 unfolding marks_of
@@ -166,19 +194,34 @@ IsWordOf-set marks i word new b below is here others j lt = elim (cases_eq j (i 
       ap (λ (b : ℕ). nat_eq b 1) (others j lt apart) ∙ is j lt ∙ sym (get_or-set_other marks i (64 * (i / 64) + j) b false other))
 ]
 
--- another word among words has its bits around the index
-pub marks_of-with_word : (words : List ℕ) (i word : ℕ) → i < 64 * length words → marks_of (set words (i / 64) word) ≡ with_word (marks_of words) i word
-marks_of-with_word words i word below =
-    let n = length-set words (i / 64) word in
-    let l = length-marks_of words in
-    let m = length-marks_of (set words (i / 64) word) in
-    let within : i / 64 < length words = omega arith in
-    let under : i < 64 * length (set words (i / 64) word) = omega (arith, below, n) in
-    let is : IsWordOf (marks_of (set words (i / 64) word)) i word = subst (IsWordOf (marks_of (set words (i / 64) word)) i) (get_or-set_same words (i / 64) word 0 within) (IsWordOf-marks_of (set words (i / 64) word) i under) in
-    sym (with_word-is (marks_of words) (marks_of (set words (i / 64) word)) i word (omega (arith, l, m, n)) is (λ j lt apart.
-    let here : j < 64 * length words = omega (arith, lt, l) in
-    let there : j < 64 * length (set words (i / 64) word) = omega (arith, here, n) in
-    marked-marks_of (set words (i / 64) word) j there ∙ ap (λ w. has_bit w (j % 64)) (get_or-set_other words (i / 64) (j / 64) word 0 apart) ∙ sym (marked-marks_of words j here)))
+-- another word among words
+module _ (words : List ℕ) (i word : ℕ) (below : i < 64 * length words) where
+  n : length (set words (i / 64) word) ≡ length words
+  n = length-set words (i / 64) word
+
+  pub length-marks_of_set : length (marks_of (set words (i / 64) word)) ≡ length (marks_of words)
+  length-marks_of_set = omega (arith, length-marks_of words, length-marks_of (set words (i / 64) word), n)
+
+  -- it has the marks of the indices around index i
+  pub IsWordOf-marks_of_set : IsWordOf (marks_of (set words (i / 64) word)) i word
+  IsWordOf-marks_of_set =
+      subst (IsWordOf (marks_of (set words (i / 64) word)) i) (get_or-set_same words (i / 64) word 0 (omega (arith, below)))
+      (IsWordOf-marks_of (set words (i / 64) word) i (omega (arith, below, n)))
+
+  -- the others have theirs
+  pub marked-marks_of_set : (j : ℕ) → j / 64 ≢ i / 64 → marked (marks_of (set words (i / 64) word)) j ≡ marked (marks_of words) j
+  marked-marks_of_set j apart = elim (cases_lt j (64 * length words)) [
+    | inl here ↦
+        marked-marks_of (set words (i / 64) word) j (omega (arith, here, n))
+        ∙ ap (λ w. has_bit w (j % 64)) (get_or-set_other words (i / 64) (j / 64) word 0 apart) ∙ sym (marked-marks_of words j here)
+    | inr past ↦
+        get_or_past (marks_of (set words (i / 64) word)) j false (omega (arith, past, length-marks_of words, length-marks_of_set))
+        ∙ sym (get_or_past (marks_of words) j false (omega (arith, past, length-marks_of words)))
+  ]
+
+  pub marks_of-with_word : marks_of (set words (i / 64) word) ≡ with_word (marks_of words) i word
+  marks_of-with_word =
+      sym (with_word-is (marks_of words) (marks_of (set words (i / 64) word)) i word length-marks_of_set IsWordOf-marks_of_set (λ j _ apart. marked-marks_of_set j apart))
 
 -- words that are zero mark no index
 pub marks_of-zeros : (n : ℕ) → marks_of (replicate n 0) ≡ replicate (64 * n) false
@@ -200,10 +243,7 @@ marks_of-zeros n =
 pub marks_of-set : (words : List ℕ) (marks : List Bool) (i old word : ℕ) (b : Bool) → marks_of words ≡ marks → i < length marks → IsWordOf marks i old → has_bit word (i % 64) ≡ b
     → ((j : ℕ) → j < 64 → j ≢ i % 64 → bit_at word j ≡ bit_at old j) → marks_of (set words (i / 64) word) ≡ set marks i b
 marks_of-set words marks i old word b view within was is others =
-    let l = length-marks_of words in
-    let m = ap (λ (marks : List Bool). length marks) view in
-    let below : i < 64 * length words = omega (arith, within, l, m) in
-    marks_of-with_word words i word below ∙ ap (λ (marks : List Bool). with_word marks i word) view ∙ with_word-set marks i word b (IsWordOf-set marks i old word b within was is others)
+    marks_of-with_word words i word (below-marks_of words marks i view within) ∙ ap (λ (marks : List Bool). with_word marks i word) view ∙ with_word-set marks i word b (IsWordOf-set marks i old word b within was is others)
 
 -- the marked indices of the first word, of m bits, and those of the words behind it
 marked_indices-word : (m : ℕ) → m ≡ 64 → (w : ℕ) (ws : List ℕ) → marked_indices (marks_of (w ∷ ws)) ≡ bits_of m w ++ map (λ i. m + i) (marked_indices (marks_of ws))

@@ -1,11 +1,13 @@
 -- The marks of a table say which of its slots hold a pair.
-use Rattle.std.proofs.Common.{◌≡◌, ℕ, zero, suc, ◌+◌, ◌*◌, ◌/◌, ◌<◌, ◌≤◌, Bool, true, false, List, [], ◌∷◌, ◌++◌, length, get_or, set, replicate, refl, sym, ◌∙◌, subst, arith, length-set, get_or-set_same, get_or-set_other}
-use Rattle.std.specs.Prelude.{◌==◌, filter, count_by, nat_lt}
+use Rattle.std.proofs.Common.{◌≡◌, ℕ, zero, suc, ◌+◌, ◌-◌, ◌*◌, ◌/◌, ◌<◌, ◌≤◌, Bool, true, false, List, [], ◌∷◌, ◌++◌, length, get_or, set, replicate, refl, sym, ◌∙◌, subst, arith, length-set, length-append, get_or-set_same, get_or-set_other}
+use Rattle.std.specs.Prelude.{◌==◌, cond, filter, count_by, nat_lt}
 use Rattle.std.specs.List.{list_any, range_with_len}
 use Rattle.std.proofs.lemmas.Bool.{lt-ltb, ltb-true}
 use Rattle.std.proofs.lemmas.Bool.Decides.{nat_tests}
 use Rattle.std.proofs.lemmas.List.{length-replicate, length_push, get_or_past, set-get_or}
+use Rattle.std.proofs.lemmas.List.Sums.{sum_by-cons}
 use Rattle.intmap_table.specs.Tables.Bits.{marked, marked_indices, IsNextMark}
+use Rattle.intmap_table.specs.Tables.Nodes.{further}
 use Rattle.intmap_table.specs.Tables.Slots.{joined, pairs_at, AreMarked, IsNextRow}
 use Rattle.intmap_table.proofs.Tables.MarkedLemmas.{get_or-of_default, row-none, flat_map-marked_indices, length-marked_indices}
 
@@ -63,21 +65,32 @@ row-unmarked R marks are i missed =
     let own = are.own i in let kept = kept-found (marked marks) i 0 (length marks) missed in let past = get_or_past marks i false in
     row-none (get_or R i []) (grind (arith, own, kept, past))
 
+-- the pairs are the first ones of the rows and those behind them
+pub length-joined : {P : Type 0} (R : List (List P)) → length (joined R) ≡ count_by (λ row. nat_lt 0 (length row)) R + further R
+length-joined [] = refl
+length-joined (row ∷ R) =
+    let rest = length-joined R in let both = length-append row (joined R) in let more = sum_by-cons (λ r. length r - 1) row R in
+    let some = sum_by-cons (λ r. cond {A = ℕ} (nat_lt 0 (length r)) 1 0) row R in
+    grind (arith, nat_tests, rest, both, more, some)
+
 -- rows without pairs, joined
 pub joined-emptied : {P : Type 0} (R : List (List P)) → ((i : ℕ) → get_or R i [] ≡ []) → joined R ≡ []
 joined-emptied [] empty = refl
 joined-emptied (row ∷ R) empty = rw (empty 0) (joined-emptied R (λ i. empty (suc i)))
 
 -- the next marked index is that of the next row with a pair
-pub next-marked : {P : Type 0} (R : List (List P)) (marks : List Bool) → AreMarked R marks → (from i : ℕ) → IsNextMark marks from i → IsNextRow R from i
-next-marked R marks are from i next =
-    let some = ltb-true 0 (length (get_or R i [])) (sym (are.own i) ∙ next.is) in
+pub next-row : {P : Type 0} (R : List (List P)) (marks : List Bool) → ((i : ℕ) → marked marks i ≡ nat_lt 0 (length (get_or R i []))) → (from i : ℕ) → IsNextMark marks from i → IsNextRow R from i
+next-row R marks own from i next =
+    let some = ltb-true 0 (length (get_or R i [])) (sym (own i) ∙ next.is) in
     record {
       behind = next.behind;
       within = row-within R i some;
       filled = some;
-      between = λ j le lt. row-none (get_or R j []) (sym (are.own j) ∙ next.between j le lt);
+      between = λ j le lt. row-none (get_or R j []) (sym (own j) ∙ next.between j le lt);
     }
+
+pub next-marked : {P : Type 0} (R : List (List P)) (marks : List Bool) → AreMarked R marks → (from i : ℕ) → IsNextMark marks from i → IsNextRow R from i
+next-marked R marks are = next-row R marks are.own
 
 -- if no row holds a pair from the first one on that wasn't passed, there is none
 pub joined-passed : {P : Type 0} (R : List (List P)) (from : ℕ) → ((j : ℕ) → j < from → get_or R j [] ≡ []) → ((j : ℕ) → from ≤ j → get_or R j [] ≡ []) → joined R ≡ []

@@ -28,7 +28,7 @@ module _ (word r i : ℕ) (small : r < 64) where
       rw mask (ap (λ (b : ℕ). nat_eq b 1) same)
 
 -- a word that is zero has no bit
-has_bit-zero : (i : ℕ) → has_bit 0 i ≡ false
+pub has_bit-zero : (i : ℕ) → has_bit 0 i ≡ false
 has_bit-zero i = let z = bit_at-zero i in ne_eqb (bit_at 0 i) 1 (λ e. omega (arith, z, e))
 
 module _ (words : List ℕ) (from : ℕ) where

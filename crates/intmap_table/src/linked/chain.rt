@@ -1,8 +1,9 @@
 //! Chains of nodes: the pairs of a slot behind its first one, in the order of the links.
-ghost use Rattle.std.specs.Prelude.{◌≡◌, ◌+◌, ◌-◌, ◌^◌, ◌<◌, ◌≤◌, [], ◌∷◌, ◌++◌, length, position, set, slice_index_or, IfOk, IfErr, IsOk, OnErr, OnOk};
+ghost use Rattle.std.specs.Prelude.{◌≡◌, ◌+◌, ◌-◌, ◌^◌, ◌<◌, ◌≤◌, ℕ, [], ◌∷◌, ◌++◌, length, position, set, swap_remove, slice_index_or, None, Some, IfNone, IfSome, IfOk, IfErr, IsOk, OnErr, OnOk};
 ghost use Rattle.intmap_table.specs.Classes.{same_key};
 ghost use Rattle.intmap_table.specs.Reach.{through_first};
-ghost use Rattle.intmap_table.specs.Tables.Nodes.{Held, chain_of, node_at, node_limit, IsChain, IsChainSet, IsCut, IsLast, IsLastSet, IsPopped, IsNodeAt, Spares};
+ghost use Rattle.intmap_table.specs.Tables.Behind.{IsBehind};
+ghost use Rattle.intmap_table.specs.Tables.Nodes.{Held, chain_of, node_at, node_limit, nowhere, IsChain, IsChainSet, IsCut, IsLast, IsLastSet, IsPopped, IsNodeAt, Spares};
 
 use crate::key::IntKey;
 use crate::linked::node::{NODE_LIMIT, NOWHERE};
@@ -38,6 +39,122 @@ pub(crate) fn find_in<K: IntKey, X, A: Allocator>(
     None
 }
 
+/// The node of the key's pair among those that a link leads through. The keys are compared in
+/// turn, up to the one sought.
+#[inline(always)]
+pub(crate) fn node_in<K: IntKey, X, A: Allocator>(
+    pool: &Pool<(Stored<K>, X), A>,
+    from: usize,
+    key: &K,
+    steps: &mut Steps,
+) -> Option<usize>
+    requires { IsChain pool.now.nodes from }
+    ensures found { IfSome result (λ at. (place : ℕ) × IsNodeAt pool.now.nodes from place at
+        × (position (λ p. same_key K.number_of key.now p.0) (chain_of pool.now.nodes from)
+        ≡ Some place)) }
+    ensures missing { IfNone result
+        (position (λ p. same_key K.number_of key.now p.0) (chain_of pool.now.nodes from) ≡ None) }
+    ensures counted { steps.new ≡ steps.old + length
+        (through_first (λ p. same_key K.number_of key.now p.0) (chain_of pool.now.nodes from)) }
+{
+    let mut link = from;
+    while let Some((next, held)) = pool.get(link) {
+        if held.0.matches(key, steps) {
+            return Some(link);
+        }
+        link = next;
+    }
+    None
+}
+
+/// The node of the key's pair among those that a link leads through. If none has the key, the last
+/// node. The keys are compared in turn, up to the one sought.
+#[inline(always)]
+pub(crate) fn node_or_last<K: IntKey, X, A: Allocator>(
+    pool: &Pool<(Stored<K>, X), A>,
+    from: usize,
+    key: &K,
+    steps: &mut Steps,
+) -> Result<usize, usize>
+    requires { IsChain pool.now.nodes from }
+    ensures found { IfOk result (λ at. (place : ℕ) × IsNodeAt pool.now.nodes from place at
+        × (position (λ p. same_key K.number_of key.now p.0) (chain_of pool.now.nodes from)
+        ≡ Some place)) }
+    ensures missing { OnErr result
+        (position (λ p. same_key K.number_of key.now p.0) (chain_of pool.now.nodes from) ≡ None) }
+    ensures last { IfErr result (λ last. 0 < length (chain_of pool.now.nodes from)
+        → (place : ℕ) × IsLast pool.now.nodes from place last) }
+    ensures counted { steps.new ≡ steps.old + length
+        (through_first (λ p. same_key K.number_of key.now p.0) (chain_of pool.now.nodes from)) }
+{
+    let mut link = from;
+    let mut last = from;
+    while let Some((next, stored)) = pool.get(link) {
+        if stored.0.matches(key, steps) {
+            return Ok(link);
+        }
+        last = link;
+        link = next;
+    }
+    Err(last)
+}
+
+/// The node of the key's pair among those that a link leads through, behind the node before it. The
+/// first of them is none if the pair is at the front. The keys are compared in turn, up to the one
+/// sought.
+#[inline(always)]
+pub(crate) fn node_with_before<K: IntKey, X, A: Allocator>(
+    pool: &Pool<(Stored<K>, X), A>,
+    from: usize,
+    key: &K,
+    steps: &mut Steps,
+) -> Option<(usize, usize)>
+    requires { IsChain pool.now.nodes from }
+    ensures found { IfSome result (λ found. (i : ℕ)
+        × (position (λ p. same_key K.number_of key.now p.0) (chain_of pool.now.nodes from)
+        ≡ Some i) × IsBehind pool.now.nodes from i found.0 found.1) }
+    ensures missing { IfNone result
+        (position (λ p. same_key K.number_of key.now p.0) (chain_of pool.now.nodes from) ≡ None) }
+    ensures counted { steps.new ≡ steps.old + length
+        (through_first (λ p. same_key K.number_of key.now p.0) (chain_of pool.now.nodes from)) }
+{
+    let mut before = NOWHERE;
+    let mut at = from;
+    while let Some((next, held)) = pool.get(at) {
+        if held.0.matches(key, steps) {
+            return Some((before, at));
+        }
+        before = at;
+        at = next;
+    }
+    None
+}
+
+/// The last node of a chain, behind the node before it. Node `at` of this chain is given, and the
+/// node before that one.
+#[inline(always)]
+pub(crate) fn last_from<P, A: Allocator>(
+    pool: &Pool<P, A>,
+    before: usize,
+    at: usize,
+) -> (usize, usize)
+    requires leads { IsChain pool.now.nodes at }
+    requires held { (n : ℕ) × (p : P) × (node_at pool.now.nodes at ≡ Held n p) }
+    ensures last { (from i : ℕ) → IsBehind pool.now.nodes from i before at
+        → (j : ℕ) × (i ≤ j) × IsBehind pool.now.nodes from j result.0 result.1 }
+    ensures link { (p : P) × (node_at pool.now.nodes result.1 ≡ Held nowhere p) }
+{
+    let mut before = before;
+    let mut last = at;
+    let mut next = pool.link(last);
+    while next < NODE_LIMIT {
+        before = last;
+        last = next;
+        next = pool.link(last);
+    }
+    (before, last)
+}
+
 /// The number of pairs that a link leads through.
 pub(crate) fn chain_len<P, A: Allocator>(pool: &Pool<P, A>, from: usize) -> usize
     requires { IsChain pool.now.nodes from }
@@ -67,6 +184,25 @@ pub(crate) fn seek<P, A: Allocator>(pool: &Pool<P, A>, from: usize, place: usize
     link
 }
 
+/// The node before a place of a chain, and the node at this place. The first of them is none at the
+/// front of the chain, and the second is none behind its last pair.
+#[inline(always)]
+pub(crate) fn seek_behind<P, A: Allocator>(
+    pool: &Pool<P, A>,
+    from: usize,
+    place: usize,
+) -> (usize, usize)
+    requires leads { IsChain pool.now.nodes from }
+    requires within { place ≤ length (chain_of pool.now.nodes from) }
+    ensures { IsBehind pool.now.nodes from place result.0 result.1 }
+{
+    if place == 0 {
+        return (NOWHERE, from);
+    }
+    let before = seek(pool, from, place - 1);
+    (before, pool.link(before))
+}
+
 /// The last node of a chain, and its place there.
 #[inline(always)]
 pub(crate) fn last_in<P, A: Allocator>(pool: &Pool<P, A>, from: usize) -> (usize, usize)
@@ -84,30 +220,6 @@ pub(crate) fn last_in<P, A: Allocator>(pool: &Pool<P, A>, from: usize) -> (usize
         next = pool.link(last);
     }
     (last, place)
-}
-
-/// The last two nodes of a chain of several, and the place of the last one.
-#[inline(always)]
-pub(crate) fn last_two_in<P, A: Allocator>(pool: &Pool<P, A>, from: usize) -> (usize, usize, usize)
-    requires leads { IsChain pool.now.nodes from }
-    requires several { 1 < length (chain_of pool.now.nodes from) }
-    ensures before { 0 < result.2 }
-    ensures reached { IsNodeAt pool.now.nodes from (result.2 - 1) result.0 }
-    ensures link { (p : P) × (node_at pool.now.nodes result.0 ≡ Held result.1 p) }
-    ensures last { length (chain_of pool.now.nodes from) ≡ result.2 + 1 }
-    ensures limit { result.2 < node_limit }
-{
-    let mut before = from;
-    let mut last = pool.link(before);
-    let mut place = 1;
-    let mut next = pool.link(last);
-    while next < NODE_LIMIT {
-        before = last;
-        last = next;
-        place += 1;
-        next = pool.link(last);
-    }
-    (before, last, place)
 }
 
 /// Puts a pair behind those that a link leads through, and returns its place among them. If an
@@ -139,26 +251,62 @@ pub(crate) fn push_behind<P, A: Allocator>(
     Ok(place + 1)
 }
 
-/// Removes the last of the pairs that a link leads through. It returns the place that this pair
-/// had among them, and the pair.
+/// Removes the last of the pairs that a link leads through. Its node is given, and the node before.
 #[inline(always)]
-pub(crate) fn pop_behind<P, A: Allocator>(link: &mut usize, pool: &mut Pool<P, A>) -> (usize, P)
-    requires leads { IsChain pool.old.nodes link.old }
-    requires some { 0 < length (chain_of pool.old.nodes link.old) }
+pub(crate) fn pop_node<P, A: Allocator>(
+    link: &mut usize,
+    pool: &mut Pool<P, A>,
+    before: usize,
+    last: usize,
+) -> P
+    requires place { (i : ℕ) × IsBehind pool.old.nodes link.old i before last }
+    requires last { (p : P) × (node_at pool.old.nodes last ≡ Held nowhere p) }
     requires fits { link.old < 2 ^ 48 }
-    ensures popped { IsPopped pool.old link.old result.0 result.1 pool.new link.new }
+    ensures popped { (i : ℕ) → IsNodeAt pool.old.nodes link.old i last
+        → IsPopped pool.old link.old i result pool.new link.new }
+    ensures stays { (i j at : ℕ) → IsNodeAt pool.old.nodes link.old j last
+        → IsNodeAt pool.old.nodes link.old i at → i < j
+        → IsNodeAt pool.new.nodes link.new i at }
     ensures fits { link.new < 2 ^ 48 }
+    ensures total { pool.new.total ≡ pool.old.total }
+    ensures ready { pool.new.held < pool.new.total }
 {
-    let next = pool.link(*link);
-    if next >= NODE_LIMIT {
-        let pair = pool.release(*link);
-        *link = NOWHERE;
-        return (0, pair);
-    }
-    let (before, last, place) = last_two_in(pool, *link);
     let pair = pool.release(last);
+    if before >= NODE_LIMIT {
+        *link = NOWHERE;
+        return pair;
+    }
     pool.set_link(before, NOWHERE);
-    (place, pair)
+    pair
+}
+
+/// Removes the pair of a node of those that a link leads through. The last one of them takes its
+/// place. The node before is given too.
+#[inline(always)]
+pub(crate) fn swap_out_node<P, A: Allocator>(
+    link: &mut usize,
+    pool: &mut Pool<P, A>,
+    before: usize,
+    at: usize,
+) -> P
+    requires place { (i : ℕ) × (i < length (chain_of pool.old.nodes link.old))
+        × IsBehind pool.old.nodes link.old i before at }
+    requires fits { link.old < 2 ^ 48 }
+    ensures value { (i : ℕ) → IsNodeAt pool.old.nodes link.old i at
+        → result ≡ slice_index_or (chain_of pool.old.nodes link.old) i result }
+    ensures chain { (i : ℕ) → IsNodeAt pool.old.nodes link.old i at
+        → IsChainSet pool.old link.old (swap_remove (chain_of pool.old.nodes link.old) i result)
+        pool.new link.new }
+    ensures fits { link.new < 2 ^ 48 }
+    ensures total { pool.new.total ≡ pool.old.total }
+    ensures ready { pool.new.held < pool.new.total }
+{
+    let (before_last, last) = last_from(pool, before, at);
+    let pair = pop_node(link, pool, before_last, last);
+    if last == at {
+        return pair;
+    }
+    pool.replace(at, pair)
 }
 
 /// Removes the first of the pairs that a link leads through.
@@ -197,27 +345,6 @@ pub(crate) fn cut_behind<P, A: Allocator>(
     pair
 }
 
-/// Puts a pair into the place of another of those that a link leads through, and returns that one.
-#[inline(always)]
-pub(crate) fn swap_behind<P, A: Allocator>(
-    link: usize,
-    pool: &mut Pool<P, A>,
-    place: usize,
-    pair: P,
-) -> P
-    requires leads { IsChain pool.old.nodes link }
-    requires within { place < length (chain_of pool.old.nodes link) }
-    ensures value { result ≡ slice_index_or (chain_of pool.old.nodes link) place result }
-    ensures chain { IsChainSet pool.old link
-        (set (chain_of pool.old.nodes link) place pair) pool.new link }
-    ensures alone { Spares pool.old.nodes pool.new.nodes (result ∷ []) }
-    ensures held { pool.new.held ≡ pool.old.held }
-    ensures total { pool.new.total ≡ pool.old.total }
-{
-    let at = seek(pool, link, place);
-    pool.replace(at, pair)
-}
-
 /// Puts a pair into the place of the last one of those that a link leads through. It returns that
 /// one, behind its place.
 #[inline(always)]
@@ -228,4 +355,25 @@ pub(crate) fn swap_last<P, A: Allocator>(link: usize, pool: &mut Pool<P, A>, pai
 {
     let (at, place) = last_in(pool, link);
     (place, pool.replace(at, pair))
+}
+
+/// Removes the pair of a node. The last pair of the chain takes its place, and a new one is put
+/// last. It returns the pair that was removed.
+#[inline(always)]
+pub(crate) fn replace_from<P, A: Allocator>(pool: &mut Pool<P, A>, at: usize, new: P) -> P
+    requires leads { IsChain pool.old.nodes at }
+    requires some { 0 < length (chain_of pool.old.nodes at) }
+    ensures value { (from place : ℕ) → IsNodeAt pool.old.nodes from place at
+        → result ≡ slice_index_or (chain_of pool.old.nodes from) place result }
+    ensures chain { (from place : ℕ) → IsNodeAt pool.old.nodes from place at
+        → IsChainSet pool.old from
+        (swap_remove (chain_of pool.old.nodes from) place result ++ new ∷ []) pool.new from }
+    ensures total { pool.new.total ≡ pool.old.total }
+{
+    let (last, _) = last_in(pool, at);
+    let pair = pool.replace(last, new);
+    if last == at {
+        return pair;
+    }
+    pool.replace(at, pair)
 }

@@ -5,14 +5,14 @@ ghost use Rattle.intmap_table.specs.Retaining.{KeepsAt, Retains, TakesPair};
 ghost use Rattle.intmap_table.specs.Taking.{TakesEach};
 ghost use Rattle.intmap_table.specs.Writes.{TakesPairMut, Writes, WritesAt};
 ghost use Rattle.intmap_table.specs.Tables.Nodes.{Filled, Held, chain_of, node_at, row_in, IsChain, IsChainSet, IsSlot, IsSlotSet};
-ghost use Rattle.intmap_table.specs.Tables.Walked.{AreWalked, IsStarted, IsUnlinked};
+ghost use Rattle.intmap_table.specs.Tables.Walked.{AreWalked, IsUnlinked};
 
 use crate::kept::Kept;
 use crate::key::IntKey;
-use crate::linked::chain::seek;
+use crate::linked::chain::seek_behind;
 use crate::linked::node::{NODE_LIMIT, NOWHERE};
 use crate::linked::pool::Pool;
-use crate::linked::row;
+use crate::linked::row::removal;
 use crate::linked::slot::Slot;
 use crate::table::closure_calls::keeps_pair;
 use crate::table::stored::Stored;
@@ -44,66 +44,59 @@ fn unlink<P, A: Allocator>(
 }
 
 /// Keeps the pairs behind the first one of a slot for which the closure returns true, in their
-/// order, and returns their number.
+/// order.
 #[inline(never)]
 fn retain_behind<K: IntKey, V: Drop, A: Allocator, F: FnMut(K, &V) -> bool>(
     slot: &mut Slot<(Stored<K>, Kept<V>)>,
     link: usize,
     pool: &mut Pool<(Stored<K>, Kept<V>), A>,
     f: &mut F,
-) -> usize
+)
     requires filled { (p : K × V) × (slot.old ≡ Filled link p) }
     requires leads { IsChain pool.old.nodes link }
     requires callable { TakesEach (KeepsAt F.FnMut) (TakesPair F.FnMut) f.old
         (chain_of pool.old.nodes link) }
-    ensures row { (p : K × V) × (slot.old ≡ Filled link p) × (now : ℕ) × (slot.new ≡ Filled now p)
-        × (row : List (K × V)) × IsChainSet pool.old link row pool.new now
-        × Retains (KeepsAt F.FnMut) f.old (chain_of pool.old.nodes link) row f.new
-        × (result ≡ length row) }
+    ensures row { (p : K × V) × (slot.old ≡ Filled link p)
+        × (row : List (K × V)) × IsSlotSet pool.old slot.old (p ∷ row) pool.new slot.new
+        × Retains (KeepsAt F.FnMut) f.old (chain_of pool.old.nodes link) row f.new }
     ensures total { pool.new.total ≡ pool.old.total }
 {
     let mut before = NOWHERE;
     let mut at = link;
-    let mut kept = 0;
     while let Some((next, pair)) = pool.get(at) {
         if keeps_pair(pair, f) {
             before = at;
-            kept += 1;
         } else {
             unlink(slot, pool, before, at, next);
         }
         at = next;
     }
-    kept
 }
 
-/// Keeps the pairs of a slot for which the closure returns true, in their order, and returns their
-/// number. The closure is called once at each pair, from the front, and a pair is unlinked at once
-/// when it returns false.
+/// Keeps the pairs of a slot for which the closure returns true, in their order. The closure is
+/// called once at each pair, from the front, and a pair is unlinked at once when it returns false.
 #[inline(always)]
 pub(crate) fn retain<K: IntKey, V: Drop, A: Allocator, F: FnMut(K, &V) -> bool>(
     slot: &mut Slot<(Stored<K>, Kept<V>)>,
     pool: &mut Pool<(Stored<K>, Kept<V>), A>,
     f: &mut F,
-) -> usize
+)
     requires leads { IsSlot pool.old.nodes slot.old }
     requires callable { TakesEach (KeepsAt F.FnMut) (TakesPair F.FnMut) f.old
         (row_in pool.old.nodes slot.old) }
     ensures row { (row : List (K × V)) × IsSlotSet pool.old slot.old row pool.new slot.new
-        × Retains (KeepsAt F.FnMut) f.old (row_in pool.old.nodes slot.old) row f.new
-        × (result ≡ length row) }
+        × Retains (KeepsAt F.FnMut) f.old (row_in pool.old.nodes slot.old) row f.new }
     ensures total { pool.new.total ≡ pool.old.total }
 {
     while let Some((link, first)) = slot.get() {
         if keeps_pair(first, f) {
-            if link >= NODE_LIMIT {
-                return 1;
+            if link < NODE_LIMIT {
+                retain_behind(slot, link, pool, f);
             }
-            return retain_behind(slot, link, pool, f) + 1;
+            return;
         }
-        row::take_front_linked(slot, link, pool);
+        removal::take_front_linked(slot, link, pool);
     }
-    0
 }
 
 /// Calls the closure at each pair of a slot in turn, with a mutable reference to its value.
@@ -130,21 +123,6 @@ pub(crate) fn write_each<K: IntKey, V, A: Allocator, F: FnMut(K, &mut V)>(
     }
 }
 
-/// The node before a place of a chain, and the node at this place. The first of them is none at the
-/// front of the chain, and the second is none behind its last pair.
-#[inline(always)]
-fn seek_behind<P, A: Allocator>(pool: &Pool<P, A>, link: usize, place: usize) -> (usize, usize)
-    requires leads { IsChain pool.now.nodes link }
-    requires within { place ≤ length (chain_of pool.now.nodes link) }
-    ensures { IsStarted pool.now link place result.0 result.1 }
-{
-    if place == 0 {
-        return (NOWHERE, link);
-    }
-    let before = seek(pool, link, place - 1);
-    (before, pool.link(before))
-}
-
 /// Asks the closure about each pair behind the first one of a slot, from the place on, and removes
 /// the first one that it picks. Those behind it move up, and the place moves on to the first of
 /// them.
@@ -159,14 +137,14 @@ fn extract_behind<K: IntKey, V, A: Allocator, F: FnMut(K, &mut V) -> bool>(
     requires filled { (p : K × V) × (slot.old ≡ Filled link p) }
     requires leads { IsChain pool.old.nodes link }
     requires behind { 0 < place.old }
-    requires within { place.old ≤ length (chain_of pool.old.nodes link) + 1 }
+    requires within { place.old ≤ length (row_in pool.old.nodes slot.old) }
     requires callable { TakesEach (AsksAt F.FnMut) (TakesPairMut F.FnMut) f.old
-        (drop (place.old - 1) (chain_of pool.old.nodes link)) }
-    ensures step { (p : K × V) × (slot.old ≡ Filled link p) × (now : ℕ) × (slot.new ≡ Filled now p)
-        × (row : List (K × V)) × IsChainSet pool.old link row pool.new now
-        × ExtractsBehind (PicksAt F.FnMut) f.old (p ∷ chain_of pool.old.nodes link) place.old result
-        f.new (p ∷ row) place.new
-        × (place.new ≤ length row + 1) }
+        (drop place.old (row_in pool.old.nodes slot.old)) }
+    ensures step { (row : List (K × V))
+        × ((q : K × V) → IsSlotSet pool.old (Filled link q) row pool.new slot.new)
+        × ExtractsBehind (PicksAt F.FnMut) f.old (row_in pool.old.nodes slot.old) place.old result
+        f.new row place.new
+        × (place.new ≤ length row) }
     ensures on { place.old ≤ place.new }
     ensures total { pool.new.total ≡ pool.old.total }
 {
@@ -209,7 +187,7 @@ pub(crate) fn extract<K: IntKey, V, A: Allocator, F: FnMut(K, &mut V) -> bool>(
         return extract_behind(slot, link, pool, place, f);
     }
     if slot.pick(f) {
-        return Some(row::take_front_linked(slot, link, pool));
+        return Some(removal::take_front_linked(slot, link, pool));
     }
     *place = 1;
     if link >= NODE_LIMIT {

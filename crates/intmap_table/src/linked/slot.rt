@@ -126,6 +126,19 @@ impl<P> Slot<P> {
         }
     }
 
+    /// Removes the first pair and the link, and returns both.
+    #[inline(always)]
+    pub(crate) fn leave(&mut self) -> (usize, P)
+        requires { (l : ℕ) × (p : P) × (self.old ≡ Filled l p) }
+        ensures value { self.old ≡ Filled result.0 result.1 }
+        ensures slot { self.new ≡ Empty }
+    {
+        match mem::replace(&mut self.form, SlotForm::Empty) {
+            SlotForm::Filled(high, low, pair) => (link_of(high, low), pair),
+            SlotForm::Empty => unreachable!(),
+        }
+    }
+
     /// Removes the first pair, and the link with it.
     #[inline(always)]
     pub(crate) fn take(&mut self) -> P

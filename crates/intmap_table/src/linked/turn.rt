@@ -1,4 +1,5 @@
-//! Growth turns a chain round before its pairs move, so that each is put before those behind it.
+//! Growth turns a chain round before its pairs move: the last one moves first, and each is put
+//! before those that were behind it.
 ghost use Rattle.std.specs.Prelude.{◌≡◌, ◌^◌, ◌<◌, reverse};
 ghost use Rattle.intmap_table.specs.Tables.Nodes.{chain_of, IsChain, IsChainSet};
 

@@ -9,6 +9,7 @@ ghost use Rattle.intmap_table.specs.Taking.{TakesEach};
 ghost use Rattle.intmap_table.specs.Writes.{Writes, WritesAt, TakesPairMut};
 ghost use Rattle.intmap_table.specs.Picking.{AsksAt, ExtractsBehind, IsReached, PicksAt};
 
+use crate::bits::BITS;
 use crate::kept::Kept;
 use crate::key::IntKey;
 use crate::table::Table;
@@ -24,7 +25,6 @@ fn retain_slots<K: IntKey, V: Drop, A: Allocator, F: FnMut(K, &V) -> bool>(
     requires callable { TakesEach (KeepsAt F.FnMut) (TakesPair F.FnMut) f.old
         (joined slots.old.rows) }
     requires table { IsTable K.number_of slots.old.rows }
-    requires count { length (joined slots.old.rows) < 2 ^ 64 }
     ensures pairs { Retains (KeepsAt F.FnMut) f.old (joined slots.old.rows)
         (joined slots.new.rows) f.new }
     ensures table { IsTable K.number_of slots.new.rows }
@@ -32,14 +32,12 @@ fn retain_slots<K: IntKey, V: Drop, A: Allocator, F: FnMut(K, &V) -> bool>(
     ensures total { slots.new.total ≡ slots.old.total }
     ensures count { result ≡ length (joined slots.new.rows) }
 {
-    let mut count = 0;
     let mut from = 0;
-    let mut left = slots.marks_from(from);
-    while let Some(index) = slots.next_in(&mut left, from) {
-        count += slots.retain_at(index, f);
-        from = index + 1;
+    while from < slots.len() {
+        slots.retain_word(from, f);
+        from += BITS;
     }
-    count
+    slots.pair_count()
 }
 
 /// Calls the closure at each pair, slot after slot, with a mutable reference to its value.

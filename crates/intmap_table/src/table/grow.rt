@@ -43,13 +43,13 @@ impl<K: IntKey, X: Drop, A: Allocator + Copy> Table<K, X, A> {
     {
         let target = index_of(&key, capacity);
         let pair = (Stored::new(key), value);
-        if let Err((_, value)) = self
+        let pushed = self
             .slots
-            .grow_and_push(capacity, slot, target, pair, placed)
-        {
-            return Err(value);
-        }
-        let place = self.slots.last_place(target);
+            .grow_and_push(capacity, slot, target, pair, placed);
+        let place = match pushed {
+            Ok(place) => place,
+            Err((_, value)) => return Err(value),
+        };
         Ok(Location {
             key,
             slot: target,

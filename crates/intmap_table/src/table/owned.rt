@@ -1,20 +1,18 @@
 //! The pairs of a table by value.
 ghost use Rattle.std.specs.Prelude.{◌≡◌};
 ghost use Rattle.std.specs.Iterator.{YieldsFirst, item_count};
-ghost use Rattle.intmap_table.specs.Walk.{ArePassed};
 
 use crate::key::IntKey;
 use crate::table::Table;
+use crate::table::slots::owned::IntoRows;
 use std::alloc::Allocator;
 use std::marker::Model;
 
-/// The pairs of a table by value, in the order of the walk: those that are still in the table. No
-/// slot before `from` holds one. A step takes the same time however many pairs share a slot.
+/// The pairs of a table by value, in the order of the walk: those that are left. A step takes the
+/// same time however many pairs share a slot.
 #[derive(Drop)]
 pub struct IntoPairs<K: IntKey, X, A: Allocator> {
-    table: Table<K, X, A>,
-    from: usize,
-    ghost passed: { ArePassed K.number_of table.walk table.capacity from },
+    rows: IntoRows<K, X, A>,
 }
 
 impl<K: IntKey, X, A: Allocator> Model for IntoPairs<K, X, A> {
@@ -22,7 +20,7 @@ impl<K: IntKey, X, A: Allocator> Model for IntoPairs<K, X, A> {
 
     ghost Value = { List (K × X) };
 
-    ghost view = { λ it. it.table.walk };
+    ghost view = { λ it. it.rows };
 }
 
 impl<K: IntKey, X: Drop, A: Allocator> Table<K, X, A> {
@@ -31,8 +29,7 @@ impl<K: IntKey, X: Drop, A: Allocator> Table<K, X, A> {
         ensures { result ≡ self.walk }
     {
         IntoPairs {
-            table: self,
-            from: 0,
+            rows: self.slots.into_rows(),
         }
     }
 }
@@ -44,7 +41,9 @@ impl<K: IntKey, X: Drop, A: Allocator> Iterator for IntoPairs<K, X, A> {
 
     ghost remaining = { item_count (λ rest. rest) };
 
+    #[inline]
     fn next(&mut self) -> Option<(K, X)> {
-        self.table.take_front(&mut self.from)
+        let (key, value) = self.rows.next()?;
+        Some((*key.key(), value))
     }
 }

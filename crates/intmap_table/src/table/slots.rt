@@ -3,19 +3,22 @@
 //! hold a pair is known here alone.
 //!
 //! `pairs` has the calls on a pair of one slot, `closures` those with a closure, `writing` that
-//! which lends a value and that which drops all pairs, `walk` has the pairs by reference, and
-//! `clone` copies the slots. Of growth, `grow` goes over the old slots, and `refill` puts pairs
-//! into the new ones.
+//! which lends a value and that which drops all pairs, `walk` has the pairs by reference, `owned`
+//! those by value, and `clone` copies the slots. Of growth, `grow` adds slots and goes over the old
+//! ones, and `refill` puts each pair into its slot.
 
 mod clone;
 mod closures;
 mod grow;
+pub(crate) mod owned;
 mod pairs;
 mod refill;
 pub mod walk;
 mod writing;
 
 ghost use Rattle.std.specs.Prelude.{◌≡◌, ◌+◌, ◌-◌, ◌<◌, ◌≤◌, ℕ, [], ◌++◌, count_by, length, nat_lt, position, replicate, IfNone, IfOk, IfSome, slice_index_or, vec_capacity};
+ghost use Rattle.std.specs.Option.{option_map};
+ghost use Rattle.intmap_table.specs.Bindings.{value_of};
 ghost use Rattle.intmap_table.specs.Classes.{IsCapacity, same_key};
 ghost use Rattle.intmap_table.specs.Reach.{through_first};
 ghost use Rattle.intmap_table.specs.Tables.Bits.{IsWordFrom};
@@ -85,6 +88,13 @@ impl<K: IntKey, X, A: Allocator> Slots<K, X, A> {
         self.bits.count()
     }
 
+    /// The number of pairs of all slots: those that are first in their slots, and those in nodes.
+    pub(crate) fn pair_count(&self) -> usize
+        ensures { result ≡ length (joined self.now.rows) }
+    {
+        self.bits.count() + self.pool.held()
+    }
+
     /// The number of pairs of a slot.
     pub(crate) fn row_len(&self, index: usize) -> usize
         requires { index < length self.now.rows }
@@ -106,12 +116,23 @@ impl<K: IntKey, X, A: Allocator> Slots<K, X, A> {
         row::find(&self.slots[index], &self.pool, key, steps)
     }
 
-    /// The place of the last pair of a slot.
-    pub(crate) fn last_place(&self, index: usize) -> usize
-        requires { 0 < length (row_at self.now index) }
-        ensures { result + 1 ≡ length (row_at self.now index) }
+    /// The key's pair in a slot. The keys are compared from the front, up to the one sought. Each
+    /// comparison is one step.
+    #[inline(always)]
+    pub(crate) fn pair_of(
+        &self,
+        index: usize,
+        key: &K,
+        steps: &mut Steps,
+    ) -> Option<&(Stored<K>, X)>
+        requires { index < length self.now.rows }
+        ensures key { IfSome result (λ pair. K.number_of pair.now.0 ≡ K.number_of key.now) }
+        ensures value { option_map (λ pair. pair.now.1) result
+            ≡ value_of K.number_of (row_at self.now index) key.now }
+        ensures counted { steps.new ≡ steps.old + length
+            (through_first (λ p. same_key K.number_of key.now p.0) (row_at self.now index)) }
     {
-        row::len(&self.slots[index], &self.pool) - 1
+        row::pair_of(&self.slots[index], &self.pool, key, steps)
     }
 
     /// The stored key of the pair at a place of a slot.
@@ -178,6 +199,15 @@ impl<K: IntKey, X, A: Allocator> Slots<K, X, A> {
         self.next_in(&mut left, from)
     }
 
+    /// Whether a slot holds a pair.
+    #[inline(always)]
+    pub(crate) fn holds_pair(&self, index: usize) -> bool
+        requires { index < length self.now.rows }
+        ensures { result ≡ nat_lt 0 (length (row_at self.now index)) }
+    {
+        !self.slots[index].is_empty()
+    }
+
     /// The pairs, slot after slot.
     #[inline(always)]
     pub(crate) fn pairs(&self) -> Pairs<'_, K, X, A>
@@ -193,11 +223,13 @@ impl<K: IntKey, X, A: Allocator> Slots<K, X, A> {
 }
 
 /// Adds slots without a pair, so that there are `count`. There is room for them.
+#[inline(never)]
 fn add_empty<P: Drop, A: Allocator>(slots: &mut Vec<Slot<P>, A>, count: usize)
     requires more { length slots.old.items ≤ count }
     requires room { count ≤ vec_capacity slots.old }
-    ensures { slots.new.items
+    ensures items { slots.new.items
         ≡ slots.old.items ++ replicate (count - length slots.old.items) Empty }
+    ensures capacity { vec_capacity slots.old ≤ vec_capacity slots.new }
 {
     let make = || -> Slot<P>
         ensures { result ≡ Empty }

@@ -120,6 +120,7 @@ impl<K: IntKey, X, A: Allocator> Table<K, X, A> {
 
     /// Removes the first pair of the walk and returns it. No slot before `from` may hold a pair.
     /// `from` moves on to the slot that held the removed pair. If no pair is left, `from` stays.
+    #[inline(always)]
     pub fn take_front(&mut self, from: &mut usize) -> Option<(K, X)>
         requires { ArePassed K.number_of self.old.walk self.old.capacity from.old }
         ensures first { YieldsFirst (λ t. t.walk) self.old result self.new }

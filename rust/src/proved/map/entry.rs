@@ -40,7 +40,7 @@ impl<K: IntKey, V, A: Allocator + Copy> IntMap<K, V, A> {
     /// The entry borrows the map. Dropping it without another call leaves the map as it was, except
     /// for the count of compared keys. A caller's proof knows this of an entry that a `match` takes
     /// apart, and of any entry that is ended by [`OccupiedEntry::leave`] or [`Entry::into_map`].
-    #[inline]
+    #[inline(always)]
     pub fn entry(&mut self, key: K) -> Entry<'_, K, V, A> {
         match self.locate(key) {
             Ok(at) => Entry::Occupied(OccupiedEntry {
@@ -60,6 +60,7 @@ impl<K: IntKey, V, A: Allocator + Copy> IntMap<K, V, A> {
 impl<'a, K: IntKey, V, A: Allocator + Copy> Entry<'a, K, V, A> {
     /// If the key is present, calls the closure with a mutable reference to its value. The call
     /// returns the entry. If the key is present, the closure must be callable at its value.
+    #[inline(always)]
     pub fn and_modify<F: FnOnce(&mut V)>(self, f: F) -> Entry<'a, K, V, A> {
         match self {
             Entry::Occupied(mut entry) => {

@@ -29,7 +29,10 @@ pub(in crate::proved::map) fn threshold_of(capacity: usize, factor: usize) -> us
     }
 }
 
-/// Whether the load is checked at `len` pairs, and `len` is above the threshold.
-pub(in crate::proved::map) fn has_outgrown(len: usize, threshold: usize) -> bool {
-    len & 4 == 4 && len > threshold
+/// Whether a map of `len` pairs takes one more in its slots: the greater length isn't above the
+/// threshold, or the load isn't checked at it.
+#[inline(always)]
+pub(in crate::proved::map) fn takes_one_more(len: usize, threshold: usize) -> bool {
+    // the test that most insertions need comes first
+    len < threshold || len != usize::MAX && (len + 1) & 4 != 4
 }

@@ -86,16 +86,16 @@ impl<K: IntKey, V, A: Allocator + Copy> IntMap<K, V, A> {
         Location { key, slot, place }
     }
 
-    /// The value of a located pair.
+    /// The value of the pair at a place of a slot.
     #[inline(always)]
-    pub(in crate::proved::map) fn value_at(&self, at: Location<K>) -> &V {
-        self.table.value_at(at).get()
+    pub(in crate::proved::map) fn value_in(&self, slot: usize, place: usize) -> &V {
+        self.table.value_in(slot, place).get()
     }
 
-    /// A mutable reference to the value of a located pair.
+    /// A mutable reference to the value of the pair at a place of a slot.
     #[inline(always)]
-    pub(in crate::proved::map) fn value_mut_at(&mut self, at: Location<K>) -> &mut V {
-        self.table.value_mut_at(at).get_mut()
+    pub(in crate::proved::map) fn value_mut_in(&mut self, slot: usize, place: usize) -> &mut V {
+        self.table.value_mut_in(slot, place).get_mut()
     }
 
     /// Removes a located pair, and returns its value. The last pair of its slot takes its place.
@@ -104,14 +104,6 @@ impl<K: IntKey, V, A: Allocator + Copy> IntMap<K, V, A> {
         let kept = self.table.take_at(at);
         self.len -= 1;
         kept.into_value()
-    }
-
-    /// Removes a located pair, puts the pair of its key and this value at the end of the slot, and
-    /// returns the old value. The last pair of the slot takes the place of the removed one. It
-    /// allocates nothing.
-    #[inline(always)]
-    pub(in crate::proved::map) fn replace_at(&mut self, at: Location<K>, value: V) -> V {
-        self.table.replace_at(at, Kept::new(value)).into_value()
     }
 
     /// Removes a located pair and hands its value to the closure. If the closure returns an error,

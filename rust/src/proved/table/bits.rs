@@ -4,7 +4,7 @@ use crate::memory::prelude::*;
 use crate::memory::alloc::{AllocError, Allocator};
 
 /// The number of bits of a word.
-const BITS: usize = 64;
+pub(in crate::proved::table) const BITS: usize = 64;
 
 /// One bit for each index: whether it is marked.
 pub(in crate::proved::table) struct Bits<A: Allocator> {
@@ -19,18 +19,40 @@ pub(in crate::proved::table) struct MarksLeft {
 }
 
 impl<A: Allocator> Bits<A> {
+    /// The word that has the bit of an index.
+    #[inline(always)]
+    pub(in crate::proved::table) fn word(&self, index: usize) -> u64 {
+        self.words[index / BITS]
+    }
+
+    /// Replaces the word that has the bit of an index. The bits of other words stay.
+    #[inline(always)]
+    pub(in crate::proved::table) fn set_word(&mut self, index: usize, word: u64) {
+        self.words[index / BITS] = word;
+    }
+
+    /// Marks an index, whose word was read before. No other index changes.
+    #[inline(always)]
+    pub(in crate::proved::table) fn set_in(&mut self, word: u64, index: usize) {
+        self.words[index / BITS] = word | 1 << (index % BITS);
+    }
+
+    /// Clears the mark of an index, whose word was read before. No other index changes.
+    #[inline(always)]
+    pub(in crate::proved::table) fn clear_in(&mut self, word: u64, index: usize) {
+        self.words[index / BITS] = word & !(1 << (index % BITS));
+    }
+
     /// Marks an index. No other index changes.
     #[inline(always)]
     pub(in crate::proved::table) fn set(&mut self, index: usize) {
-        let word = &mut self.words[index / BITS];
-        *word = *word | 1 << (index % BITS);
+        self.set_in(self.word(index), index);
     }
 
     /// Clears the mark of an index. No other index changes.
     #[inline(always)]
     pub(in crate::proved::table) fn clear(&mut self, index: usize) {
-        let word = &mut self.words[index / BITS];
-        *word = *word & !(1 << (index % BITS));
+        self.clear_in(self.word(index), index);
     }
 
     /// Clears all marks.

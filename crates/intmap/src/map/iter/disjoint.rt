@@ -77,9 +77,9 @@ impl<'a, K: IntKey, V, A: Allocator + Copy> DisjointMut<'a, K, V, A> {
     {
         let (key, rest) = self.keys.split_first()?;
         self.keys = rest;
-        match self.table.locate(*key, steps) {
-            Ok(at) => Some(Some(self.lent.next_mut(self.table.value_at(at)))),
-            Err(_) => Some(None),
+        match self.table.pair_of(*key, steps) {
+            Some((_, hole)) => Some(Some(self.lent.next_mut(hole))),
+            None => Some(None),
         }
     }
 }

@@ -1,11 +1,12 @@
 //! Removal of pairs from the front of the walk, one by one.
 ghost use Rattle.std.specs.Prelude.{◌≡◌};
 ghost use Rattle.std.specs.Iterator.{item_count};
-ghost use Rattle.intmap_table.specs.Walk.{ArePassed};
+ghost use Rattle.intmap_table.specs.Fronts.{IsFront};
 ghost use Rattle.intmap.specs.Map.{IsMap};
 
 use crate::map::IntMap;
 use intmap_table::IntKey;
+use intmap_table::table::front::Front;
 use std::alloc::{Allocator, Global};
 
 /// Removes one pair of a map at each step and returns it, made by
@@ -15,8 +16,8 @@ use std::alloc::{Allocator, Global};
 /// many are left.
 pub struct Drain<'a, K: IntKey, V, A: Allocator + Copy = Global> {
     pub(crate) map: &'a mut IntMap<K, V, A>,
-    pub(crate) from: usize,
-    ghost passed: { ArePassed K.number_of map.now.walk map.now.capacity from },
+    pub(crate) front: Front,
+    ghost passed: { IsFront K.number_of map.now.walk map.now.capacity front },
 }
 
 impl<'a, K: IntKey, V: Drop, A: Allocator + Copy> Iterator for Drain<'a, K, V, A> {
@@ -28,8 +29,9 @@ impl<'a, K: IntKey, V: Drop, A: Allocator + Copy> Iterator for Drain<'a, K, V, A
 
     ghost remaining = { item_count drain_rest };
 
+    #[inline]
     fn next(&mut self) -> Option<(K, V)> {
-        self.map.take_front(&mut self.from)
+        self.map.take_next(&mut self.front)
     }
 }
 
@@ -41,7 +43,7 @@ impl<'a, K: IntKey, V, A: Allocator + Copy> Drop for Drain<'a, K, V, A> {
         ensures state { self.exit.0.now ≡ drained_map self.entry }
         ensures valid_after { IsMap K.number_of K.is_valid self.exit.0.now }
     {
-        let Drain { map, from: _ } = self;
+        let Drain { map, front: _ } = self;
         map.known();
     }
 }
@@ -69,6 +71,7 @@ impl<K: IntKey, V, A: Allocator + Copy> IntMap<K, V, A> {
         ensures valid { IsMap K.number_of K.is_valid self.old }
     {
         self.known();
-        Drain { map: self, from: 0 }
+        let front = self.table.front();
+        Drain { map: self, front }
     }
 }

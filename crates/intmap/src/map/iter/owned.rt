@@ -34,6 +34,7 @@ impl<K: IntKey, V: Drop, A: Allocator + Copy> Iterator for IntoIter<K, V, A> {
 
     ghost remaining = { item_count (λ rest. rest) };
 
+    #[inline]
     fn next(&mut self) -> Option<(K, V)> {
         let (key, kept) = self.pairs.next()?;
         Some((key, kept.into_value()))
@@ -63,6 +64,7 @@ impl<K: IntKey, V: Drop, A: Allocator + Copy> Iterator for IntoKeys<K, V, A> {
 
     ghost remaining = { item_count (λ rest. rest) };
 
+    #[inline]
     fn next(&mut self) -> Option<K> {
         let (key, _) = self.pairs.next()?;
         Some(key)
@@ -92,6 +94,7 @@ impl<K: IntKey, V: Drop, A: Allocator + Copy> Iterator for IntoValues<K, V, A> {
 
     ghost remaining = { item_count (λ rest. rest) };
 
+    #[inline]
     fn next(&mut self) -> Option<V> {
         let (_, value) = self.pairs.next()?;
         Some(value)

@@ -1,15 +1,17 @@
 //! Slots are cloned: the same keys in the same slots, with clones of their values.
-ghost use Rattle.std.specs.Prelude.{◌≡◌, ◌+◌, ◌^◌, ◌<◌, ◌≤◌, length, IfOk, OnOk};
+ghost use Rattle.std.specs.Prelude.{◌≡◌, ◌+◌, ◌^◌, ◌<◌, ◌≤◌, ℕ, [], ◌++◌, length, replicate, vec_capacity, IfOk, OnOk};
 ghost use Rattle.std.specs.List.{AllZip};
+ghost use Rattle.intmap_table.specs.Classes.{slot_number};
 ghost use Rattle.intmap_table.specs.Cloning.{IsPairClone};
-ghost use Rattle.intmap_table.specs.Tables.Nodes.{chain_of, node_limit, nowhere, row_in, IsChain, IsSlot};
-ghost use Rattle.intmap_table.specs.Tables.Rows.{IsChainClone, IsRowClone};
+ghost use Rattle.intmap_table.specs.Tables.Nodes.{Empty, chain_of, node_limit, nowhere, row_in, rows_in, AreLinked, IsChain, IsSlot};
+ghost use Rattle.intmap_table.specs.Tables.Rows.{AreRows, IsChainClone, IsRowClone};
 
+use crate::bits::{BITS, Bits};
 use crate::key::IntKey;
 use crate::linked::node::{NODE_LIMIT, NOWHERE};
 use crate::linked::pool::Pool;
 use crate::linked::slot::Slot;
-use crate::table::slots::Slots;
+use crate::table::slots::{Slots, add_empty};
 use crate::table::stored::Stored;
 use std::alloc::{AllocError, Allocator};
 
@@ -36,6 +38,7 @@ fn link_behind(link: usize, held: usize) -> usize
 
 /// Puts clones of the pairs that a link leads through, of which there is at least one, into new
 /// nodes of `made`, in their order, and returns the link to them.
+#[inline(never)]
 fn clone_chain<K: IntKey, X: Clone, A: Allocator>(
     pool: &Pool<(Stored<K>, X), A>,
     from: usize,
@@ -87,6 +90,54 @@ fn clone_slot<K: IntKey, X: Clone, A: Allocator>(
     Ok(Slot::filled(link, copy))
 }
 
+/// Adds slots without a pair, 64 of them unless that is too many, if none has this index yet. There
+/// may be `count` slots, for which there is room.
+#[inline(always)]
+fn add_up_to<P: Drop, A: Allocator>(slots: &mut Vec<Slot<P>, A>, index: usize, count: usize)
+    requires within { index < count }
+    requires limit { count ≤ 2 ^ 63 }
+    requires few { length slots.old.items ≤ count }
+    requires room { count ≤ vec_capacity slots.old }
+    ensures items { (n : ℕ) × (slots.new.items ≡ slots.old.items ++ replicate n Empty) }
+    ensures within { index < length slots.new.items }
+    ensures few { length slots.new.items ≤ count }
+    ensures capacity { vec_capacity slots.old ≤ vec_capacity slots.new }
+{
+    if index >= slots.len() {
+        add_empty(slots, count.min(index + BITS));
+    }
+}
+
+/// Adds clones of all slots, for which there is room. The bits mark those that hold a pair.
+fn clone_rows<K: IntKey, X: Clone, A: Allocator>(
+    bits: &Bits<A>,
+    slots: &[Slot<(Stored<K>, X)>],
+    pool: &Pool<(Stored<K>, X), A>,
+    made: &mut Vec<Slot<(Stored<K>, X)>, A>,
+    nodes: &mut Pool<(Stored<K>, X), A>,
+) -> Result<(), AllocError>
+    requires rows { (mask : ℕ) × AreRows K.number_of slots.now pool.now bits.now mask }
+    requires none { made.old.items ≡ [] }
+    requires room { length slots.now ≤ vec_capacity made.old }
+    requires unused { nodes.old.nodes ≡ [] }
+    requires held { nodes.old.held ≡ 0 }
+    ensures linked { OnOk result (AreLinked
+        (λ p. slot_number K.number_of p.0 (length slots.now)) made.new.items nodes.new) }
+    ensures rows { OnOk result (AllZip
+        (λ row copy. AllZip (IsPairClone X.is_clone) row copy)
+        (rows_in slots.now pool.now.nodes) (rows_in made.new.items nodes.new.nodes)) }
+{
+    let mut from = 0;
+    let mut left = bits.marks_from(0);
+    while let Some(index) = bits.next_in(&mut left, from) {
+        add_up_to(made, index, slots.len());
+        made[index] = clone_slot(&slots[index], pool, nodes)?;
+        from = index + 1;
+    }
+    add_empty(made, slots.len());
+    Ok(())
+}
+
 impl<K: IntKey, X: Clone, A: Allocator + Copy> Slots<K, X, A> {
     /// The same keys in the same slots, with clones of their values. The slots, their bits and the
     /// nodes are allocated before the first value is cloned. The values are cloned slot after slot,
@@ -99,9 +150,7 @@ impl<K: IntKey, X: Clone, A: Allocator + Copy> Slots<K, X, A> {
         let mut slots = Vec::with_capacity(alloc, self.slots.len())?;
         let bits = self.bits.clone()?;
         let mut pool = Pool::with_room(alloc, self.pool.held())?;
-        for slot in &self.slots {
-            slots.push_reserved(clone_slot(slot, &self.pool, &mut pool)?);
-        }
+        clone_rows(&self.bits, &self.slots, &self.pool, &mut slots, &mut pool)?;
         Ok(Slots {
             mask: self.mask,
             bits,

@@ -1,7 +1,11 @@
-//! Growth in one jump. All memory is allocated before the first pair moves.
-ghost use Rattle.std.specs.Prelude.{◌≡◌, ◌+◌, ◌*◌, ◌/◌, ◌%◌, ◌^◌, ◌<◌, ◌≤◌, ℕ, cond, nat_lt, [], ◌∷◌, ◌++◌, false, List, length, replicate, slice_index_or, take, IfErr, IfOk, OnErr, OnOk};
+//! Growth in one jump, in place: new slots follow the old ones in the same vector, and pairs that
+//! share a slot move from the old nodes to new ones. A pair of an old slot goes to that slot or to a
+//! new one, so it never meets pairs of an old slot that haven't moved. All memory is allocated
+//! before the first pair moves.
+ghost use Rattle.std.specs.Prelude.{◌≡◌, ◌==◌, ◌+◌, ◌*◌, ◌/◌, ◌%◌, ◌^◌, ◌<◌, ◌≤◌, ℕ, cond, nat_lt, [], ◌∷◌, ◌++◌, false, List, length, replicate, set, slice_index_or, take, IfErr, IfOk, OnErr, OnOk};
 ghost use Rattle.intmap_table.specs.Classes.{IsCapacity, slot_number};
 ghost use Rattle.intmap_table.specs.Walk.{slot_of};
+ghost use Rattle.intmap_table.specs.declared.linked.row.growth.Order.TheVariants.{First, Second};
 ghost use Rattle.intmap_table.specs.Tables.Nodes.{chain_of, further, node_limit, row_in, rows_in, AreHome, AreLinked, Empty, IsChain, IsSlot, Spares};
 ghost use Rattle.intmap_table.specs.Tables.Growing.{blank};
 ghost use Rattle.intmap_table.specs.Tables.Rows.{row_at, AreRows, IsGrown, HasMoved};
@@ -10,8 +14,9 @@ ghost use Rattle.intmap_table.specs.Tables.Slots.{joined, AreMarked};
 use crate::bits::Bits;
 use crate::key::IntKey;
 use crate::linked::chain::take_behind;
-use crate::linked::node::NODE_LIMIT;
+use crate::linked::node::{NODE_LIMIT, NOWHERE};
 use crate::linked::pool::Pool;
+use crate::linked::row::growth::Order;
 use crate::linked::slot::Slot;
 use crate::linked::turn::turn;
 use crate::steps::Steps;
@@ -74,14 +79,29 @@ fn moved_index_of<K: IntKey>(key: &K, mask: usize, index: usize, old_mask: usize
     ensures part { result % (old_mask + 1) ≡ index }
     ensures within { result ≤ mask }
 {
+    // no other old slot, even if a key of Rust gives another number at each call
     let target = masked_index_of(key, mask);
     let above = target - (target & old_mask);
     above + index
 }
 
+/// Where in its slot a pair goes that was behind the first one of its old slot, if those that were
+/// behind it have moved: behind the first one too if that one has the same slot, or else first.
+#[inline(always)]
+fn further_order(first_target: usize, target: usize) -> Order
+    ensures { result ≡ cond (first_target == target) Second First }
+{
+    if first_target == target {
+        return Order::Second;
+    }
+    Order::First
+}
+
 /// Moves the pairs of an old slot that holds some to their new slots. The first of them goes to a
-/// slot without a pair. Those behind it move from the last one on, each before those that are in its
-/// slot, but behind the first one: so each slot has its pairs in order.
+/// slot without a pair. Those behind it move from the last one on, each before those that are in
+/// its slot, but behind the first one: so each slot has its pairs in order. From when the first one
+/// moves on, `from` is the slot behind the old one, and `rest` leads through the pairs of the old
+/// one that haven't moved.
 #[inline(always)]
 fn move_row<K: IntKey, X, A: Allocator>(
     slots: &mut Vec<Slot<(Stored<K>, X)>, A>,
@@ -89,6 +109,8 @@ fn move_row<K: IntKey, X, A: Allocator>(
     pool: &mut Pool<(Stored<K>, X), A>,
     old_pool: &mut Pool<(Stored<K>, X), A>,
     index: usize,
+    from: &mut usize,
+    rest: &mut usize,
     old_mask: usize,
     mask: usize,
     placed: &mut Steps,
@@ -115,6 +137,7 @@ fn move_row<K: IntKey, X, A: Allocator>(
         → HasMoved K.number_of
         (L ++ row_in old_pool.old.nodes (slice_index_or slots.old.items index Empty)) (mask + 1)
         (rows_in (blank (index + 1) (old_mask + 1) slots.new.items) pool.new.nodes) }
+    ensures from { from.new ≡ index + 1 }
     ensures len { length slots.new.items ≡ length slots.old.items }
     ensures left { (j : ℕ) → index < j → j ≤ old_mask
         → slice_index_or slots.new.items j Empty ≡ slice_index_or slots.old.items j Empty }
@@ -131,32 +154,30 @@ fn move_row<K: IntKey, X, A: Allocator>(
     };
     let first_target = moved_index_of(first.0.key(), mask, index, old_mask);
     let first = slots[index].take();
-    put_at(slots, bits, pool, first_target, false, first, placed);
-    let mut link = turn(old_pool, link);
-    while link < NODE_LIMIT {
-        let next = old_pool.pair(link);
+    *from = index + 1;
+    put_at(slots, bits, pool, first_target, Order::First, first, placed);
+    *rest = turn(old_pool, link);
+    while *rest < NODE_LIMIT {
+        let next = old_pool.pair(*rest);
         let target = moved_index_of(next.0.key(), mask, index, old_mask);
-        let pair = take_behind(&mut link, old_pool);
-        put_at(
-            slots,
-            bits,
-            pool,
-            target,
-            first_target == target,
-            pair,
-            placed,
-        );
+        let order = further_order(first_target, target);
+        let pair = take_behind(rest, old_pool);
+        put_at(slots, bits, pool, target, order, pair, placed);
     }
 }
 
 /// Moves the pairs of all old slots, slot after slot, to their new slots. No pair goes to an old
 /// slot whose pairs haven't moved yet. The old bits mark the old slots that hold a pair, and stay.
+/// The old slots from `from` on haven't moved, and `rest` leads through what is left of the one
+/// before. The crate for Rust reads both if a key's `number` panics, and moves the pairs back.
 fn move_rows<K: IntKey, X, A: Allocator>(
     slots: &mut Vec<Slot<(Stored<K>, X)>, A>,
     bits: &mut Bits<A>,
     pool: &mut Pool<(Stored<K>, X), A>,
     old_bits: &Bits<A>,
     old_pool: &mut Pool<(Stored<K>, X), A>,
+    from: &mut usize,
+    rest: &mut usize,
     old_mask: usize,
     mask: usize,
     placed: &mut Steps,
@@ -184,11 +205,12 @@ fn move_rows<K: IntKey, X, A: Allocator>(
     ensures counted { placed.new ≡ placed.old + length
         (joined (rows_in (take (old_mask + 1) slots.old.items) old_pool.old.nodes)) }
 {
-    let mut from = 0;
-    let mut left = old_bits.marks_from(from);
-    while let Some(index) = old_bits.next_in(&mut left, from) {
-        move_row(slots, bits, pool, old_pool, index, old_mask, mask, placed);
-        from = index + 1;
+    *from = 0;
+    let mut left = old_bits.marks_from(*from);
+    while let Some(index) = old_bits.next_in(&mut left, *from) {
+        move_row(
+            slots, bits, pool, old_pool, index, from, rest, old_mask, mask, placed,
+        );
     }
 }
 
@@ -199,6 +221,29 @@ impl<K: IntKey, X, A: Allocator> Slots<K, X, A> {
         ensures limit { result ≤ node_limit }
     {
         self.pool.held()
+    }
+
+    /// Puts a pair last in its slot, counts it, and returns its place. If the slot holds a pair
+    /// there is room for one more.
+    fn put_last(&mut self, index: usize, pair: (Stored<K>, X), placed: &mut Steps) -> usize
+        requires within { index < length self.old.rows }
+        requires own { slot_number K.number_of pair.0 (length self.old.rows) ≡ index }
+        requires ready { 0 < length (row_at self.old index)
+            → further self.old.rows < self.old.total }
+        ensures rows { self.new.rows
+            ≡ set self.old.rows index (row_at self.old index ++ pair ∷ []) }
+        ensures place { result ≡ length (row_at self.old index) }
+        ensures counted { placed.new ≡ placed.old + 1 }
+    {
+        put_at(
+            &mut self.slots,
+            &mut self.bits,
+            &mut self.pool,
+            index,
+            Order::Last,
+            pair,
+            placed,
+        )
     }
 
     /// Room that suffices for the pairs behind the first ones of their slots, if all pairs move to
@@ -248,9 +293,9 @@ impl<K: IntKey, X: Drop, A: Allocator + Copy> Slots<K, X, A> {
         self.pool.reserve(additional)
     }
 
-    /// Makes the slots `capacity`, and moves all pairs, in the order of the walk, to their slots
-    /// among these. There is room for `room` pairs that share a slot. If an
-    /// allocation fails, no pair moves.
+    /// Adds slots, so that there are `capacity`, and moves all pairs, in the order of the walk, to
+    /// their slots among these. The nodes have room for `room` pairs in all. If an allocation
+    /// fails, no pair moves.
     fn enlarge(
         &mut self,
         capacity: usize,
@@ -274,12 +319,15 @@ impl<K: IntKey, X: Drop, A: Allocator + Copy> Slots<K, X, A> {
         };
         add_empty(&mut self.slots, capacity);
         let (mut bits, mut pool) = made;
+        let (mut from, mut rest) = (0, NOWHERE);
         move_rows(
             &mut self.slots,
             &mut bits,
             &mut pool,
             &self.bits,
             &mut self.pool,
+            &mut from,
+            &mut rest,
             self.mask,
             capacity - 1,
             placed,
@@ -314,8 +362,8 @@ impl<K: IntKey, X: Drop, A: Allocator + Copy> Slots<K, X, A> {
     }
 
     /// Puts a new pair behind the pairs of its slot, and moves all pairs, in the order of the walk,
-    /// to their slots among `capacity` slots. If an allocation fails, the pair is returned, and no
-    /// pair moves.
+    /// to their slots among `capacity` slots. It returns the place that the new pair has there. If
+    /// an allocation fails, the pair is returned, and no pair moves.
     pub(crate) fn grow_and_push(
         &mut self,
         capacity: usize,
@@ -323,13 +371,14 @@ impl<K: IntKey, X: Drop, A: Allocator + Copy> Slots<K, X, A> {
         target: usize,
         pair: (Stored<K>, X),
         placed: &mut Steps,
-    ) -> Result<(), (Stored<K>, X)>
+    ) -> Result<usize, (Stored<K>, X)>
         requires grown { IsGrown (length self.old.rows) capacity }
         requires slot { slot ≡ slot_number K.number_of pair.0 (length self.old.rows) }
         requires target { target ≡ slot_number K.number_of pair.0 capacity }
         ensures len { OnOk result (length self.new.rows ≡ capacity) }
         ensures rows { OnOk result ((j : ℕ) → j < capacity → row_at self.new j
             ≡ slot_of K.number_of (joined self.old.rows ++ pair ∷ []) capacity j) }
+        ensures place { IfOk result (λ place. place + 1 ≡ length (row_at self.new target)) }
         ensures counted { OnOk result
             (placed.new ≡ placed.old + (length (joined self.old.rows) + 1)) }
         ensures err { OnErr result (self.new ≡ self.old) }
@@ -340,8 +389,6 @@ impl<K: IntKey, X: Drop, A: Allocator + Copy> Slots<K, X, A> {
         let Ok(_) = self.enlarge(capacity, room, placed) else {
             return Err(pair);
         };
-        self.put_back(target, pair);
-        placed.tick();
-        Ok(())
+        Ok(self.put_last(target, pair, placed))
     }
 }

@@ -1,12 +1,18 @@
 //! Single pairs are put into a slot, replaced and removed.
-ghost use Rattle.std.specs.Prelude.{◌≡◌, ◌+◌, ◌<◌, ◌≤◌, [], ◌∷◌, ◌++◌, List, drop, length, set, swap_remove, take, slice_index_or, slice_set, cond, false, IfOk, IfErr, IsOk, OnErr, OnOk};
-ghost use Rattle.intmap_table.specs.Classes.{slot_number};
+ghost use Rattle.std.specs.Prelude.{◌≡◌, ◌+◌, ◌<◌, ◌≤◌, ℕ, [], ◌∷◌, ◌++◌, List, drop, length, position, set, swap_remove, take, slice_index_or, slice_set, cond, false, true, None, Some, MatchBool, IfOk, IfErr, IsOk, OnErr, OnOk};
+ghost use Rattle.intmap_table.specs.Bindings.{swap_out, value_of};
+ghost use Rattle.intmap_table.specs.Classes.{same_key, slot_number};
+ghost use Rattle.intmap_table.specs.Reach.{through_first};
+ghost use Rattle.intmap_table.specs.Tables.Nodes.{Empty, Filled, further};
+ghost use Rattle.intmap_table.specs.Tables.Putting.{put_last};
 ghost use Rattle.intmap_table.specs.Tables.Rows.{row_at};
-ghost use Rattle.intmap_table.specs.Tables.Nodes.{further};
 
 use crate::bits::Bits;
 use crate::key::IntKey;
-use crate::linked::row;
+use crate::linked::node::{NODE_LIMIT, NOWHERE};
+use crate::linked::row::{self, insertion, removal};
+use crate::linked::slot::Slot;
+use crate::steps::Steps;
 use crate::table::slots::Slots;
 use crate::table::stored::Stored;
 use std::alloc::Allocator;
@@ -20,6 +26,22 @@ pub(super) fn unmark_if<A: Allocator>(bits: &mut Bits<A>, is_empty: bool, index:
     if is_empty {
         bits.clear(index);
     }
+}
+
+/// Removes the only pair of a slot, and clears the bit of the slot.
+#[inline(always)]
+fn take_only<P, A: Allocator>(slot: &mut Slot<P>, bits: &mut Bits<A>, index: usize) -> P
+    requires filled { (l : ℕ) × (p : P) × (slot.old ≡ Filled l p) }
+    requires within { index < length bits.old }
+    ensures pair { (l : ℕ) × (slot.old ≡ Filled l result) }
+    ensures slot { slot.new ≡ Empty }
+    ensures bits { bits.new ≡ slice_set bits.old index false }
+{
+    // read before the slot is written, so that the write can't delay it
+    let word = bits.word(index);
+    let pair = slot.take();
+    bits.clear_in(word, index);
+    pair
 }
 
 impl<K: IntKey, X, A: Allocator> Slots<K, X, A> {
@@ -42,10 +64,51 @@ impl<K: IntKey, X, A: Allocator> Slots<K, X, A> {
         ensures memory { OnErr result (0 < length (row_at self.old index)) }
         ensures succeeds { further self.old.rows < self.old.total → IsOk result }
     {
-        let slot = &mut self.slots[index];
-        let place = row::push(slot, &mut self.pool, pair)?;
-        self.bits.set(index);
+        if self.is_vacant(index) {
+            self.fill(index, pair);
+            return Ok(0);
+        }
+        let place = insertion::push_further(&mut self.slots[index], &mut self.pool, pair)?;
         Ok(place)
+    }
+
+    /// Whether a slot holds no pair.
+    #[inline(always)]
+    pub(crate) fn is_vacant(&self, index: usize) -> bool
+        requires { index < length self.now.rows }
+        ensures { MatchBool result (row_at self.now index ≡ [])
+            (0 < length (row_at self.now index)) }
+    {
+        self.slots[index].is_empty()
+    }
+
+    /// Puts a first pair into a slot that holds none. It allocates nothing.
+    #[inline(always)]
+    pub(crate) fn fill(&mut self, index: usize, pair: (Stored<K>, X))
+        requires within { index < length self.old.rows }
+        requires own { slot_number K.number_of pair.0 (length self.old.rows) ≡ index }
+        requires empty { row_at self.old index ≡ [] }
+        ensures rows { self.new.rows ≡ set self.old.rows index (pair ∷ []) }
+        ensures total { self.new.total ≡ self.old.total }
+    {
+        let slot = &mut self.slots[index];
+        // read before the slot changes, so that a write there can't delay it
+        let word = self.bits.word(index);
+        slot.fill(NOWHERE, pair);
+        self.bits.set_in(word, index);
+    }
+
+    /// Whether the first pair of a slot has the key. If there is a first pair, its key is compared,
+    /// which is one step.
+    #[inline(always)]
+    pub(crate) fn first_is(&self, index: usize, key: &K, steps: &mut Steps) -> bool
+        requires { index < length self.now.rows }
+        ensures value { MatchBool result
+            (position (λ p. same_key K.number_of key.now p.0) (row_at self.now index) ≡ Some 0)
+            (value_of K.number_of (take 1 (row_at self.now index)) key.now ≡ None) }
+        ensures counted { steps.new ≡ steps.old + length (take 1 (row_at self.now index)) }
+    {
+        row::first_is(&self.slots[index], &self.pool, key, steps)
     }
 
     /// Puts a pair last in its slot. If the slot holds a pair there is room for one more, so it
@@ -77,9 +140,40 @@ impl<K: IntKey, X, A: Allocator> Slots<K, X, A> {
             → further self.new.rows < self.new.total }
     {
         let slot = &mut self.slots[index];
-        let pair = row::take(slot, &mut self.pool, place);
-        unmark_if(&mut self.bits, slot.is_empty(), index);
-        pair
+        let Some((link, _)) = slot.get() else {
+            unreachable!();
+        };
+        if link < NODE_LIMIT {
+            return removal::take_of_several(slot, link, &mut self.pool, place);
+        }
+        take_only(slot, &mut self.bits, index)
+    }
+
+    /// Removes the pair of a key from its slot, and returns its value. The last pair of the slot
+    /// takes its place. The keys are compared from the front, up to the one sought. Each comparison
+    /// is one step.
+    #[inline(always)]
+    pub(crate) fn remove(&mut self, index: usize, key: K, steps: &mut Steps) -> Option<X>
+        requires { index < length self.old.rows }
+        ensures value { result ≡ value_of K.number_of (row_at self.old index) key }
+        ensures rows { self.new.rows ≡ set self.old.rows index (swap_out
+            (λ p. same_key K.number_of key p.0) (λ _. true) (row_at self.old index)) }
+        ensures total { self.new.total ≡ self.old.total }
+        ensures counted { steps.new ≡ steps.old + length
+            (through_first (λ p. same_key K.number_of key p.0) (row_at self.old index)) }
+    {
+        let slot = &mut self.slots[index];
+        let Some((link, first)) = slot.get() else {
+            return None;
+        };
+        if link < NODE_LIMIT {
+            return removal::remove_of_several(slot, link, &mut self.pool, key, steps);
+        }
+        if !first.0.matches(&key, steps) {
+            return None;
+        }
+        let (_, value) = take_only(slot, &mut self.bits, index);
+        Some(value)
     }
 
     /// Removes the pair at a place of a slot. Those behind it move up by one place.
@@ -91,28 +185,85 @@ impl<K: IntKey, X, A: Allocator> Slots<K, X, A> {
         ensures total { self.new.total ≡ self.old.total }
     {
         let slot = &mut self.slots[index];
-        let pair = row::remove(slot, &mut self.pool, place);
+        let pair = removal::remove(slot, &mut self.pool, place);
         unmark_if(&mut self.bits, slot.is_empty(), index);
         pair
     }
 
-    /// Removes the pair at a place of a slot, moves the last pair of the slot into that place, and
-    /// puts a new pair at the end of the slot. It allocates nothing.
+    /// Removes the first pair of a slot. The last pair of the slot takes its place, and a new one is
+    /// put last. It allocates nothing.
     #[inline(always)]
-    pub(crate) fn replace_at(
-        &mut self,
-        index: usize,
-        place: usize,
-        new: (Stored<K>, X),
-    ) -> (Stored<K>, X)
-        requires place { place < length (row_at self.old index) }
+    pub(crate) fn replace_first(&mut self, index: usize, new: (Stored<K>, X)) -> (Stored<K>, X)
+        requires some { 0 < length (row_at self.old index) }
         requires own { slot_number K.number_of new.0 (length self.old.rows) ≡ index }
-        ensures value { result ≡ slice_index_or (row_at self.old index) place result }
+        ensures value { result ≡ slice_index_or (row_at self.old index) 0 result }
         ensures rows { self.new.rows ≡ set self.old.rows index
-            (swap_remove (row_at self.old index) place result ++ new ∷ []) }
+            (swap_remove (row_at self.old index) 0 result ++ new ∷ []) }
         ensures total { self.new.total ≡ self.old.total }
     {
-        row::replace(&mut self.slots[index], &mut self.pool, place, new)
+        insertion::replace_first(&mut self.slots[index], &mut self.pool, new)
+    }
+
+    /// Replaces the pair of a key by one with this value, if it is behind the first one of its slot.
+    /// The last pair of the slot takes its place, and the new one is put last. It returns the old
+    /// value, or the new one if the key isn't there.
+    pub(crate) fn replace_further(
+        &mut self,
+        index: usize,
+        key: K,
+        value: X,
+        steps: &mut Steps,
+    ) -> Result<X, X>
+        requires within { index < length self.old.rows }
+        requires own { slot_number K.number_of key (length self.old.rows) ≡ index }
+        requires other { value_of K.number_of (take 1 (row_at self.old index)) key ≡ None }
+        ensures value { IfOk result
+            (λ old. value_of K.number_of (row_at self.old index) key ≡ Some old) }
+        ensures rows { OnOk result (self.new.rows ≡ set self.old.rows index
+            (put_last K.number_of (row_at self.old index) key value)) }
+        ensures known { OnOk result (K.is_valid key) }
+        ensures missing { OnErr result (value_of K.number_of (row_at self.old index) key ≡ None) }
+        ensures err { OnErr result (self.new ≡ self.old) }
+        ensures value_returned { IfErr result (λ returned. returned ≡ value) }
+        ensures total { self.new.total ≡ self.old.total }
+        ensures counted { steps.new ≡ steps.old + length (through_first
+            (λ p. same_key K.number_of key p.0) (drop 1 (row_at self.old index))) }
+    {
+        let slot = &mut self.slots[index];
+        let old = insertion::replace_further(slot, &mut self.pool, key, value, steps)?;
+        Ok(old)
+    }
+
+    /// Puts the pair of a key and a value last in a slot whose first pair has another key. If the
+    /// key is present, the last pair of the slot takes the place of its pair, and the old value is
+    /// returned. If an allocation fails, the value is returned.
+    #[inline(always)]
+    pub(crate) fn put(
+        &mut self,
+        index: usize,
+        key: K,
+        value: X,
+        steps: &mut Steps,
+    ) -> Result<Option<X>, X>
+        requires some { 0 < length (row_at self.old index) }
+        requires own { slot_number K.number_of key (length self.old.rows) ≡ index }
+        requires other { value_of K.number_of (take 1 (row_at self.old index)) key ≡ None }
+        ensures value { IfOk result
+            (λ old. old ≡ value_of K.number_of (row_at self.old index) key) }
+        ensures rows { OnOk result (self.new.rows ≡ set self.old.rows index
+            (put_last K.number_of (row_at self.old index) key value)) }
+        ensures known { K.is_valid key }
+        ensures missing { OnErr result (value_of K.number_of (row_at self.old index) key ≡ None) }
+        ensures err { OnErr result (self.new ≡ self.old) }
+        ensures value_returned { IfErr result (λ returned. returned ≡ value) }
+        ensures total { self.old.total ≤ self.new.total }
+        ensures succeeds { further self.old.rows < self.old.total → IsOk result }
+        ensures counted { steps.new ≡ steps.old + length (through_first
+            (λ p. same_key K.number_of key p.0) (drop 1 (row_at self.old index))) }
+    {
+        let slot = &mut self.slots[index];
+        let old = insertion::put(slot, &mut self.pool, key, value, steps)?;
+        Ok(old)
     }
 
     /// Removes the first pair of a slot. The others move up by one place.
@@ -124,8 +275,12 @@ impl<K: IntKey, X, A: Allocator> Slots<K, X, A> {
         ensures total { self.new.total ≡ self.old.total }
     {
         let slot = &mut self.slots[index];
-        let pair = row::take_front(slot, &mut self.pool);
-        unmark_if(&mut self.bits, slot.is_empty(), index);
-        pair
+        let Some((link, _)) = slot.get() else {
+            unreachable!();
+        };
+        if link < NODE_LIMIT {
+            return removal::take_first_of_several(slot, link, &mut self.pool);
+        }
+        take_only(slot, &mut self.bits, index)
     }
 }

@@ -1,16 +1,20 @@
-//! A value of one slot is lent to be written, and all pairs are dropped.
-ghost use Rattle.std.specs.Prelude.{◌≡◌, ◌<◌, ◌≤◌, [], ℕ, length, slice_index_or};
-ghost use Rattle.intmap_table.specs.Classes.{slot_number};
+//! A value of one slot is lent to be written, at a place or by its key, and all pairs are dropped.
+ghost use Rattle.std.specs.Prelude.{◌≡◌, ◌+◌, ◌<◌, ◌≤◌, [], ℕ, length, slice_index_or};
+ghost use Rattle.intmap_table.specs.Bindings.{value_of};
+ghost use Rattle.intmap_table.specs.Classes.{same_key, slot_number};
+ghost use Rattle.intmap_table.specs.Reach.{through_first};
 ghost use Rattle.intmap_table.specs.Tables.Nodes.{rows_in, AreLinked, IsSlot, IsSlotSet};
 ghost use Rattle.intmap_table.specs.Tables.Rows.{row_at};
 ghost use Rattle.intmap_table.specs.Tables.Slots.{AreMarked};
 
 use crate::bits::Bits;
+use crate::kept::Kept;
 use crate::key::IntKey;
-use crate::linked::chain::seek;
+use crate::linked::chain::{node_in, seek};
 use crate::linked::pool::Pool;
-use crate::linked::row;
+use crate::linked::row::removal;
 use crate::linked::slot::Slot;
+use crate::steps::Steps;
 use crate::table::slots::{Slots, add_empty};
 use crate::table::stored::Stored;
 use std::alloc::Allocator;
@@ -23,7 +27,7 @@ fn drop_row<P: Drop, A: Allocator>(slot: &mut Slot<P>, pool: &mut Pool<P, A>)
     ensures total { pool.new.total ≡ pool.old.total }
 {
     while !slot.is_empty() {
-        row::take_front(slot, pool);
+        removal::take_front(slot, pool);
     }
 }
 
@@ -69,6 +73,41 @@ impl<K: IntKey, X, A: Allocator> Slots<K, X, A> {
         };
         let at = seek(&self.pool, link, place - 1);
         self.pool.value_mut(at)
+    }
+}
+
+impl<K: IntKey, V, A: Allocator> Slots<K, Kept<V>, A> {
+    ghost use Rattle.std.specs.Borrow.{sem};
+    ghost use Rattle.std.specs.Option.{option_copied_mut};
+    ghost use Rattle.intmap_table.specs.Lending.{slots_lends_present};
+
+    /// A mutable reference to the value of the key's pair in a slot. The keys are compared from the
+    /// front, up to the one sought. Each comparison is one step.
+    #[inline(always)]
+    pub(crate) fn value_mut_of(
+        &mut self,
+        index: usize,
+        key: &K,
+        steps: &mut Steps,
+    ) -> Option<&mut V>
+        requires { index < length self.old.rows }
+        ensures* writes_back { sem 𝓛 (slots_lends_present K.row V.row A.row K.IntKey.own K.PartialEq
+            A.Allocator self.entry index key.now result) }
+        ensures value { option_copied_mut result
+            ≡ value_of K.number_of (row_at self.old index) key.now }
+        ensures counted { steps.new ≡ steps.old + length
+            (through_first (λ p. same_key K.number_of key.now p.0) (row_at self.old index)) }
+    {
+        let Some((link, first)) = self.slots[index].get() else {
+            return None;
+        };
+        if first.0.matches(key, steps) {
+            return Some(self.slots[index].value_mut().get_mut());
+        }
+        let Some(at) = node_in(&self.pool, link, key, steps) else {
+            return None;
+        };
+        Some(self.pool.value_mut(at).get_mut())
     }
 }
 

@@ -9,6 +9,7 @@ use crate::memory::alloc::Allocator;
 impl<'a, K: IntKey, V, A: Allocator + Copy> VacantEntry<'a, K, V, A> {
     /// Inserts the pair of the key and the value as [`insert`](VacantEntry::insert) does, and
     /// returns the entry of the key, which is then present. It fails as that does.
+    #[inline(always)]
     pub fn insert_entry(self, value: V) -> Result<OccupiedEntry<'a, K, V, A>, Refused<V>> {
         let VacantEntry { map, key, slot } = self;
         let at = match map.add(slot, key, value) {
@@ -32,8 +33,7 @@ impl<'a, K: IntKey, V, A: Allocator + Copy> Entry<'a, K, V, A> {
             Entry::Occupied(entry) => {
                 // taken apart before the write, so that the proof follows the map into the result
                 let OccupiedEntry { map, slot, place } = entry;
-                let at = map.location(slot, place);
-                *map.value_mut_at(at) = value;
+                *map.value_mut_in(slot, place) = value;
                 Ok(OccupiedEntry { map, slot, place })
             }
             Entry::Vacant(entry) => entry.insert_entry(value),

@@ -16,8 +16,7 @@ impl<'a, K: IntKey, V, A: Allocator + Copy> OccupiedEntry<'a, K, V, A> {
     /// The value of the key.
     #[inline(always)]
     pub fn get(&self) -> &V {
-        let at = self.map.location(self.slot, self.place);
-        self.map.value_at(at)
+        self.map.value_in(self.slot, self.place)
     }
 
     /// A mutable reference to the value of the key. It can't outlive the entry; `into_mut` returns
@@ -26,16 +25,14 @@ impl<'a, K: IntKey, V, A: Allocator + Copy> OccupiedEntry<'a, K, V, A> {
     pub fn get_mut(&mut self) -> &mut V {
         let slot = self.slot;
         let place = self.place;
-        let at = self.map.location(slot, place);
-        self.map.value_mut_at(at)
+        self.map.value_mut_in(slot, place)
     }
 
     /// A mutable reference to the value of the key, for as long as the map is borrowed.
     #[inline(always)]
     pub fn into_mut(self) -> &'a mut V {
         let OccupiedEntry { map, slot, place } = self;
-        let at = map.location(slot, place);
-        map.value_mut_at(at)
+        map.value_mut_in(slot, place)
     }
 
     /// Sets the value of the key in its place, and returns the old value.

@@ -23,30 +23,26 @@ impl<K: IntKey, V, A: Allocator + Copy> IntMap<K, V, A> {
     /// in iteration order, up to the key itself. It never fails.
     #[inline(always)]
     pub fn get_counted(&self, key: K, steps: &mut Steps) -> Option<&V> {
-        let Ok(at) = self.table.locate(key, steps) else {
+        let Some((_, kept)) = self.table.pair_of(key, steps) else {
             return None;
         };
-        Some(self.table.value_at(at).get())
+        Some(kept.get())
     }
 
     /// A mutable reference to the value of the key, or `None` if the key is absent. Only the count
     /// of compared keys changes besides that value. It never fails.
     #[inline]
     pub fn get_mut(&mut self, key: K) -> Option<&mut V> {
-        match self.locate(key) {
-            Ok(at) => Some(self.value_mut_at(at)),
-            Err(_) => None,
-        }
+        self.table.value_mut_of(key, &mut self.compared)
     }
 
     /// The key as the map holds it, with its value, or `None` if the key is absent. It never fails.
     pub fn get_key_value(&self, key: K) -> Option<(&K, &V)> {
         let mut steps = Steps::new();
-        let Ok(at) = self.table.locate(key, &mut steps) else {
+        let Some((found, kept)) = self.table.pair_of(key, &mut steps) else {
             return None;
         };
-        let found = self.table.key_at(at.slot, at.place);
-        Some((found, self.table.value_at(at).get()))
+        Some((found, kept.get()))
     }
 
     /// Whether the key is present. It never fails.

@@ -1,13 +1,22 @@
 //! Insertions.
 
 use crate::memory::prelude::*;
-use crate::proved::map::load::{has_outgrown, threshold_of, wanted_capacity};
+use crate::proved::map::load::{takes_one_more, threshold_of, wanted_capacity};
 use crate::proved::map::map::IntMap;
 use crate::proved::map::refusal::{Cause, Refused};
 use crate::proved::table::IntKey;
 use crate::proved::table::kept::Kept;
 use crate::proved::table::table::locate::Location;
 use crate::memory::alloc::Allocator;
+
+/// Where the pair of a key can be put at once: into its slot, which holds no pair, or into the place
+/// of the first pair of its slot. `Other` is a slot for which neither is so.
+#[derive(Clone, Copy)]
+pub(in crate::proved::map) enum Spot {
+    Vacant(usize),
+    First(usize),
+    Other(usize),
+}
 
 impl<K: IntKey, V, A: Allocator + Copy> IntMap<K, V, A> {
     /// Inserts the pair of the key and the value at the end of its slot, and returns the value that
@@ -27,14 +36,112 @@ impl<K: IntKey, V, A: Allocator + Copy> IntMap<K, V, A> {
     /// changes.
     #[inline(always)]
     pub fn insert(&mut self, key: K, value: V) -> Result<Option<V>, Refused<V>> {
-        let slot = match self.locate(key) {
-            Ok(at) => return Ok(Some(self.replace_at(at, value))),
-            Err(slot) => slot,
+        match self.spot_for(key) {
+            Spot::Vacant(slot) => {
+                self.add_first(slot, key, value);
+                Ok(None)
+            }
+            Spot::First(slot) => Ok(Some(self.replace_first(slot, key, value))),
+            Spot::Other(slot) => super::mending::held(self, |map| map.insert_otherwise(slot, key, value)),
+        }
+    }
+
+    /// Where the pair of a key can be put at once. If the slot of the key holds a pair, the first
+    /// one there is compared.
+    #[inline(always)]
+    pub(in crate::proved::map) fn spot_for(&mut self, key: K) -> Spot {
+        let slot = self.table.slot_of(&key);
+        if self.takes_first(slot) {
+            return Spot::Vacant(slot);
+        }
+        if self.table.first_is(slot, &key, &mut self.compared) {
+            return Spot::First(slot);
+        }
+        Spot::Other(slot)
+    }
+
+    /// Whether a slot holds no pair, and the map needn't grow for one more.
+    #[inline(always)]
+    pub(in crate::proved::map) fn takes_first(&self, slot: usize) -> bool {
+        self.table.is_vacant(slot) && self.takes_one_more()
+    }
+
+    /// Whether the map needn't grow for one more pair.
+    #[inline(always)]
+    fn takes_one_more(&self) -> bool {
+        takes_one_more(self.len, self.threshold)
+    }
+
+    /// Adds the pair of a key to its slot, which holds none. The map needn't grow.
+    #[inline(always)]
+    pub(in crate::proved::map) fn add_first(&mut self, slot: usize, key: K, value: V) {
+        self.table.fill(slot, key, Kept::new(value));
+        self.len += 1;
+    }
+
+    /// Replaces the pair of a key, which is the first one of its slot, and returns the old value.
+    /// The last pair of the slot takes its place, and the pair of the key and this value is put
+    /// last. It allocates nothing.
+    #[inline(always)]
+    pub(in crate::proved::map) fn replace_first(&mut self, slot: usize, key: K, value: V) -> V {
+        self.table
+            .replace_first(slot, key, Kept::new(value))
+            .into_value()
+    }
+
+    /// Inserts the pair of a key and a value as `insert` does, if it can't be put at once. Keys are
+    /// compared from the second pair of the slot on, up to the one sought.
+    #[inline(never)]
+    pub(in crate::proved::map) fn insert_otherwise(
+        &mut self,
+        slot: usize,
+        key: K,
+        value: V,
+    ) -> Result<Option<V>, Refused<V>> {
+        if !self.takes_one_more() {
+            return self.insert_growing(slot, key, value);
+        }
+        match self
+            .table
+            .put(slot, key, Kept::new(value), &mut self.compared)
+        {
+            Ok(Some(old)) => Ok(Some(old.into_value())),
+            Ok(None) => {
+                self.len += 1;
+                Ok(None)
+            }
+            Err(kept) => Err(Refused {
+                value: kept.into_value(),
+                cause: Cause::Memory,
+            }),
+        }
+    }
+
+    /// Inserts the pair of a key and a value as `insert_otherwise` does, if a new key makes the map
+    /// grow.
+    fn insert_growing(&mut self, slot: usize, key: K, value: V) -> Result<Option<V>, Refused<V>> {
+        let value = match self.replace_further(slot, key, value) {
+            Ok(old) => return Ok(Some(old)),
+            Err(value) => value,
         };
-        if let Err(refused) = self.add(slot, key, value) {
+        if let Err(refused) = self.add_growing(slot, key, value) {
             return Err(refused);
         }
         Ok(None)
+    }
+
+    /// Replaces the pair of a key, if it is behind the first one of its slot, and returns the old
+    /// value. If the key is absent, it returns the new value, and only the count of compared keys
+    /// changes.
+    fn replace_further(&mut self, slot: usize, key: K, value: V) -> Result<V, V> {
+        let kept = match self
+            .table
+            .replace_further(slot, key, Kept::new(value), &mut self.compared)
+        {
+            Ok(old) => return Ok(old.into_value()),
+            Err(kept) => kept,
+        };
+        Err(kept.into_value())
     }
 
     /// Inserts the pair if the key is absent, and returns whether it inserted it. If the key is
@@ -54,23 +161,16 @@ impl<K: IntKey, V, A: Allocator + Copy> IntMap<K, V, A> {
     /// Adds the pair of an absent key in its slot, and returns where it is. It compares no key.
     #[inline(always)]
     pub(in crate::proved::map) fn add(&mut self, slot: usize, key: K, value: V) -> Result<Location<K>, Refused<V>> {
-        if self.len == usize::MAX {
-            return Err(Refused {
-                value,
-                cause: Cause::TooLarge,
-            });
-        }
-        let len = self.len + 1;
-        if has_outgrown(len, self.threshold) {
+        if !self.takes_one_more() {
             // taken apart, since the compiler otherwise writes the location byte by byte
-            match self.add_growing(len, slot, key, value) {
+            match self.add_growing(slot, key, value) {
                 Ok(at) => return Ok(at),
                 Err(refused) => return Err(refused),
             }
         }
         match self.table.add(slot, key, Kept::new(value)) {
             Ok(at) => {
-                self.len = len;
+                self.len += 1;
                 Ok(at)
             }
             Err(kept) => Err(Refused {
@@ -80,16 +180,17 @@ impl<K: IntKey, V, A: Allocator + Copy> IntMap<K, V, A> {
         }
     }
 
-    /// Adds the pair of an absent key, if the new length exceeds the load factor, and returns where
-    /// it is. All memory is allocated before a pair moves.
+    /// Adds the pair of an absent key, if the slots don't take one more, and returns where it is.
+    /// All memory is allocated before a pair moves.
     #[inline(never)]
-    fn add_growing(
-        &mut self,
-        len: usize,
-        slot: usize,
-        key: K,
-        value: V,
-    ) -> Result<Location<K>, Refused<V>> {
+    fn add_growing(&mut self, slot: usize, key: K, value: V) -> Result<Location<K>, Refused<V>> {
+        if self.len == usize::MAX {
+            return Err(Refused {
+                value,
+                cause: Cause::TooLarge,
+            });
+        }
+        let len = self.len + 1;
         let Some(capacity) = wanted_capacity(len, self.table.capacity(), self.factor) else {
             return Err(Refused {
                 value,

@@ -3,6 +3,7 @@
 use crate::memory::prelude::*;
 use crate::proved::map::map::IntMap;
 use crate::proved::table::IntKey;
+use crate::proved::table::table::front::Front;
 use crate::memory::alloc::Allocator;
 
 impl<K: IntKey, V, A: Allocator + Copy> IntMap<K, V, A> {
@@ -10,10 +11,11 @@ impl<K: IntKey, V, A: Allocator + Copy> IntMap<K, V, A> {
     /// pair of the slot takes the place of the removed one. It never fails.
     #[inline(always)]
     pub fn remove(&mut self, key: K) -> Option<V> {
-        let Ok(at) = self.locate(key) else {
+        let Some(kept) = self.table.remove(key, &mut self.compared) else {
             return None;
         };
-        Some(self.take_at(at))
+        self.len -= 1;
+        Some(kept.into_value())
     }
 
     /// The same as [`remove`](IntMap::remove), but it returns the key beside its value. It never
@@ -24,8 +26,8 @@ impl<K: IntKey, V, A: Allocator + Copy> IntMap<K, V, A> {
     }
 
     /// Removes the first pair of the walk and returns it, or `None` if there is none. It serves a
-    /// type that holds a map and has an iterator of its own; [`drain`](IntMap::drain) is an
-    /// iterator of such calls.
+    /// type that holds a map and has an iterator of its own; [`drain`](IntMap::drain) is the
+    /// map's own.
     ///
     /// The search begins at the slot number `from`. No slot before it may hold a pair, so begin
     /// with 0. The call sets `from` to the number of the slot that held the pair, so the next call
@@ -33,8 +35,19 @@ impl<K: IntKey, V, A: Allocator + Copy> IntMap<K, V, A> {
     ///
     /// The other pairs of the slot move up by one place. It allocates nothing and never fails. Its
     /// time doesn't depend on how many pairs share the slot.
+    #[inline(always)]
     pub fn take_front(&mut self, from: &mut usize) -> Option<(K, V)> {
         let Some((key, kept)) = self.table.take_front(from) else {
+            return None;
+        };
+        self.len -= 1;
+        Some((key, kept.into_value()))
+    }
+
+    /// Removes the first pair of the walk and returns it. All pairs before the front were taken.
+    #[inline(always)]
+    pub(in crate::proved::map) fn take_next(&mut self, front: &mut Front) -> Option<(K, V)> {
+        let Some((key, kept)) = self.table.take_next(front) else {
             return None;
         };
         self.len -= 1;

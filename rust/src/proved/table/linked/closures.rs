@@ -3,10 +3,10 @@
 use crate::memory::prelude::*;
 use crate::proved::table::kept::Kept;
 use crate::proved::table::key::IntKey;
-use crate::proved::table::linked::chain::seek;
+use crate::proved::table::linked::chain::seek_behind;
 use crate::proved::table::linked::node::{NODE_LIMIT, NOWHERE};
 use crate::proved::table::linked::pool::Pool;
-use crate::proved::table::linked::row;
+use crate::proved::table::linked::row::removal;
 use crate::proved::table::linked::slot::Slot;
 use crate::proved::table::table::closure_calls::keeps_pair;
 use crate::proved::table::table::stored::Stored;
@@ -32,48 +32,43 @@ fn unlink<P, A: Allocator>(
 }
 
 /// Keeps the pairs behind the first one of a slot for which the closure returns true, in their
-/// order, and returns their number.
+/// order.
 #[inline(never)]
 fn retain_behind<K: IntKey, V, A: Allocator, F: FnMut(K, &V) -> bool>(
     slot: &mut Slot<(Stored<K>, Kept<V>)>,
     link: usize,
     pool: &mut Pool<(Stored<K>, Kept<V>), A>,
     f: &mut F,
-) -> usize {
+) {
     let mut before = NOWHERE;
     let mut at = link;
-    let mut kept = 0;
     while let Some((next, pair)) = pool.get(at) {
         if keeps_pair(pair, f) {
             before = at;
-            kept += 1;
         } else {
             unlink(slot, pool, before, at, next);
         }
         at = next;
     }
-    kept
 }
 
-/// Keeps the pairs of a slot for which the closure returns true, in their order, and returns their
-/// number. The closure is called once at each pair, from the front, and a pair is unlinked at once
-/// when it returns false.
+/// Keeps the pairs of a slot for which the closure returns true, in their order. The closure is
+/// called once at each pair, from the front, and a pair is unlinked at once when it returns false.
 #[inline(always)]
 pub(in crate::proved::table) fn retain<K: IntKey, V, A: Allocator, F: FnMut(K, &V) -> bool>(
     slot: &mut Slot<(Stored<K>, Kept<V>)>,
     pool: &mut Pool<(Stored<K>, Kept<V>), A>,
     f: &mut F,
-) -> usize {
+) {
     while let Some((link, first)) = slot.get() {
         if keeps_pair(first, f) {
-            if link >= NODE_LIMIT {
-                return 1;
+            if link < NODE_LIMIT {
+                retain_behind(slot, link, pool, f);
             }
-            return retain_behind(slot, link, pool, f) + 1;
+            return;
         }
-        row::take_front_linked(slot, link, pool);
+        removal::take_front_linked(slot, link, pool);
     }
-    0
 }
 
 /// Calls the closure at each pair of a slot in turn, with a mutable reference to its value.
@@ -93,20 +88,10 @@ pub(in crate::proved::table) fn write_each<K: IntKey, V, A: Allocator, F: FnMut(
     }
 }
 
-/// The node before a place of a chain, and the node at this place. The first of them is none at the
-/// front of the chain, and the second is none behind its last pair.
-#[inline(always)]
-fn seek_behind<P, A: Allocator>(pool: &Pool<P, A>, link: usize, place: usize) -> (usize, usize) {
-    if place == 0 {
-        return (NOWHERE, link);
-    }
-    let before = seek(pool, link, place - 1);
-    (before, pool.link(before))
-}
-
 /// Asks the closure about each pair behind the first one of a slot, from the place on, and removes
 /// the first one that it picks. Those behind it move up, and the place moves on to the first of
 /// them.
+#[inline(never)]
 fn extract_behind<K: IntKey, V, A: Allocator, F: FnMut(K, &mut V) -> bool>(
     slot: &mut Slot<(Stored<K>, Kept<V>)>,
     link: usize,
@@ -128,6 +113,7 @@ fn extract_behind<K: IntKey, V, A: Allocator, F: FnMut(K, &mut V) -> bool>(
 
 /// Asks the closure about each pair of a slot, from the place on, and removes the first one that it
 /// picks. Those behind it move up, and the place moves on to the first of them.
+#[inline(always)]
 pub(in crate::proved::table) fn extract<K: IntKey, V, A: Allocator, F: FnMut(K, &mut V) -> bool>(
     slot: &mut Slot<(Stored<K>, Kept<V>)>,
     pool: &mut Pool<(Stored<K>, Kept<V>), A>,
@@ -141,9 +127,12 @@ pub(in crate::proved::table) fn extract<K: IntKey, V, A: Allocator, F: FnMut(K, 
         return extract_behind(slot, link, pool, place, f);
     }
     if slot.pick(f) {
-        return Some(row::take_front_linked(slot, link, pool));
+        return Some(removal::take_front_linked(slot, link, pool));
     }
     *place = 1;
+    if link >= NODE_LIMIT {
+        return None;
+    }
     extract_behind(slot, link, pool, place, f)
 }
 

@@ -98,6 +98,13 @@ impl<P, A: Allocator> Pool<P, A> {
         Ok(at)
     }
 
+    /// Drops all pairs, and keeps the memory of the nodes.
+    pub(in crate::proved::table) fn clear(&mut self) {
+        self.nodes.truncate(0);
+        self.free = NOWHERE;
+        self.spare = 0;
+    }
+
     /// Makes room for `additional` more pairs. If an allocation fails, nothing changes.
     pub(in crate::proved::table) fn reserve(&mut self, additional: usize) -> Result<(), AllocError> {
         if additional <= self.spare {

@@ -85,6 +85,15 @@ impl<P> Slot<P> {
         }
     }
 
+    /// Removes the first pair and the link, and returns both.
+    #[inline(always)]
+    pub(in crate::proved::table) fn leave(&mut self) -> (usize, P) {
+        match mem::replace(&mut self.form, SlotForm::Empty) {
+            SlotForm::Filled(high, low, pair) => (link_of(high, low), pair),
+            SlotForm::Empty => unreachable!(),
+        }
+    }
+
     /// Removes the first pair, and the link with it.
     #[inline(always)]
     pub(in crate::proved::table) fn take(&mut self) -> P {

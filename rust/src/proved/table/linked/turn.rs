@@ -1,4 +1,5 @@
-//! Chains are turned round once growth has put each pair in front of those that came before it.
+//! Growth turns a chain round before its pairs move: the last one moves first, and each is put
+//! before those that were behind it.
 
 use crate::memory::prelude::*;
 use crate::proved::table::linked::node::{NODE_LIMIT, NOWHERE};

@@ -2,6 +2,7 @@
 //! each value.
 
 use crate::memory::prelude::*;
+use crate::proved::table::bits::BITS;
 use crate::proved::table::kept::Kept;
 use crate::proved::table::key::IntKey;
 use crate::proved::table::table::Table;
@@ -14,14 +15,12 @@ fn retain_slots<K: IntKey, V, A: Allocator, F: FnMut(K, &V) -> bool>(
     slots: &mut Slots<K, Kept<V>, A>,
     f: &mut F,
 ) -> usize {
-    let mut count = 0;
     let mut from = 0;
-    let mut left = slots.marks_from(from);
-    while let Some(index) = slots.next_in(&mut left, from) {
-        count += slots.retain_at(index, f);
-        from = index + 1;
+    while from < slots.len() {
+        slots.retain_word(from, f);
+        from += BITS;
     }
-    count
+    slots.pair_count()
 }
 
 /// Calls the closure at each pair, slot after slot, with a mutable reference to its value.
@@ -71,7 +70,8 @@ fn extract_slots<K: IntKey, V, A: Allocator, F: FnMut(K, &mut V) -> bool>(
     at: &mut Progress,
     f: &mut F,
 ) -> Option<(Stored<K>, Kept<V>)> {
-    while let Some(slot) = slots.next_filled(at.slot) {
+    let mut left = slots.marks_from(at.slot);
+    while let Some(slot) = slots.next_in(&mut left, at.slot) {
         at.slot = slot;
         let before = at.place;
         let found = slots.extract_at(slot, &mut at.place, f);
@@ -89,6 +89,7 @@ impl<K: IntKey, V, A: Allocator> Table<K, Kept<V>, A> {
     /// Asks the closure about each pair that is left, in the order of the walk, and removes the
     /// first one that it picks. The closure may write each value. The pairs that stay keep their
     /// order.
+    #[inline]
     pub fn extract_next<F: FnMut(K, &mut V) -> bool>(
         &mut self,
         at: &mut Progress,

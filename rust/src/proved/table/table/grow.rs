@@ -22,13 +22,13 @@ impl<K: IntKey, X, A: Allocator + Copy> Table<K, X, A> {
     ) -> Result<Location<K>, X> {
         let target = index_of(&key, capacity);
         let pair = (Stored::new(key), value);
-        if let Err((_, value)) = self
+        let pushed = self
             .slots
-            .grow_and_push(capacity, slot, target, pair, placed)
-        {
-            return Err(value);
-        }
-        let place = self.slots.last_place(target);
+            .grow_and_push(capacity, slot, target, pair, placed);
+        let place = match pushed {
+            Ok(place) => place,
+            Err((_, value)) => return Err(value),
+        };
         Ok(Location {
             key,
             slot: target,

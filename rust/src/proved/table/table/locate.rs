@@ -1,4 +1,4 @@
-//! Where the pair of a key is, and calls on a located pair, which compare no key.
+//! Searches for the pair of a key, and calls on a pair whose place is known, which compare no key.
 
 use crate::memory::prelude::*;
 use crate::proved::table::kept::Kept;
@@ -29,21 +29,33 @@ impl<K: IntKey, X, A: Allocator> Table<K, X, A> {
         Ok(Location { key, slot, place })
     }
 
+    /// The pair of the key, or `None` if the key is absent. The keys are compared as by
+    /// [`locate`](Table::locate).
+    #[inline(always)]
+    pub fn pair_of(&self, key: K, steps: &mut Steps) -> Option<(&K, &X)> {
+        let slot = self.index_of(&key);
+        let Some(pair) = self.slots.pair_of(slot, &key, steps) else {
+            return None;
+        };
+        Some((pair.0.key(), &pair.1))
+    }
+
     /// The key of the pair at a place of a slot.
     #[inline(always)]
     pub fn key_at(&self, slot: usize, place: usize) -> &K {
         self.slots.key_at(slot, place).key()
     }
 
-    /// The value of a located pair.
+    /// The value of the pair at a place of a slot.
     #[inline(always)]
-    pub fn value_at(&self, at: Location<K>) -> &X {
-        self.slots.value_at(at.slot, at.place)
+    pub fn value_in(&self, slot: usize, place: usize) -> &X {
+        self.slots.value_at(slot, place)
     }
 
-    /// A mutable reference to the value of a located pair.
-    pub fn value_mut_at(&mut self, at: Location<K>) -> &mut X {
-        self.slots.value_mut_at(at.slot, at.place)
+    /// A mutable reference to the value of the pair at a place of a slot.
+    #[inline(always)]
+    pub fn value_mut_in(&mut self, slot: usize, place: usize) -> &mut X {
+        self.slots.value_mut_at(slot, place)
     }
 
     /// Removes a located pair, and returns its value. The last pair of its slot moves into its
@@ -54,18 +66,25 @@ impl<K: IntKey, X, A: Allocator> Table<K, X, A> {
         value
     }
 
-    /// Removes a located pair, moves the last pair of its slot into its place, and puts the pair of
-    /// its key and this value at the end of the slot. It returns the old value, and allocates
-    /// nothing.
+    /// Removes the pair of the key and returns its value, or `None` if the key is absent. The last
+    /// pair of its slot moves into its place. The keys of the slot are compared from the front, up
+    /// to the one sought. Each comparison is one step.
     #[inline(always)]
-    pub fn replace_at(&mut self, at: Location<K>, value: X) -> X {
-        let pair = (Stored::new(at.key), value);
-        let (_, old) = self.slots.replace_at(at.slot, at.place, pair);
-        old
+    pub fn remove(&mut self, key: K, steps: &mut Steps) -> Option<X> {
+        let slot = self.index_of(&key);
+        self.slots.remove(slot, key, steps)
     }
 }
 
 impl<K: IntKey, V, A: Allocator> Table<K, Kept<V>, A> {
+    /// A mutable reference to the value of the key, or `None` if the key is absent. The keys are
+    /// compared as by [`locate`](Table::locate).
+    #[inline(always)]
+    pub fn value_mut_of(&mut self, key: K, steps: &mut Steps) -> Option<&mut V> {
+        let slot = self.index_of(&key);
+        self.slots.value_mut_of(slot, &key, steps)
+    }
+
     /// Removes a located pair, as `take_at` does, hands its value to the closure, and returns what
     /// the closure made of the value. If the closure returns an error, the pair of the key and the
     /// value in this error is put at the end of the slot, and the call returns `None`. It allocates

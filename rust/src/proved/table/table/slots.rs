@@ -3,13 +3,14 @@
 //! hold a pair is known here alone.
 //!
 //! `pairs` has the calls on a pair of one slot, `closures` those with a closure, `writing` that
-//! which lends a value and that which drops all pairs, `walk` has the pairs by reference, and
-//! `clone` copies the slots. Of growth, `grow` goes over the old slots, and `refill` puts pairs
-//! into the new ones.
+//! which lends a value and that which drops all pairs, `walk` has the pairs by reference, `owned`
+//! those by value, and `clone` copies the slots. Of growth, `grow` adds slots and goes over the old
+//! ones, and `refill` puts each pair into its slot.
 
 mod clone;
 mod closures;
 mod grow;
+pub(in crate::proved::table) mod owned;
 mod pairs;
 mod refill;
 pub mod walk;
@@ -54,6 +55,11 @@ impl<K: IntKey, X, A: Allocator> Slots<K, X, A> {
         self.bits.count()
     }
 
+    /// The number of pairs of all slots: those that are first in their slots, and those in nodes.
+    pub(in crate::proved::table) fn pair_count(&self) -> usize {
+        self.bits.count() + self.pool.held()
+    }
+
     /// The number of pairs of a slot.
     pub(in crate::proved::table) fn row_len(&self, index: usize) -> usize {
         row::len(&self.slots[index], &self.pool)
@@ -66,9 +72,16 @@ impl<K: IntKey, X, A: Allocator> Slots<K, X, A> {
         row::find(&self.slots[index], &self.pool, key, steps)
     }
 
-    /// The place of the last pair of a slot.
-    pub(in crate::proved::table) fn last_place(&self, index: usize) -> usize {
-        row::len(&self.slots[index], &self.pool) - 1
+    /// The key's pair in a slot. The keys are compared from the front, up to the one sought. Each
+    /// comparison is one step.
+    #[inline(always)]
+    pub(in crate::proved::table) fn pair_of(
+        &self,
+        index: usize,
+        key: &K,
+        steps: &mut Steps,
+    ) -> Option<&(Stored<K>, X)> {
+        row::pair_of(&self.slots[index], &self.pool, key, steps)
     }
 
     /// The stored key of the pair at a place of a slot.
@@ -106,6 +119,12 @@ impl<K: IntKey, X, A: Allocator> Slots<K, X, A> {
         self.next_in(&mut left, from)
     }
 
+    /// Whether a slot holds a pair.
+    #[inline(always)]
+    pub(in crate::proved::table) fn holds_pair(&self, index: usize) -> bool {
+        !self.slots[index].is_empty()
+    }
+
     /// The pairs, slot after slot.
     #[inline(always)]
     pub(in crate::proved::table) fn pairs(&self) -> Pairs<'_, K, X, A> {
@@ -118,7 +137,8 @@ impl<K: IntKey, X, A: Allocator> Slots<K, X, A> {
     }
 }
 
-/// Adds `count` slots without a pair, for which there is room.
+/// Adds slots without a pair, so that there are `count`. There is room for them.
+#[inline(never)]
 fn add_empty<P, A: Allocator>(slots: &mut Vec<Slot<P>, A>, count: usize) {
     let make = || -> Slot<P> { Slot::empty() };
     if slots.resize_with(count, make).is_err() {

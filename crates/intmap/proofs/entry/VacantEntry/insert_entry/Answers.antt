@@ -4,7 +4,7 @@ use Rattle.intmap_table.specs.Locations.{key_at}
 use Rattle.intmap_table.specs.Walk.{slot_of}
 use Rattle.intmap.specs.Map.{MapState, with_pair}
 use Rattle.intmap_table.proofs.WrittenLemmas.{the_key-same}
-use Rattle.intmap.proofs.EntryLemmas.{next_capacity-inserted}
+use Rattle.intmap.proofs.EntryLemmas.{next_capacity-inserted, key_at-located_in, IsFound-located_in}
 use Rattle.intmap_table.proofs.Tables.FoundLemmas.{IsFound-located, key_at-located}
 use Rattle.intmap.proofs.RefusalLemmas.{NeedsNoMemory-never_refused}
 use Rattle.intmap.proofs.entry.VacantEntry.insert_entry.Goals as goal
@@ -25,30 +25,24 @@ returns-in-Err g c =
       },
     )
 
--- the key at the place is the key that was put in
-here : (g : _) (c : In-Ok g) → key_at (slot_of g.K.IntKey.number_of c.add.new.self.walk c.add.new.self.capacity c.in-Ok.at.slot) c.in-Ok.at.place ≡ Some c.args.self.key
-here g c =
-    key_at-located g.K.IntKey.number_of g.K.IntKey.is_valid g.met.K.IntKey.number_injective c.add.new.self.walk c.add.new.self.capacity c.in-Ok.at c.add.ensures.valid_after.keys
-    (subst g.K.IntKey.is_valid (sym c.in-Ok.ensures.key) c.in-Ok.ensures.known) c.in-Ok.ensures.at ∙ ap (λ q. Some q) c.in-Ok.ensures.key
-
 pub invariant_of-result : goal.invariant_of-result
-invariant_of-result g c = record {
-  found = IsFound-located g.K.IntKey.number_of c.add.new.self.walk c.add.new.self.capacity c.in-Ok.at c.args.self.key c.in-Ok.ensures.key c.in-Ok.ensures.at
-      (here g (goal.at.invariant_of-result g c).In-Ok);
-}
+invariant_of-result g c =
+    let told = c.in-Ok.ensures in
+    record { found = IsFound-located_in g.K.IntKey.number_of g.K.IntKey.is_valid g.met.K.IntKey.number_injective c.add.new.self c.args.self.key c.in-Ok.at c.add.ensures.valid_after told.known told.key told.at }
 
 pub returns : goal.returns
 returns g c =
     let number = g.K.IntKey.number_of in
     let m : MapState g.row.K.Denot g.row.V.Denot = c.args.self.map.now in
     let k = c.args.self.key in
+    let told = c.in-Ok.ensures in
     let same = next_capacity-inserted number g.K.IntKey.is_valid m c.add.new.self k c.args.value c.args.self.missing c.add.ensures.valid c.in-Ok.ensures.inserted in (
       (refl, (λ w. refl), tt),
       record {
         written = record {
           same_reference = refl;
           map = c.in-Ok.ensures.state ∙ ap (with_pair number m k c.args.value) same;
-          key = the_key-same _ (Some k) _ refl (here g (goal.at.returns g c).In-Ok);
+          key = the_key-same _ (Some k) _ refl (key_at-located_in number g.K.IntKey.is_valid g.met.K.IntKey.number_injective c.add.new.self k c.in-Ok.at c.add.ensures.valid_after told.known told.key told.at);
         };
         absent = c.args.self.missing;
         inserted = c.in-Ok.ensures.inserted;

@@ -4,7 +4,7 @@ use mathlib.Core.Path.{fun_ext}
 use Rattle.intmap_table.specs.Bindings.{value_of}
 use Rattle.intmap.specs.Entries.{Vacant, entry_list}
 use Rattle.intmap.specs.Map.{MapState, written}
-use Rattle.intmap.proofs.EntryLemmas.{written-added, IsInsertion-lent}
+use Rattle.intmap.proofs.EntryLemmas.{written-added, IsInsertion-lent, IsFound-located_in, written-located_in, value_of-located_in}
 use Rattle.intmap.proofs.RefusalLemmas.{NeedsNoMemory-never_refused}
 use Rattle.intmap.proofs.entry.VacantEntry.insert_made.Goals as goal
 
@@ -26,15 +26,20 @@ returns-in-Err-add g c =
       },
     )
 
+pub value_mut_in-requires : goal.value_mut_in-requires
+value_mut_in-requires g c =
+    let told = c.in-Ok-add.ensures in
+    IsFound-located_in g.K.IntKey.number_of g.K.IntKey.is_valid g.met.K.IntKey.number_injective c.add.new.self c.args.self.key c.in-Ok-add.at c.add.ensures.valid_after told.known told.key told.at
+
 pub returns : goal.returns
 returns g c =
     let number = g.K.IntKey.number_of in let valid = g.K.IntKey.is_valid in let n : MapState g.row.K.Denot g.row.V.Denot = c.add.new.self in
     let m : MapState g.row.K.Denot g.row.V.Denot = c.args.self.map.now in let k = c.args.self.key in let told = c.in-Ok-add.ensures in
     let after = written-added number valid m n k c.in-Ok.value c.args.self.missing c.add.ensures.valid told.inserted told.state in (
-      ap (λ f. inl (c.value_mut_at.result.ghost_name, f)) (fun_ext (λ v. ap (λ q. written number n q v) told.key ∙ after v)),
+      ap (λ f. inl (c.value_mut_in.result.ghost_name, f)) (fun_ext (λ v. written-located_in number valid g.met.K.IntKey.number_injective n k c.in-Ok-add.at c.add.ensures.valid_after told.known told.key told.at v ∙ after v)),
       record {
         writes_back = tt;
-        value = c.in-Ok.is ∙ ap Ok (let found : value_of number n.walk k ≡ Some c.value_mut_at.result.now = ap (value_of number n.walk) (sym told.key) ∙ c.value_mut_at.ensures.value in let is = told.inserted.updates.1 in cc);
+        value = c.in-Ok.is ∙ ap Ok (let found = value_of-located_in number valid g.met.K.IntKey.number_injective n k c.in-Ok-add.at c.add.ensures.valid_after told.known told.key told.at c.value_mut_in.result.now c.value_mut_in.ensures.value in let is = told.inserted.updates.1 in cc);
         inserted = IsInsertion-lent number valid m n k c.in-Ok.value c.args.self.missing c.add.ensures.valid told.inserted told.state;
         err = tt;
         succeeds = λ free. tt;

@@ -1,36 +1,27 @@
-use Rattle.std.proofs.Common.{refl, sym, ap, ◌∙◌}
-use mathlib.Core.Logic.{inl, inr}
-use mathlib.Core.Path.{fun_ext}
-use Rattle.intmap_table.specs.Bindings.{value_of}
-use Rattle.intmap.proofs.WriteLemmas.{Updates-bound, length-write_value, IsMapWalk-written}
+use borrow.Follows.Closed.{read_of}
+use Rattle.std.proofs.Common.{◌≡◌, ap, ◌∙◌}
+use Rattle.std.specs.Option.{ghost_name_of}
+use Rattle.intmap.specs.Map.{MapState, after_search, written}
+use Rattle.intmap.proofs.WriteLemmas.{Updates-bound, length-write_value, IsMapWalk-written, IsConsistent-written}
 use Rattle.intmap.proofs.map.IntMap.get_mut.Goals as goal
 
-pub returns-in-Ok : goal.returns-in-Ok
-returns-in-Ok g c =
-    let number = g.K.IntKey.number_of in
-    let key = c.in-Ok.ensures.found.0 in
-    let state = c.locate.ensures.state in (
-      ap (λ f. inl (c.value_mut_at.result.ghost_name, f)) (fun_ext (λ v. rw (key, state) refl)),
-      record {
-        writes_back = tt;
-        value = sym (sym (ap (value_of number c.args.self.now.walk) key) ∙ sym (ap (λ m. value_of number m.walk c.in-Ok.at.key) state) ∙ c.value_mut_at.ensures.value);
-        updates = λ bound v. Updates-bound number c.args.self.now.walk c.args.key v bound;
-        len = λ v. length-write_value number c.args.self.now.walk c.args.key v;
-        valid = c.locate.ensures.valid;
-        valid_after = λ v. IsMapWalk-written number g.K.IntKey.is_valid c.args.self.now.walk _ _ c.args.key v c.locate.ensures.valid;
-      },
-    )
+pub invariant_of-self-lent : goal.invariant_of-self-lent
+invariant_of-self-lent g c _ = (λ w. IsConsistent-written g.K.IntKey.number_of g.K.IntKey.is_valid _ _ _ _ _ c.args.key _ c.self.invariant, c.self.invariant)
 
-pub returns-in-Err : goal.returns-in-Err
-returns-in-Err g c =
-    let number = g.K.IntKey.number_of in (
-      ap (λ m. inr m) c.locate.ensures.state,
+pub returns : goal.returns
+returns g c =
+    let number = g.K.IntKey.number_of in
+    let m = c.self.inside in
+    let now : MapState g.row.K.Denot g.row.V.Denot = record { walk = m.table.walk; capacity = m.table.capacity; factor = m.factor; placed = m.placed; compared = m.compared } in
+    let state : record now { compared = c.value_mut_of.new.steps } ≡ after_search number now c.args.key = ap (λ n. record now { compared = n }) c.value_mut_of.ensures.counted in
+    rw (← c.self.view_is) (
+      λ t. read_of (ghost_name_of c.value_mut_of.result) (λ (w : g.row.V.Denot). written number (state t) c.args.key w) (state t),
       record {
         writes_back = tt;
-        value = sym c.in-Err.ensures.missing;
-        updates = λ bound v. Updates-bound number c.args.self.now.walk c.args.key v bound;
-        len = λ v. length-write_value number c.args.self.now.walk c.args.key v;
-        valid = c.locate.ensures.valid;
-        valid_after = λ v. IsMapWalk-written number g.K.IntKey.is_valid c.args.self.now.walk _ _ c.args.key v c.locate.ensures.valid;
+        value = c.value_mut_of.ensures.value;
+        updates = λ bound v. Updates-bound number m.table.walk c.args.key v bound;
+        len = λ v. length-write_value number m.table.walk c.args.key v;
+        valid = c.self.invariant.map;
+        valid_after = λ v. IsMapWalk-written number g.K.IntKey.is_valid m.table.walk _ _ c.args.key v c.self.invariant.map;
       },
     )

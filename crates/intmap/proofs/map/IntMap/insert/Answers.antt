@@ -1,54 +1,62 @@
-use Rattle.std.proofs.Common.{◌≡◌, ◌∙◌, Some, refl, sym, ap}
+use Rattle.std.proofs.Common.{◌≡◌, ◌∙◌, OnOk, Some, sym, ap, subst}
+use Rattle.std.proofs.lemmas.Result.{IfErr-weaker}
 use Rattle.intmap_table.specs.Bindings.{value_of}
-use Rattle.intmap.specs.Map.{MapState, after_insert}
-use Rattle.intmap.specs.PlainLists.{list_of}
-use Rattle.intmap.proofs.InsertionLemmas.{IsInsertion-replaced, IsInsertion-searched}
-use Rattle.intmap.proofs.RefusalLemmas.{RefusalIsDue-searched, NeedsNoMemory-never_refused}
+use Rattle.intmap.specs.Map.{MapState, after_insert, after_search, with_pair}
+use Rattle.intmap.specs.Spots.{after_rest}
+use Rattle.intmap.proofs.InsertionLemmas.{IsInsertion-replaced}
+use Rattle.intmap.proofs.SpotLemmas.{after_first-vacant, after_first-first, after_rest-first, RefusalIsDue-counted, TakesFirst-free}
 use Rattle.intmap.proofs.map.IntMap.insert.Goals as goal
+use Rattle.intmap.proofs.map.IntMap.insert.Goals.{In-First, In-Other}
 
--- the key is present, and its pair is replaced
-pub returns-in-Ok : goal.returns-in-Ok
-returns-in-Ok g c =
-    let number = g.K.IntKey.number_of in
-    let found = c.in-Ok.ensures in let told = c.replace_at.ensures in
-    let bound : value_of number c.args.self.now.walk c.args.key ≡ Some c.replace_at.result = rw (found.state, found.found.0) at told.value in
-    let replaced : c.replace_at.new.self ≡ after_insert number c.args.self.now c.args.key c.args.value c.args.self.now.capacity = rw (found.state, found.found.0) at told.state in
-    let capacity = ap (λ (m : MapState g.row.K.Denot g.row.V.Denot). m.capacity) replaced in
-    let state = replaced ∙ ap (after_insert number c.args.self.now c.args.key c.args.value) (sym capacity) in
-    record {
-      old = sym bound;
-      inserted = IsInsertion-replaced number g.K.IntKey.is_valid c.args.self.now c.replace_at.new.self c.args.key c.args.value c.replace_at.result
-          bound found.valid told.valid_after (ap (λ m. m.walk) state) capacity;
-      state = state;
-      err = tt;
-      value_returned = tt;
-      refused = tt;
-      succeeds = λ free. refl;
-      valid = found.valid;
-      valid_after = told.valid_after;
-    }
+-- the slot is empty, and the pair was put there
+pub returns-in-Vacant-clause-state : goal.returns-in-Vacant-clause-state
+returns-in-Vacant-clause-state g c =
+    let told = c.in-Vacant.ensures in
+    let searched = told.state ∙ after_first-vacant g.K.IntKey.number_of c.args.self.now c.in-Vacant.slot c.args.key told.valid.capacity told.slot told.spot.empty in
+    rw searched at c.add_first.ensures.state
 
--- it is absent, and its insertion failed
-pub returns-in-Err-add : goal.returns-in-Err-add
-returns-in-Err-add g c =
-    let told = c.in-Err-add.ensures in let found = c.in-Err.ensures in
-    let due = RefusalIsDue-searched g.K.IntKey.number_of c.args.self.now c.args.key c.args.key c.in-Err-add.refused.cause (rw found.state at told.refused) in
-    record {
-      old = tt;
-      inserted = tt;
-      state = tt;
-      err = told.err ∙ found.state;
-      value_returned = told.value_returned;
-      refused = due;
-      succeeds = λ free. absurd (NeedsNoMemory-never_refused g.K.IntKey.number_of (list_of c.args.self.now) c.args.key found.valid.capacity free c.in-Err-add.refused.cause due);
-      valid = found.valid;
-      valid_after = c.add.ensures.valid_after;
-    }
+-- the first pair has the key, and is replaced
+module _ (g : _) (c : In-First g) where
+  searched : c.spot_for.new.self ≡ after_search g.K.IntKey.number_of c.args.self.now c.args.key
+  searched = let told = c.in-First.ensures in told.state ∙ after_first-first g.K.IntKey.number_of c.args.self.now c.in-First.slot c.args.key told.valid.capacity told.slot told.spot
 
--- or did not
-pub returns-clause-inserted : goal.returns-clause-inserted
-returns-clause-inserted g c =
-    IsInsertion-searched g.K.IntKey.number_of g.K.IntKey.is_valid c.args.self.now c.add.new.self c.args.key c.args.key c.args.value (rw c.in-Err.ensures.state at c.in_default.ensures.inserted)
+pub returns-in-First-clause-state : goal.returns-in-First-clause-state
+returns-in-First-clause-state g c =
+    let m = c.args.self.now in
+    let replaced : c.replace_first.new.self ≡ after_insert g.K.IntKey.number_of m c.args.key c.args.value m.capacity = rw (searched g (goal.at.returns-in-First-clause-state g c).In-First) at c.replace_first.ensures.state in
+    replaced ∙ ap (after_insert g.K.IntKey.number_of m c.args.key c.args.value) (sym (ap (λ (n : MapState g.row.K.Denot g.row.V.Denot). n.capacity) replaced))
 
-pub returns-clause-state : goal.returns-clause-state
-returns-clause-state g c = rw c.in-Err.ensures.state at c.in_default.ensures.state
+pub returns-in-First-clause-inserted : goal.returns-in-First-clause-inserted
+returns-in-First-clause-inserted g c =
+    let m = c.args.self.now in let told = c.replace_first.ensures in let is = searched g (goal.at.returns-in-First-clause-inserted g c).In-First in
+    let bound : value_of g.K.IntKey.number_of m.walk c.args.key ≡ Some c.replace_first.result = rw is at told.value in
+    let replaced : c.replace_first.new.self ≡ after_insert g.K.IntKey.number_of m c.args.key c.args.value m.capacity = rw is at told.state in
+    let same = ap (λ (n : MapState g.row.K.Denot g.row.V.Denot). n.capacity) replaced in
+    let walk = ap (λ (n : MapState g.row.K.Denot g.row.V.Denot). n.walk) replaced in
+    IsInsertion-replaced g.K.IntKey.number_of g.K.IntKey.is_valid m c.replace_first.new.self c.args.key c.args.value c.replace_first.result bound c.in-First.ensures.valid told.valid_after (rw same walk) same
+
+-- the rest of the slot is searched
+module _ (g : _) (c : In-Other g) where
+  searched_all : after_rest g.K.IntKey.number_of c.spot_for.new.self c.in-Other.slot c.args.key ≡ after_search g.K.IntKey.number_of c.args.self.now c.args.key
+  searched_all =
+      let told = c.in-Other.ensures in
+      ap (λ (m : MapState g.row.K.Denot g.row.V.Denot). after_rest g.K.IntKey.number_of m c.in-Other.slot c.args.key) told.state
+      ∙ after_rest-first g.K.IntKey.number_of c.args.self.now c.in-Other.slot c.args.key told.valid.capacity told.slot told.spot.1
+
+pub returns-in-Other-clause-state : goal.returns-in-Other-clause-state
+returns-in-Other-clause-state g c =
+    let n = c.insert_otherwise.new.self in
+    subst (λ (m : MapState g.row.K.Denot g.row.V.Denot). OnOk c.insert_otherwise.result (n ≡ with_pair g.K.IntKey.number_of m c.args.key c.args.value n.capacity))
+    (searched_all g (goal.at.returns-in-Other-clause-state g c).In-Other) c.insert_otherwise.ensures.state
+
+pub returns-in-Other-clause-err : goal.returns-in-Other-clause-err
+returns-in-Other-clause-err g c = rw (searched_all g (goal.at.returns-in-Other-clause-err g c).In-Other) at c.insert_otherwise.ensures.err
+
+pub returns-in-Other-clause-refused : goal.returns-in-Other-clause-refused
+returns-in-Other-clause-refused g c =
+    IfErr-weaker c.insert_otherwise.result _ _ (λ refused due. RefusalIsDue-counted g.K.IntKey.number_of c.args.self.now _ c.args.key refused.cause due) (rw c.in-Other.ensures.state at c.insert_otherwise.ensures.refused)
+
+pub returns-in-Other-clause-succeeds : goal.returns-in-Other-clause-succeeds
+returns-in-Other-clause-succeeds g c =
+    let told = c.in-Other.ensures in let m = c.args.self.now in
+    λ free. absurd (told.spot.0 (TakesFirst-free g.K.IntKey.number_of m.walk m.capacity m.factor c.in-Other.slot c.args.key told.valid.capacity told.slot free))

@@ -1,14 +1,11 @@
-use Rattle.std.proofs.Common.{◌%◌, ◌<◌, ap, arith, List, Bool, false, length, w64}
+use Rattle.std.proofs.Common.{◌%◌, ◌<◌, arith, false, w64}
 use Rattle.std.proofs.lemmas.Bool.{ne_eqb}
 use Rattle.std.proofs.lemmas.Nat.Bits.{bit_at_clear_same, bit_at_clear_other}
-use Rattle.intmap_table.proofs.Tables.BitsLemmas.{length-marks_of, marks_of-set}
+use Rattle.intmap_table.proofs.Tables.BitsLemmas.{below-marks_of, marks_of-set}
 use Rattle.intmap_table.proofs.bits.Bits.clear_in.Goals as goal
 
 pub index_mut-requires : goal.index_mut-requires
-index_mut-requires g c =
-    let l = length-marks_of c.self.inside.words.items in
-    let m = ap (λ (marks : List Bool). length marks) c.self.view_is in
-    omega (arith, c.requires.within, l, m, c.self.inside.words.ok.0)
+index_mut-requires g c = omega (arith, below-marks_of _ _ c.args.index c.self.view_is c.requires.within, c.self.inside.words.ok.0)
 
 pub returns : goal.returns
 returns g c =

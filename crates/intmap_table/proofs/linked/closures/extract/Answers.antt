@@ -1,4 +1,4 @@
-use Rattle.std.proofs.Common.{◌≡◌, ◌∷◌, [], Some, None, refl, sym, ap, ◌∙◌, subst, drop, arith}
+use Rattle.std.proofs.Common.{◌≡◌, ◌∷◌, length, [], Some, None, refl, sym, ap, ◌∙◌, subst, drop, arith}
 use Rattle.intmap_table.specs.Picking.{AsksAt, ExtractsBehind, PicksAt}
 use Rattle.intmap_table.specs.Taking.{TakesEach}
 use Rattle.intmap_table.specs.Writes.{TakesPairMut}
@@ -6,22 +6,13 @@ use Rattle.intmap_table.specs.Tables.Nodes.{Filled, IsChain, IsChainSet, IsSlot,
 use Rattle.intmap_table.proofs.TakingLemmas.{TakesEach-first, TakesEach-next}
 use Rattle.intmap_table.proofs.ExtractLemmas.{ExtractsBehind-end}
 use Rattle.intmap_table.proofs.Nodes.PathLemmas.{Chain-beyond}
-use Rattle.intmap_table.proofs.Nodes.SlotLemmas.{Slot-first, slot_is}
+use Rattle.intmap_table.proofs.Nodes.SlotLemmas.{Slot-first}
 use Rattle.intmap_table.proofs.Nodes.PickedLemmas.{first_goes, first_stays}
 use Rattle.intmap_table.proofs.linked.closures.extract.Goals as goal
 use Rattle.intmap_table.proofs.linked.closures.extract.Goals.{Else-place-gt0, After-pick}
 
 pub returns-then-place-gt0-clause-step : goal.returns-then-place-gt0-clause-step
-returns-then-place-gt0-clause-step g c =
-    let pool = c.args.pool.now in
-    let run = c.extract_behind.ensures.step in
-    let row = ap (row_in pool.nodes) run.1 in (
-      run.0 ∷ run.4,
-      slot_is pool (Filled c.in-Some.link run.0) (Filled run.2 run.0) (run.0 ∷ run.4) (run.0 ∷ run.4) c.extract_behind.new.pool c.args.slot.now c.extract_behind.new.slot
-          (Slot-first pool c.in-Some.link run.0 run.0 run.4 c.extract_behind.new.pool run.2 run.5) run.1 refl run.3,
-      subst (λ L. ExtractsBehind (PicksAt g.F.FnMut) c.args.f.now L c.args.place.now c.extract_behind.result c.extract_behind.new.f (run.0 ∷ run.4) c.extract_behind.new.place) (sym row) run.6,
-      (let within = run.7 in omega (arith, within)),
-    )
+returns-then-place-gt0-clause-step g c = let run = c.extract_behind.ensures.step in (run.0, rw c.in-Some.ensures.some (run.1 c.in-Some.field-0-1.now), run.2, run.3)
 
 -- the place is that of the first pair
 module _ (g : _) (c : Else-place-gt0 g) where
@@ -74,7 +65,7 @@ returns-then-pick-clause-step g c =
     let same : c.take_front_linked.result ≡ c.pick.ensures.2 = cc in
     let front = front g first in (
       chain,
-      slot_is pool (Filled c.in-Some.link p) c.take_front_linked.new.slot chain chain c.take_front_linked.new.pool c.args.slot.now c.take_front_linked.new.slot (c.take_front_linked.ensures.row p) c.in-Some.ensures.some refl refl,
+      rw c.in-Some.ensures.some (c.take_front_linked.ensures.row p),
       subst (λ L. ExtractsBehind (PicksAt g.F.FnMut) c.args.f.now L c.args.place.now (Some c.take_front_linked.result) c.pick.new.f chain c.args.place.now) (sym (row g first))
           (first_goes (PicksAt g.F.FnMut) (TakesPairMut g.F.FnMut) c.args.f.now c.pick.new.f p c.pick.ensures.2 chain c.take_front_linked.result c.args.place.now front (rw c.if-pick.true at (call g at)) same),
       omega (arith, front),
@@ -83,31 +74,30 @@ returns-then-pick-clause-step g c =
 pub extract_behind-requires-2-clause-filled : goal.extract_behind-requires-2-clause-filled
 extract_behind-requires-2-clause-filled g c = (c.pick.ensures.2, slot g (goal.at.extract_behind-requires-2-clause-filled g c).After-pick)
 
+pub extract_behind-requires-2-clause-within : goal.extract_behind-requires-2-clause-within
+extract_behind-requires-2-clause-within g c = let row = ap (λ s. length (row_in c.args.pool.now.nodes s)) (slot g (goal.at.extract_behind-requires-2-clause-within g c).After-pick) in omega (arith, row)
+
 pub extract_behind-requires-2-clause-callable : goal.extract_behind-requires-2-clause-callable
 extract_behind-requires-2-clause-callable g c =
     let at = (goal.at.extract_behind-requires-2-clause-callable g c).After-pick in
     let first = (goal.at.extract_behind-requires-2-clause-callable g c).Else-place-gt0 in
-    TakesEach-next (AsksAt g.F.FnMut) (TakesPairMut g.F.FnMut) c.args.f.now c.pick.new.f c.in-Some.field-0-1.now (c.pick.result, c.pick.ensures.2) (chain_of c.args.pool.now.nodes c.in-Some.link)
-    (callable g first) (call g at)
+    rw (slot g at)
+    (TakesEach-next (AsksAt g.F.FnMut) (TakesPairMut g.F.FnMut) c.args.f.now c.pick.new.f c.in-Some.field-0-1.now (c.pick.result, c.pick.ensures.2) (chain_of c.args.pool.now.nodes c.in-Some.link)
+    (callable g first) (call g at))
 
 pub returns-clause-step : goal.returns-clause-step
 returns-clause-step g c =
     let at = (goal.at.returns-clause-step g c).After-pick in
     let first = (goal.at.returns-clause-step g c).Else-place-gt0 in
-    let pool = c.args.pool.now in
-    let p = c.in-Some.field-0-1.now in
-    let chain = chain_of pool.nodes c.in-Some.link in
     let run = c.extract_behind-2.ensures.step in
-    let two : Filled c.in-Some.link c.pick.ensures.2 ≡ Filled c.in-Some.link run.0 = sym (slot g at) ∙ run.1 in
-    let same : c.pick.ensures.2 ≡ run.0 = cc in
-    let asked = subst (λ q. PicksAt g.F.FnMut c.args.f.now p c.pick.result c.pick.new.f q) same (call g at) in (
-      run.0 ∷ run.4,
-      slot_is pool (Filled c.in-Some.link p) (Filled run.2 run.0) (run.0 ∷ run.4) (run.0 ∷ run.4) c.extract_behind-2.new.pool c.args.slot.now c.extract_behind-2.new.slot
-          (Slot-first pool c.in-Some.link p run.0 run.4 c.extract_behind-2.new.pool run.2 run.5) c.in-Some.ensures.some refl run.3,
-      subst (λ L. ExtractsBehind (PicksAt g.F.FnMut) c.args.f.now L c.args.place.now c.extract_behind-2.result c.extract_behind-2.new.f (run.0 ∷ run.4) c.extract_behind-2.new.place) (sym (row g first))
-          (first_stays (PicksAt g.F.FnMut) (TakesPairMut g.F.FnMut) c.args.f.now c.pick.new.f c.extract_behind-2.new.f p run.0 chain c.extract_behind-2.result (run.0 ∷ run.4) c.extract_behind-2.new.place c.args.place.now
-          (front g first) (rw c.if-pick.false at asked) run.6),
-      (let within = run.7 in omega (arith, within)),
+    let pool = c.args.pool.now in let p = c.in-Some.field-0-1.now in let chain = chain_of pool.nodes c.in-Some.link in
+    let rest = subst (λ s. ExtractsBehind (PicksAt g.F.FnMut) c.pick.new.f (row_in pool.nodes s) 1 c.extract_behind-2.result c.extract_behind-2.new.f run.0 c.extract_behind-2.new.place) (slot g at) run.2 in (
+      run.0,
+      rw c.in-Some.ensures.some (run.1 p),
+      subst (λ L. ExtractsBehind (PicksAt g.F.FnMut) c.args.f.now L c.args.place.now c.extract_behind-2.result c.extract_behind-2.new.f run.0 c.extract_behind-2.new.place) (sym (row g first))
+          (first_stays (PicksAt g.F.FnMut) (TakesPairMut g.F.FnMut) c.args.f.now c.pick.new.f c.extract_behind-2.new.f p c.pick.ensures.2 chain c.extract_behind-2.result run.0 c.extract_behind-2.new.place c.args.place.now
+          (front g first) (rw c.if-pick.false at (call g at)) rest),
+      run.3,
     )
 
 pub returns-then-link-ge-NODE_LIMIT-clause-step : goal.returns-then-link-ge-NODE_LIMIT-clause-step
@@ -123,7 +113,7 @@ returns-then-link-ge-NODE_LIMIT-clause-step g c =
     let alone : chain ≡ [] = Chain-beyond pool.nodes link leads (omega (arith, c.if-link-ge-NODE_LIMIT.true)) in
     let same : IsChainSet pool link chain pool link = record { is = leads; pairs = refl; spares = λ t misses k n x passes held. held; held = refl } in (
       q ∷ chain,
-      slot_is pool (Filled link p) (Filled link q) (q ∷ chain) (q ∷ chain) pool c.args.slot.now c.pick.new.self (Slot-first pool link p q chain pool link same) c.in-Some.ensures.some refl (slot g at),
+      rw (c.in-Some.ensures.some, slot g at) (Slot-first pool link p q chain pool link same),
       subst (λ L. ExtractsBehind (PicksAt g.F.FnMut) c.args.f.now L c.args.place.now None c.pick.new.f (q ∷ chain) 1) (sym (row g first))
           (first_stays (PicksAt g.F.FnMut) (TakesPairMut g.F.FnMut) c.args.f.now c.pick.new.f c.pick.new.f p q chain None (q ∷ chain) 1 c.args.place.now
           (front g first) (rw c.if-pick.false at (call g at)) (ExtractsBehind-end (PicksAt g.F.FnMut) c.pick.new.f (q ∷ chain) 1 alone)),

@@ -1,11 +1,10 @@
-use Rattle.std.proofs.Common.{◌≡◌, true, [], ◌∷◌, ◌++◌, length, sym, ap, ◌∙◌, subst, refl, arith}
+use Rattle.std.proofs.Common.{◌≡◌, true, [], ◌∷◌, ◌++◌, sym, ap, ◌∙◌, subst, refl, arith}
 use Rattle.intmap_table.specs.Retaining.{KeepsAt, TakesPair, Retains}
 use Rattle.intmap_table.specs.Taking.{TakesEach}
-use Rattle.intmap_table.specs.Tables.Nodes.{Filled, chain_of, row_in, IsSlot}
+use Rattle.intmap_table.specs.Tables.Nodes.{Filled, chain_of, row_in, IsSlot, IsSlotSet}
 use Rattle.intmap_table.proofs.LeadsLemmas.{Leads}
 use Rattle.intmap_table.proofs.TakingLemmas.{TakesEach-first, TakesEach-next}
-use Rattle.intmap_table.proofs.Nodes.PathLemmas.{chain-limit, Chain-beyond}
-use Rattle.intmap_table.proofs.Nodes.SlotLemmas.{Slot-first, slot_is}
+use Rattle.intmap_table.proofs.Nodes.PathLemmas.{Chain-beyond}
 use Rattle.intmap_table.proofs.Nodes.RetainedLemmas.{smaller_rest, Slot-same, Slot-then, gone_more, Leads-goes_first}
 use Rattle.intmap_table.proofs.linked.closures.retain.Goals as goal
 use Rattle.intmap_table.proofs.linked.closures.retain.Goals.{In-Some}
@@ -37,51 +36,36 @@ retain_behind-requires-clause-callable g c =
     let at = (goal.at.retain_behind-requires-clause-callable g c).In-Some in
     TakesEach-next (KeepsAt g.F.FnMut) (TakesPair g.F.FnMut) c.loop-link.f c.keeps_pair.new.f c.in-Some.first.now c.keeps_pair.result (chain_of c.loop-link.pool.nodes c.in-Some.link) (callable g at) c.keeps_pair.ensures
 
-pub returns-then-link-ge-NODE_LIMIT-clause-row : goal.returns-then-link-ge-NODE_LIMIT-clause-row
-returns-then-link-ge-NODE_LIMIT-clause-row g c =
-    let at = (goal.at.returns-then-link-ge-NODE_LIMIT-clause-row g c).In-Some in
+pub returns-else-link-lt-NODE_LIMIT-clause-row : goal.returns-else-link-lt-NODE_LIMIT-clause-row
+returns-else-link-lt-NODE_LIMIT-clause-row g c =
+    let at = (goal.at.returns-else-link-lt-NODE_LIMIT-clause-row g c).In-Some in
     let loop = c.loop-link.invariant in
     let pool = c.loop-link.pool in
     let first = c.in-Some.first.now in
     let chain = subst (IsSlot pool.nodes) c.in-Some.ensures.some loop.row.is in
-    let alone : row_in pool.nodes c.loop-link.slot ≡ first ∷ [] = left g at ∙ ap (λ ps. first ∷ ps) (Chain-beyond pool.nodes c.in-Some.link chain (omega (arith, c.if-link-ge-NODE_LIMIT.true))) in
+    let alone : row_in pool.nodes c.loop-link.slot ≡ first ∷ [] = left g at ∙ ap (λ ps. first ∷ ps) (Chain-beyond pool.nodes c.in-Some.link chain (omega (arith, c.if-link-lt-NODE_LIMIT.false))) in
     let call = rw c.if-keeps_pair.true at c.keeps_pair.ensures in (
       row_in pool.nodes c.loop-link.slot,
       loop.row,
       subst (λ L. Retains (KeepsAt g.F.FnMut) c.args.f.now (row_in c.args.pool.now.nodes c.args.slot.now) L c.keeps_pair.new.f) (sym alone)
           (loop.leads (first ∷ []) c.keeps_pair.new.f
           (subst (λ L. Retains (KeepsAt g.F.FnMut) c.loop-link.f L (first ∷ []) c.keeps_pair.new.f) (sym alone) (true, c.keeps_pair.new.f, [], call, (refl, refl), refl))),
-      sym (ap length alone),
     )
 
-pub overflow_add-result : goal.overflow_add-result
-overflow_add-result g c =
-    let run = c.retain_behind.ensures.row in
-    let limit = chain-limit c.retain_behind.new.pool.nodes run.2 run.5.is in
-    let len = ap length run.5.pairs in
-    let count = run.7 in
-    omega (arith, limit, len, count)
-
-pub returns-then-keeps_pair-clause-row : goal.returns-then-keeps_pair-clause-row
-returns-then-keeps_pair-clause-row g c =
-    let at = (goal.at.returns-then-keeps_pair-clause-row g c).In-Some in
+pub returns-then-link-lt-NODE_LIMIT-clause-row : goal.returns-then-link-lt-NODE_LIMIT-clause-row
+returns-then-link-lt-NODE_LIMIT-clause-row g c =
+    let at = (goal.at.returns-then-link-lt-NODE_LIMIT-clause-row g c).In-Some in
     let run = c.retain_behind.ensures.row in
     let loop = c.loop-link.invariant in
     let pool = c.loop-link.pool in
     let first = c.in-Some.first.now in
-    let link = c.in-Some.link in
-    let both : Filled link run.0 ≡ Filled link first = sym run.1 ∙ c.in-Some.ensures.some in
+    let both : Filled c.in-Some.link run.0 ≡ Filled c.in-Some.link first = sym run.1 ∙ c.in-Some.ensures.some in
     let same : run.0 ≡ first = cc in
-    let now = run.3 ∙ ap (λ p. Filled run.2 p) same in
-    let set = slot_is pool (Filled link first) (Filled run.2 first) (first ∷ run.4) (first ∷ run.4) c.retain_behind.new.pool c.loop-link.slot c.retain_behind.new.slot
-    (Slot-first pool link first first run.4 c.retain_behind.new.pool run.2 run.5) c.in-Some.ensures.some refl now in
-    let call = rw c.if-keeps_pair.true at c.keeps_pair.ensures in
-    let count = run.7 in (
-      first ∷ run.4,
-      Slot-then c.args.pool.now c.args.slot.now loop.gone.0 (row_in pool.nodes c.loop-link.slot) (first ∷ run.4) pool c.loop-link.slot c.retain_behind.new.pool c.retain_behind.new.slot loop.gone.1 loop.row set,
-      loop.leads (first ∷ run.4) c.retain_behind.new.f
-          (subst (λ L. Retains (KeepsAt g.F.FnMut) c.loop-link.f L (first ∷ run.4) c.retain_behind.new.f) (sym (left g at)) (true, c.keeps_pair.new.f, run.4, call, run.6, refl)),
-      omega (arith, count),
+    let call = rw c.if-keeps_pair.true at c.keeps_pair.ensures in (
+      first ∷ run.2,
+      Slot-then c.args.pool.now c.args.slot.now loop.gone.0 (row_in pool.nodes c.loop-link.slot) (first ∷ run.2) pool c.loop-link.slot c.retain_behind.new.pool c.retain_behind.new.slot loop.gone.1 loop.row (rw same at run.3),
+      loop.leads (first ∷ run.2) c.retain_behind.new.f
+          (subst (λ L. Retains (KeepsAt g.F.FnMut) c.loop-link.f L (first ∷ run.2) c.retain_behind.new.f) (sym (left g at)) (true, c.keeps_pair.new.f, run.2, call, run.4, refl)),
     )
 
 pub loop-link-smaller : goal.loop-link-smaller
@@ -100,7 +84,7 @@ loop-link-preserved g c =
     let all = row_in c.args.pool.now.nodes c.args.slot.now in
     let out = c.take_front_linked.ensures.row first in
     let now = out.pairs in
-    let set = slot_is pool (Filled c.in-Some.link first) c.take_front_linked.new.slot chain (row_in c.take_front_linked.new.pool.nodes c.take_front_linked.new.slot) c.take_front_linked.new.pool c.loop-link.slot c.take_front_linked.new.slot out c.in-Some.ensures.some now refl in
+    let set : IsSlotSet pool c.loop-link.slot (row_in c.take_front_linked.new.pool.nodes c.take_front_linked.new.slot) c.take_front_linked.new.pool c.take_front_linked.new.slot = rw (c.in-Some.ensures.some, now) out in
     let call = rw c.if-keeps_pair.false at c.keeps_pair.ensures in
     let total = loop.total in
     let more = c.take_front_linked.ensures.total in

@@ -1,10 +1,11 @@
-use Rattle.std.proofs.Common.{◌≡◌, ◌∷◌, refl, sym, ap, ◌∙◌, subst}
+use Rattle.std.proofs.Common.{◌≡◌, ◌<◌, [], ◌∷◌, length, refl, sym, ap, ◌∙◌, subst}
 use Rattle.intmap_table.specs.Taking.{TakesEach}
 use Rattle.intmap_table.specs.Writes.{TakesPairMut, Writes, WritesAt}
-use Rattle.intmap_table.specs.Tables.Nodes.{Filled, chain_of, row_in}
+use Rattle.intmap_table.specs.Tables.Nodes.{Filled, Held, nowhere, chain_of, row_in}
 use Rattle.intmap_table.proofs.TakingLemmas.{TakesEach-first, TakesEach-next}
-use Rattle.intmap_table.proofs.Nodes.SlotLemmas.{Slot-first, slot_is}
-use Rattle.intmap_table.proofs.Nodes.PairsWrittenLemmas.{Written-start, Written-asks, Written-on, Written-end}
+use Rattle.intmap_table.proofs.WritesLemmas.{Writes-append}
+use Rattle.intmap_table.proofs.Nodes.AlongLemmas.{Along-start, Along-asks, Along-changed, Along-end}
+use Rattle.intmap_table.proofs.Nodes.WalkedLemmas.{Walked-start}
 use Rattle.intmap_table.proofs.linked.closures.write_each.Goals as goal
 use Rattle.intmap_table.proofs.linked.closures.write_each.Goals.{In-Some, After-write}
 
@@ -45,55 +46,54 @@ module _ (g : _) (c : After-write g) where
 pub loop-next-init : goal.loop-next-init
 loop-next-init g c =
     let at = (goal.at.loop-next-init g c).After-write in
-    let in_some = (goal.at.loop-next-init g c).In-Some in
+    let first : g.row.K.Denot × g.row.V.Denot = (c.in-Some.field-0-1.now.0, c.write.ensures.2) in
     record {
       walked = (
-        (c.in-Some.field-0-1.now.0, c.write.ensures.2),
-        slot g at,
-        Written-start (WritesAt g.F.FnMut) (TakesPairMut g.F.FnMut) c.args.pool.now c.in-Some.link (c.in-Some.field-0-1.now.0, c.write.ensures.2) c.write.new.f c.write.new.self (slot g at)
-            (rw c.in-Some.ensures.some at c.requires.leads)
-            (TakesEach-next (WritesAt g.F.FnMut) (TakesPairMut g.F.FnMut) c.args.f.now c.write.new.f c.in-Some.field-0-1.now c.write.ensures.2 (chain_of c.args.pool.now.nodes c.in-Some.link) (callable g in_some) (call g at)),
+        first,
+        nowhere,
+        Along-start (WritesAt g.F.FnMut) (TakesPairMut g.F.FnMut) (Writes (WritesAt g.F.FnMut)) c.args.pool.now c.in-Some.link first c.write.new.f _ _ c.write.new.self nowhere c.in-Some.link
+            (Walked-start c.args.pool.now c.in-Some.link first c.write.new.self (slot g at) (rw c.in-Some.ensures.some at c.requires.leads))
+            (TakesEach-next (WritesAt g.F.FnMut) (TakesPairMut g.F.FnMut) c.args.f.now c.write.new.f c.in-Some.field-0-1.now c.write.ensures.2 (chain_of c.args.pool.now.nodes c.in-Some.link) (callable g (goal.at.loop-next-init g c).In-Some) (call g at)) (refl, refl),
       );
       total = refl;
     }
 
 pub write-requires-in-Some-get : goal.write-requires-in-Some-get
-write-requires-in-Some-get g c =
-    let w = c.loop-next.invariant.walked in (
-      c.in-Some-get.next,
-      c.in-Some-get.field-0-1.now,
-      c.in-Some-get.ensures.some,
-      Written-asks (WritesAt g.F.FnMut) (TakesPairMut g.F.FnMut) c.args.pool.now c.in-Some.link w.0 c.write.new.f c.loop-next.f c.loop-next.pool c.write.new.self c.loop-next.at
-          c.in-Some-get.next c.in-Some-get.field-0-1.now w.2 c.in-Some-get.ensures.some,
-    )
+write-requires-in-Some-get g c = (
+  c.in-Some-get.next,
+  c.in-Some-get.field-0-1.now,
+  c.in-Some-get.ensures.some,
+  Along-asks (WritesAt g.F.FnMut) (TakesPairMut g.F.FnMut) (Writes (WritesAt g.F.FnMut)) _ _ _ _ _ _ _ _ _ _ _ c.loop-next.invariant.walked.2 c.in-Some-get.next c.in-Some-get.field-0-1.now c.in-Some-get.ensures.some,
+)
 
 pub loop-next-smaller : goal.loop-next-smaller
 loop-next-smaller g c =
-    let w = c.loop-next.invariant.walked in
     let asked = c.write-in-Some-get.ensures in
-    (Written-on (WritesAt g.F.FnMut) (TakesPairMut g.F.FnMut) c.args.pool.now c.in-Some.link w.0 c.write.new.f c.loop-next.f c.loop-next.pool c.write.new.self c.loop-next.at
-    c.in-Some-get.next c.in-Some-get.field-0-1.now asked.0 asked.1 asked.2 c.write-in-Some-get.new.f c.write-in-Some-get.new.self w.2 c.in-Some-get.ensures.some asked.3 asked.4 asked.5).1
+    let on = Along-changed (WritesAt g.F.FnMut) (TakesPairMut g.F.FnMut) (Writes (WritesAt g.F.FnMut)) _ _ _ _ _ _ _ _ _ _ _ c.loop-next.invariant.walked.2 asked.0 asked.1 asked.3
+    (Writes-append (WritesAt g.F.FnMut)) asked.2 c.write-in-Some-get.new.f asked.5 (asked.1.0, asked.2) (asked.2, c.write-in-Some-get.new.f, [], asked.5, (refl, refl), refl) c.write-in-Some-get.new.self asked.4 in
+    let both : Held asked.0 asked.1 ≡ Held c.in-Some-get.next c.in-Some-get.field-0-1.now = sym asked.3 ∙ c.in-Some-get.ensures.some in
+    let link : asked.0 ≡ c.in-Some-get.next = cc in
+    subst (λ n. length (chain_of c.write-in-Some-get.new.self.nodes n) < length (chain_of c.loop-next.pool.nodes c.loop-next.at)) link on.1
 
 pub loop-next-preserved : goal.loop-next-preserved
 loop-next-preserved g c =
-    let w = c.loop-next.invariant.walked in
     let asked = c.write-in-Some-get.ensures in
-    let on = Written-on (WritesAt g.F.FnMut) (TakesPairMut g.F.FnMut) c.args.pool.now c.in-Some.link w.0 c.write.new.f c.loop-next.f c.loop-next.pool c.write.new.self c.loop-next.at
-    c.in-Some-get.next c.in-Some-get.field-0-1.now asked.0 asked.1 asked.2 c.write-in-Some-get.new.f c.write-in-Some-get.new.self w.2 c.in-Some-get.ensures.some asked.3 asked.4 asked.5 in
-    record { walked = (w.0, w.1, on.0); total = asked.4.total ∙ c.loop-next.invariant.total }
+    let on = Along-changed (WritesAt g.F.FnMut) (TakesPairMut g.F.FnMut) (Writes (WritesAt g.F.FnMut)) _ _ _ _ _ _ _ _ _ _ _ c.loop-next.invariant.walked.2 asked.0 asked.1 asked.3
+    (Writes-append (WritesAt g.F.FnMut)) asked.2 c.write-in-Some-get.new.f asked.5 (asked.1.0, asked.2) (asked.2, c.write-in-Some-get.new.f, [], asked.5, (refl, refl), refl) c.write-in-Some-get.new.self asked.4 in
+    let both : Held asked.0 asked.1 ≡ Held c.in-Some-get.next c.in-Some-get.field-0-1.now = sym asked.3 ∙ c.in-Some-get.ensures.some in
+    let link : asked.0 ≡ c.in-Some-get.next = cc in
+    rw (← link) (record { walked = (c.loop-next.invariant.walked.0, c.loop-next.at, on.0); total = asked.4.total ∙ c.loop-next.invariant.total })
 
 pub returns-clause-row : goal.returns-clause-row
 returns-clause-row g c =
     let at = (goal.at.returns-clause-row g c).After-write in
-    let in_some = (goal.at.returns-clause-row g c).In-Some in
     let w = c.loop-next.invariant.walked in
-    let end = Written-end (WritesAt g.F.FnMut) (TakesPairMut g.F.FnMut) c.args.pool.now c.in-Some.link w.0 c.write.new.f c.loop-next.f c.loop-next.pool c.write.new.self c.loop-next.at w.2 c.in_default-get.ensures.none w.1 in
-    let pool = c.args.pool.now in
     let old = c.in-Some.field-0-1.now in
-    let value = c.write.ensures.2 in
-    let set = slot_is pool (Filled c.in-Some.link old) (Filled c.in-Some.link (old.0, value)) ((old.0, value) ∷ end.0) ((old.0, value) ∷ end.0) c.loop-next.pool c.args.slot.now c.write.new.self
-    (Slot-first pool c.in-Some.link old (old.0, value) end.0 c.loop-next.pool c.in-Some.link end.1) c.in-Some.ensures.some refl (slot g at) in (
-      (old.0, value) ∷ end.0,
-      set,
-      subst (λ L. Writes (WritesAt g.F.FnMut) c.args.f.now L ((old.0, value) ∷ end.0) c.loop-next.f) (sym (row g in_some)) (value, c.write.new.f, end.0, call g at, end.2, refl),
+    let end = Along-end (WritesAt g.F.FnMut) (TakesPairMut g.F.FnMut) (Writes (WritesAt g.F.FnMut)) _ _ _ _ _ _ _ _ _ _ _ w.2 c.in_default-get.ensures.none c.args.slot.now old c.in-Some.ensures.some in
+    let both : Filled w.2.walked.link w.0 ≡ Filled c.in-Some.link (old.0, c.write.ensures.2) = sym w.2.walked.slot ∙ slot g at in
+    let first : w.0 ≡ (old.0, c.write.ensures.2) = cc in (
+      w.0 ∷ w.2.done,
+      end.0,
+      subst (λ L. Writes (WritesAt g.F.FnMut) c.args.f.now L (w.0 ∷ w.2.done) c.loop-next.f) (sym (row g (goal.at.returns-clause-row g c).In-Some))
+          (c.write.ensures.2, c.write.new.f, w.2.done, call g at, end.1, ap (λ p. p ∷ w.2.done) first),
     )

@@ -5,41 +5,34 @@ use Rattle.intmap_table.specs.Tables.Rows.{HasMoved}
 use Rattle.intmap_table.specs.Walk.{walk_of}
 use Rattle.intmap_table.proofs.LocationLemmas.{put_pair-new}
 use Rattle.intmap_table.proofs.Tables.GrownLemmas.{IsGrown-from}
-use Rattle.intmap_table.proofs.Tables.LocationLemmas.{IsAt-new, some-new}
+use Rattle.intmap_table.proofs.Tables.LocationLemmas.{IsAt-new}
 use Rattle.intmap_table.proofs.Tables.MovedLemmas.{joined-moved, IsTable-moved}
 use Rattle.intmap_table.proofs.table.Table.grow_and_add.Goals as goal
-use Rattle.intmap_table.proofs.table.Table.grow_and_add.Goals.{In_default}
+use Rattle.intmap_table.proofs.table.Table.grow_and_add.Goals.{In-Ok}
 
-module _ (g : _) (c : In_default g) where
-  moved : HasMoved g.K.IntKey.number_of (joined c.self.inside.slots.rows ++ (c.args.key, c.args.value) ∷ []) c.args.capacity c.grow_and_push.new.self.rows
-  moved = record { capacity = c.requires.capacity; len = c.in_default.ensures.len; rows = rw c.new.ensures.value at c.in_default.ensures.rows }
+module _ (g : _) (c : In-Ok g) where
+  moved : HasMoved g.K.IntKey.number_of (joined c.self.inside.slots.rows ++ (c.args.key, c.args.value) ∷ []) c.args.capacity c.grow_and_push-pushed.new.self.rows
+  moved = record { capacity = c.requires.capacity; len = c.in-Ok.ensures.len; rows = rw c.new.ensures.value at c.in-Ok.ensures.rows }
 
   missing : value_of g.K.IntKey.number_of (joined c.self.inside.slots.rows) c.args.key ≡ None
   missing = rw (← c.self.view_is) at c.requires.missing
 
   -- the pairs are those of the table, as it is seen, with the new one
-  walk : joined c.grow_and_push.new.self.rows ≡ walk_of g.K.IntKey.number_of (put_pair g.K.IntKey.number_of c.args.self.now.walk c.args.self.now.capacity c.args.key c.args.value) c.args.capacity
+  walk : joined c.grow_and_push-pushed.new.self.rows ≡ walk_of g.K.IntKey.number_of (put_pair g.K.IntKey.number_of c.args.self.now.walk c.args.self.now.capacity c.args.key c.args.value) c.args.capacity
   walk =
       joined-moved g.K.IntKey.number_of _ _ _ moved
       ∙ ap (λ L. walk_of g.K.IntKey.number_of L c.args.capacity)
       (ap (λ (t : Grid _ _). t.walk ++ (c.args.key, c.args.value) ∷ []) c.self.view_is
       ∙ sym (put_pair-new g.K.IntKey.number_of c.args.self.now.walk c.args.self.now.capacity c.args.key c.args.value c.requires.missing))
 
-pub grow_and_push-requires-clause-grown : goal.grow_and_push-requires-clause-grown
-grow_and_push-requires-clause-grown g c = IsGrown-from _ _ c.self.invariant.capacity c.requires.capacity (rw (← c.self.view_is) at c.requires.larger)
-
-pub last_place-place-requires : goal.last_place-place-requires
-last_place-place-requires g c =
-    let at = (goal.at.last_place-place-requires g c).In_default in
-    some-new _ _ _ _ _ _ (moved g at) _ c.index_of-target.ensures.slot
+pub grow_and_push-pushed-requires-clause-grown : goal.grow_and_push-pushed-requires-clause-grown
+grow_and_push-pushed-requires-clause-grown g c = IsGrown-from _ _ c.self.invariant.capacity c.requires.capacity (rw (← c.self.view_is) at c.requires.larger)
 
 pub invariant_of-self-2 : goal.invariant_of-self-2
-invariant_of-self-2 g c = IsTable-moved g.K.IntKey.number_of _ _ _ (moved g (goal.at.invariant_of-self-2 g c).In_default)
+invariant_of-self-2 g c = IsTable-moved g.K.IntKey.number_of _ _ _ (moved g c)
 
 pub returns-clause-walk : goal.returns-clause-walk
-returns-clause-walk g c = walk g (goal.at.returns-clause-walk g c).In_default
+returns-clause-walk g c = walk g c
 
 pub returns-clause-at : goal.returns-clause-at
-returns-clause-at g c =
-    let at = (goal.at.returns-clause-at g c).In_default in
-    IsAt-new _ _ _ _ _ _ (moved g at) _ c.index_of-target.ensures.slot (missing g at) _ c.last_place-place.ensures
+returns-clause-at g c = IsAt-new _ _ _ _ _ _ (moved g c) _ c.index_of-target.ensures.slot (missing g c) _ c.in-Ok.ensures.place

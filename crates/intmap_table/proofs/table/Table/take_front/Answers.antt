@@ -33,7 +33,7 @@ pub returns-clause-first : goal.returns-clause-first
 returns-clause-first g c =
     let done = c.take_front-key.ensures.row in
     rw (← c.self.view_is, c.key.ensures.value, done.2)
-    (joined-front _ _ c.self.invariant _ _ c.in_ok-index.ensures.some (passed g (goal.at.returns-clause-first g c).In_ok-index) (c.take_front-key.result ∷ []) done.0 done.1)
+    (joined-front _ _ _ c.in_ok-index.ensures.some (passed g (goal.at.returns-clause-first g c).In_ok-index) (c.take_front-key.result ∷ []) done.0 done.1)
 
 pub returns-clause-capacity : goal.returns-clause-capacity
 returns-clause-capacity g c = rw (← c.self.view_is) (ap length c.take_front-key.ensures.row.2 ∙ length-set _ _ _)

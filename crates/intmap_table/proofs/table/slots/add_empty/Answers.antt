@@ -18,8 +18,8 @@ added old new {f = f} n ran more len z same =
     let count : length ran.0 ≡ n - length old = omega (arith, sum, len, more) in
     all ∙ ap (λ xs. old ++ xs) (all_same f ran.0 ran.1 ran.3 z same ∙ ap (λ m. replicate m z) count)
 
-pub returns : goal.returns
-returns g c =
+pub returns-clause-items : goal.returns-clause-items
+returns-clause-items g c =
     let accepted = sym c.is_err.ensures.value ∙ c.if-is_err.false in
     let ran = OnOk-at c.resize_with.result _ accepted c.resize_with.ensures.items in
     let len = OnOk-at c.resize_with.result _ accepted c.resize_with.ensures.len in

@@ -3,6 +3,7 @@
 use crate::memory::prelude::*;
 use crate::proved::map::map::IntMap;
 use crate::proved::table::IntKey;
+use crate::proved::table::table::front::Front;
 use crate::memory::alloc::{Allocator, Global};
 
 /// Removes one pair of a map at each step and returns it, made by
@@ -12,14 +13,15 @@ use crate::memory::alloc::{Allocator, Global};
 /// many are left.
 pub struct Drain<'a, K, V, A: Allocator + Copy = Global> {
     pub(in crate::proved::map) map: &'a mut IntMap<K, V, A>,
-    pub(in crate::proved::map) from: usize,
+    pub(in crate::proved::map) front: Front,
 }
 
 impl<'a, K: IntKey, V, A: Allocator + Copy> Iterator for Drain<'a, K, V, A> {
     type Item = (K, V);
 
+    #[inline]
     fn next(&mut self) -> Option<(K, V)> {
-        self.map.take_front(&mut self.from)
+        self.map.take_next(&mut self.front)
     }
 }
 
@@ -34,6 +36,7 @@ impl<K: IntKey, V, A: Allocator + Copy> IntMap<K, V, A> {
     /// slot.
     pub fn drain(&mut self) -> Drain<'_, K, V, A> {
         self.known();
-        Drain { map: self, from: 0 }
+        let front = self.table.front();
+        Drain { map: self, front }
     }
 }

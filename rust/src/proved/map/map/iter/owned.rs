@@ -16,6 +16,7 @@ pub struct IntoIter<K, V, A: Allocator + Copy = Global> {
 impl<K: IntKey, V, A: Allocator + Copy> Iterator for IntoIter<K, V, A> {
     type Item = (K, V);
 
+    #[inline]
     fn next(&mut self) -> Option<(K, V)> {
         let (key, kept) = self.pairs.next()?;
         Some((key, kept.into_value()))
@@ -31,6 +32,7 @@ pub struct IntoKeys<K, V, A: Allocator + Copy = Global> {
 impl<K: IntKey, V, A: Allocator + Copy> Iterator for IntoKeys<K, V, A> {
     type Item = K;
 
+    #[inline]
     fn next(&mut self) -> Option<K> {
         let (key, _) = self.pairs.next()?;
         Some(key)
@@ -46,6 +48,7 @@ pub struct IntoValues<K, V, A: Allocator + Copy = Global> {
 impl<K: IntKey, V, A: Allocator + Copy> Iterator for IntoValues<K, V, A> {
     type Item = V;
 
+    #[inline]
     fn next(&mut self) -> Option<V> {
         let (_, value) = self.pairs.next()?;
         Some(value)

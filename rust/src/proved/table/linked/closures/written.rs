@@ -5,7 +5,7 @@ use crate::proved::table::IntKey;
 use crate::proved::table::kept::Kept;
 use crate::proved::table::linked::node::NOWHERE;
 use crate::proved::table::linked::pool::Pool;
-use crate::proved::table::linked::row;
+use crate::proved::table::linked::row::removal::take_front_linked;
 use crate::proved::table::linked::slot::Slot;
 use crate::proved::table::table::stored::Stored;
 
@@ -21,7 +21,7 @@ pub(in crate::proved::table) fn retain_mut<K: IntKey, V, A: Allocator, F: FnMut(
         if slot.pick(f) {
             return retain_behind(slot, link, pool, f) + 1;
         }
-        row::take_front_linked(slot, link, pool);
+        take_front_linked(slot, link, pool);
     }
     0
 }

@@ -1,11 +1,12 @@
 //! Slots are cloned: the same keys in the same slots, with clones of their values.
 
 use crate::memory::prelude::*;
+use crate::proved::table::bits::{BITS, Bits};
 use crate::proved::table::key::IntKey;
 use crate::proved::table::linked::node::{NODE_LIMIT, NOWHERE};
 use crate::proved::table::linked::pool::Pool;
 use crate::proved::table::linked::slot::Slot;
-use crate::proved::table::table::slots::Slots;
+use crate::proved::table::table::slots::{Slots, add_empty};
 use crate::proved::table::table::stored::Stored;
 use crate::memory::alloc::{AllocError, Allocator};
 
@@ -25,6 +26,7 @@ fn link_behind(link: usize, held: usize) -> usize {
 
 /// Puts clones of the pairs that a link leads through, of which there is at least one, into new
 /// nodes of `made`, in their order, and returns the link to them.
+#[inline(never)]
 fn clone_chain<K: IntKey, X: Clone, A: Allocator>(
     pool: &Pool<(Stored<K>, X), A>,
     from: usize,
@@ -62,6 +64,34 @@ fn clone_slot<K: IntKey, X: Clone, A: Allocator>(
     Ok(Slot::filled(link, copy))
 }
 
+/// Adds slots without a pair, 64 of them unless that is too many, if none has this index yet. There
+/// may be `count` slots, for which there is room.
+#[inline(always)]
+fn add_up_to<P, A: Allocator>(slots: &mut Vec<Slot<P>, A>, index: usize, count: usize) {
+    if index >= slots.len() {
+        add_empty(slots, count.min(index + BITS));
+    }
+}
+
+/// Adds clones of all slots, for which there is room. The bits mark those that hold a pair.
+fn clone_rows<K: IntKey, X: Clone, A: Allocator>(
+    bits: &Bits<A>,
+    slots: &[Slot<(Stored<K>, X)>],
+    pool: &Pool<(Stored<K>, X), A>,
+    made: &mut Vec<Slot<(Stored<K>, X)>, A>,
+    nodes: &mut Pool<(Stored<K>, X), A>,
+) -> Result<(), AllocError> {
+    let mut from = 0;
+    let mut left = bits.marks_from(0);
+    while let Some(index) = bits.next_in(&mut left, from) {
+        add_up_to(made, index, slots.len());
+        made[index] = clone_slot(&slots[index], pool, nodes)?;
+        from = index + 1;
+    }
+    add_empty(made, slots.len());
+    Ok(())
+}
+
 impl<K: IntKey, X: Clone, A: Allocator + Copy> Slots<K, X, A> {
     /// The same keys in the same slots, with clones of their values. The slots, their bits and the
     /// nodes are allocated before the first value is cloned. The values are cloned slot after slot,
@@ -71,9 +101,7 @@ impl<K: IntKey, X: Clone, A: Allocator + Copy> Slots<K, X, A> {
         let mut slots = Vec::with_capacity(alloc, self.slots.len())?;
         let bits = self.bits.clone()?;
         let mut pool = Pool::with_room(alloc, self.pool.held())?;
-        for slot in &self.slots {
-            slots.push_reserved(clone_slot(slot, &self.pool, &mut pool)?);
-        }
+        clone_rows(&self.bits, &self.slots, &self.pool, &mut slots, &mut pool)?;
         Ok(Slots {
             mask: self.mask,
             bits,

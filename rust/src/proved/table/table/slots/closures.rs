@@ -4,26 +4,54 @@ use crate::memory::prelude::*;
 use crate::proved::table::kept::Kept;
 use crate::proved::table::key::IntKey;
 use crate::proved::table::linked::closures;
+use crate::proved::table::linked::pool::Pool;
+use crate::proved::table::linked::slot::Slot;
 use crate::proved::table::table::slots::Slots;
 use crate::proved::table::table::slots::pairs::unmark_if;
 use crate::proved::table::table::stored::Stored;
 use crate::memory::alloc::Allocator;
 
+/// Keeps the pairs for which the closure returns true, in their order, slot after slot. `word` has
+/// the bits of the 64 slots from an index on, and the closure is called at the pairs of these slots
+/// alone. Returns the word without the bits of the slots that the calls emptied.
+#[inline(always)]
+fn retain_marked<K: IntKey, V, A: Allocator, F: FnMut(K, &V) -> bool>(
+    slots: &mut Vec<Slot<(Stored<K>, Kept<V>)>, A>,
+    pool: &mut Pool<(Stored<K>, Kept<V>), A>,
+    from: usize,
+    word: u64,
+    f: &mut F,
+) -> u64 {
+    let mut kept = word;
+    let mut left = word;
+    while left != 0 {
+        let slot = &mut slots[from + left.trailing_zeros() as usize];
+        closures::retain(slot, pool, f);
+        let rest = left & (left - 1);
+        if slot.is_empty() {
+            kept &= !(left ^ rest);
+        }
+        left = rest;
+    }
+    kept
+}
+
 impl<K: IntKey, V, A: Allocator> Slots<K, Kept<V>, A> {
-    /// Keeps the pairs of a slot for which the closure returns true, in their order, and returns
-    /// their number. The closure is called once at each pair of the slot.
+    /// Keeps the pairs of the 64 slots from an index on for which the closure returns true, in
+    /// their order. The closure is called once at each pair. The word of these slots is written
+    /// behind the last call, so their bits lag until then.
     #[inline(always)]
-    pub(in crate::proved::table) fn retain_at<F: FnMut(K, &V) -> bool>(&mut self, index: usize, f: &mut F) -> usize {
-        let slot = &mut self.slots[index];
-        let count = closures::retain(slot, &mut self.pool, f);
-        unmark_if(&mut self.bits, slot.is_empty(), index);
-        count
+    pub(in crate::proved::table) fn retain_word<F: FnMut(K, &V) -> bool>(&mut self, from: usize, f: &mut F) {
+        let word = self.bits.word(from);
+        let kept = retain_marked(&mut self.slots, &mut self.pool, from, word, f);
+        self.bits.set_word(from, kept);
     }
 }
 
 impl<K: IntKey, V, A: Allocator> Slots<K, Kept<V>, A> {
     /// Asks the closure about each pair of a slot, from the place on, and removes the first one
     /// that it picks. Those behind it move up, and the place moves on to the first of them.
+    #[inline(always)]
     pub(in crate::proved::table) fn extract_at<F: FnMut(K, &mut V) -> bool>(
         &mut self,
         index: usize,

@@ -3,7 +3,10 @@
 use crate::memory::prelude::*;
 use crate::proved::table::bits::Bits;
 use crate::proved::table::key::IntKey;
-use crate::proved::table::linked::row;
+use crate::proved::table::linked::node::{NODE_LIMIT, NOWHERE};
+use crate::proved::table::linked::row::{self, insertion, removal};
+use crate::proved::table::linked::slot::Slot;
+use crate::proved::table::steps::Steps;
 use crate::proved::table::table::slots::Slots;
 use crate::proved::table::table::stored::Stored;
 use crate::memory::alloc::Allocator;
@@ -16,6 +19,16 @@ pub(super) fn unmark_if<A: Allocator>(bits: &mut Bits<A>, is_empty: bool, index:
     }
 }
 
+/// Removes the only pair of a slot, and clears the bit of the slot.
+#[inline(always)]
+fn take_only<P, A: Allocator>(slot: &mut Slot<P>, bits: &mut Bits<A>, index: usize) -> P {
+    // read before the slot is written, so that the write can't delay it
+    let word = bits.word(index);
+    let pair = slot.take();
+    bits.clear_in(word, index);
+    pair
+}
+
 impl<K: IntKey, X, A: Allocator> Slots<K, X, A> {
     /// Puts a pair last in its slot, and returns its place. If an allocation fails, it returns the
     /// pair, and nothing changes. A slot without a pair needs no allocation.
@@ -25,10 +38,35 @@ impl<K: IntKey, X, A: Allocator> Slots<K, X, A> {
         index: usize,
         pair: (Stored<K>, X),
     ) -> Result<usize, (Stored<K>, X)> {
-        let slot = &mut self.slots[index];
-        let place = row::push(slot, &mut self.pool, pair)?;
-        self.bits.set(index);
+        if self.is_vacant(index) {
+            self.fill(index, pair);
+            return Ok(0);
+        }
+        let place = insertion::push_further(&mut self.slots[index], &mut self.pool, pair)?;
         Ok(place)
+    }
+
+    /// Whether a slot holds no pair.
+    #[inline(always)]
+    pub(in crate::proved::table) fn is_vacant(&self, index: usize) -> bool {
+        self.slots[index].is_empty()
+    }
+
+    /// Puts a first pair into a slot that holds none. It allocates nothing.
+    #[inline(always)]
+    pub(in crate::proved::table) fn fill(&mut self, index: usize, pair: (Stored<K>, X)) {
+        let slot = &mut self.slots[index];
+        // read before the slot changes, so that a write there can't delay it
+        let word = self.bits.word(index);
+        slot.fill(NOWHERE, pair);
+        self.bits.set_in(word, index);
+    }
+
+    /// Whether the first pair of a slot has the key. If there is a first pair, its key is compared,
+    /// which is one step.
+    #[inline(always)]
+    pub(in crate::proved::table) fn first_is(&self, index: usize, key: &K, steps: &mut Steps) -> bool {
+        row::first_is(&self.slots[index], &self.pool, key, steps)
     }
 
     /// Puts a pair last in its slot. If the slot holds a pair there is room for one more, so it
@@ -44,29 +82,82 @@ impl<K: IntKey, X, A: Allocator> Slots<K, X, A> {
     #[inline(always)]
     pub(in crate::proved::table) fn take_at(&mut self, index: usize, place: usize) -> (Stored<K>, X) {
         let slot = &mut self.slots[index];
-        let pair = row::take(slot, &mut self.pool, place);
-        unmark_if(&mut self.bits, slot.is_empty(), index);
-        pair
+        let Some((link, _)) = slot.get() else {
+            unreachable!();
+        };
+        if link < NODE_LIMIT {
+            return removal::take_of_several(slot, link, &mut self.pool, place);
+        }
+        take_only(slot, &mut self.bits, index)
     }
 
-    /// Removes the pair at a place of a slot, moves the last pair of the slot into that place, and
-    /// puts a new pair at the end of the slot. It allocates nothing.
+    /// Removes the pair of a key from its slot, and returns its value. The last pair of the slot
+    /// takes its place. The keys are compared from the front, up to the one sought. Each comparison
+    /// is one step.
     #[inline(always)]
-    pub(in crate::proved::table) fn replace_at(
+    pub(in crate::proved::table) fn remove(&mut self, index: usize, key: K, steps: &mut Steps) -> Option<X> {
+        let slot = &mut self.slots[index];
+        let Some((link, first)) = slot.get() else {
+            return None;
+        };
+        if link < NODE_LIMIT {
+            return removal::remove_of_several(slot, link, &mut self.pool, key, steps);
+        }
+        if !first.0.matches(&key, steps) {
+            return None;
+        }
+        let (_, value) = take_only(slot, &mut self.bits, index);
+        Some(value)
+    }
+
+    /// Removes the first pair of a slot. The last pair of the slot takes its place, and a new one is
+    /// put last. It allocates nothing.
+    #[inline(always)]
+    pub(in crate::proved::table) fn replace_first(&mut self, index: usize, new: (Stored<K>, X)) -> (Stored<K>, X) {
+        insertion::replace_first(&mut self.slots[index], &mut self.pool, new)
+    }
+
+    /// Replaces the pair of a key by one with this value, if it is behind the first one of its slot.
+    /// The last pair of the slot takes its place, and the new one is put last. It returns the old
+    /// value, or the new one if the key isn't there.
+    pub(in crate::proved::table) fn replace_further(
         &mut self,
         index: usize,
-        place: usize,
-        new: (Stored<K>, X),
-    ) -> (Stored<K>, X) {
-        row::replace(&mut self.slots[index], &mut self.pool, place, new)
+        key: K,
+        value: X,
+        steps: &mut Steps,
+    ) -> Result<X, X> {
+        let slot = &mut self.slots[index];
+        let old = insertion::replace_further(slot, &mut self.pool, key, value, steps)?;
+        Ok(old)
+    }
+
+    /// Puts the pair of a key and a value last in a slot whose first pair has another key. If the
+    /// key is present, the last pair of the slot takes the place of its pair, and the old value is
+    /// returned. If an allocation fails, the value is returned.
+    #[inline(always)]
+    pub(in crate::proved::table) fn put(
+        &mut self,
+        index: usize,
+        key: K,
+        value: X,
+        steps: &mut Steps,
+    ) -> Result<Option<X>, X> {
+        let slot = &mut self.slots[index];
+        let old = insertion::put(slot, &mut self.pool, key, value, steps)?;
+        Ok(old)
     }
 
     /// Removes the first pair of a slot. The others move up by one place.
     #[inline(always)]
     pub(in crate::proved::table) fn take_front(&mut self, index: usize) -> (Stored<K>, X) {
         let slot = &mut self.slots[index];
-        let pair = row::take_front(slot, &mut self.pool);
-        unmark_if(&mut self.bits, slot.is_empty(), index);
-        pair
+        let Some((link, _)) = slot.get() else {
+            unreachable!();
+        };
+        if link < NODE_LIMIT {
+            return removal::take_first_of_several(slot, link, &mut self.pool);
+        }
+        take_only(slot, &mut self.bits, index)
     }
 }

@@ -1,20 +1,23 @@
-//! A value of one slot is lent to be written, and all pairs are dropped.
+//! A value of one slot is lent to be written, at a place or by its key, and all pairs are dropped.
 
 use crate::memory::prelude::*;
 use crate::proved::table::bits::Bits;
+use crate::proved::table::kept::Kept;
 use crate::proved::table::key::IntKey;
-use crate::proved::table::linked::chain::seek;
+use crate::proved::table::linked::chain::{node_in, seek};
 use crate::proved::table::linked::pool::Pool;
-use crate::proved::table::linked::row;
+use crate::proved::table::linked::row::removal;
 use crate::proved::table::linked::slot::Slot;
-use crate::proved::table::table::slots::Slots;
+use crate::proved::table::steps::Steps;
+use crate::proved::table::table::slots::{Slots, add_empty};
 use crate::proved::table::table::stored::Stored;
 use crate::memory::alloc::Allocator;
+use core::mem;
 
 /// Drops the pairs of a slot, from its front.
 fn drop_row<P, A: Allocator>(slot: &mut Slot<P>, pool: &mut Pool<P, A>) {
     while !slot.is_empty() {
-        row::take_front(slot, pool);
+        removal::take_front(slot, pool);
     }
 }
 
@@ -44,11 +47,42 @@ impl<K: IntKey, X, A: Allocator> Slots<K, X, A> {
     }
 }
 
+impl<K: IntKey, V, A: Allocator> Slots<K, Kept<V>, A> {
+    /// A mutable reference to the value of the key's pair in a slot. The keys are compared from the
+    /// front, up to the one sought. Each comparison is one step.
+    #[inline(always)]
+    pub(in crate::proved::table) fn value_mut_of(
+        &mut self,
+        index: usize,
+        key: &K,
+        steps: &mut Steps,
+    ) -> Option<&mut V> {
+        let Some((link, first)) = self.slots[index].get() else {
+            return None;
+        };
+        if first.0.matches(key, steps) {
+            return Some(self.slots[index].value_mut().get_mut());
+        }
+        let Some(at) = node_in(&self.pool, link, key, steps) else {
+            return None;
+        };
+        Some(self.pool.value_mut(at).get_mut())
+    }
+}
+
 impl<K: IntKey, X, A: Allocator> Slots<K, X, A> {
     /// Drops all pairs, slot after slot, and keeps the slots and the memory that they and the nodes
     /// have.
     pub(in crate::proved::table) fn clear(&mut self) {
-        drop_rows(&self.bits, &mut self.slots, &mut self.pool);
+        if mem::needs_drop::<X>() {
+            drop_rows(&self.bits, &mut self.slots, &mut self.pool);
+        } else {
+            // nothing shows in which order such values are dropped
+            let count = self.slots.len();
+            self.slots.truncate(0);
+            add_empty(&mut self.slots, count);
+            self.pool.clear();
+        }
         self.bits.clear_all();
     }
 }

@@ -1,13 +1,8 @@
-use Rattle.std.proofs.Common.{◌^◌, ◌<◌, length, sym, subst}
-use Rattle.intmap_table.specs.Tables.Slots.{Grid}
 use Rattle.intmap_table.proofs.Tables.TableLemmas.{walk_of-joined}
 use Rattle.intmap_table.proofs.table.closures.Table+K+Kept+V+A.retain.Goals as goal
 
 pub returns-clause-own : goal.returns-clause-own
 returns-clause-own g c = walk_of-joined g.K.IntKey.number_of c.retain_slots.new.slots.rows c.retain_slots.ensures.table
-
-pub retain_slots-requires-clause-count : goal.retain_slots-requires-clause-count
-retain_slots-requires-clause-count g c = subst (λ (t : Grid _ _). length t.walk < 2 ^ 64) (sym c.self.view_is) c.requires.count
 
 pub returns-clause-pairs : goal.returns-clause-pairs
 returns-clause-pairs g c = rw (← c.self.view_is) c.retain_slots.ensures.pairs

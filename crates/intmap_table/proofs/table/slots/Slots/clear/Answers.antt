@@ -21,7 +21,7 @@ invariant_of-self g c =
           let none = Rows-none g.K.IntKey.number_of w.clear.new.self (length c.self.inside.slots.items) c.self.inside.mask c.self.invariant.capacity w.clear.ensures.held c.self.invariant.count in
           let slots = emptied w.truncate.new.self.items (length c.self.inside.slots.items) w.truncate.ensures.items in
           let count : w.len-count.result ≡ length c.self.inside.slots.items = omega (arith, w.len-count.ensures) in
-          rw (c.clear_all.ensures, w.self-inside-is, w.add_empty.ensures, count, slots) (Rows-dropped g.K.IntKey.number_of c.self.inside.slots.items c.self.inside.pool c.self.inside.bits c.self.inside.mask (replicate (length c.self.inside.slots.items) Empty) w.clear.new.self c.self.invariant
+          rw (c.clear_all.ensures, w.self-inside-is, w.add_empty.ensures.items, count, slots) (Rows-dropped g.K.IntKey.number_of c.self.inside.slots.items c.self.inside.pool c.self.inside.bits c.self.inside.mask (replicate (length c.self.inside.slots.items) Empty) w.clear.new.self c.self.invariant
           (length-replicate _ _) none.are.linked (λ i. ap (λ R. get_or R i []) none.rows ∙ get_or-of_default (length c.self.inside.slots.items) i []))
     ]
 
@@ -33,5 +33,5 @@ returns-clause-empty g c i =
           let none = Rows-none g.K.IntKey.number_of w.clear.new.self (length c.self.inside.slots.items) c.self.inside.mask c.self.invariant.capacity w.clear.ensures.held c.self.invariant.count in
           let slots = emptied w.truncate.new.self.items (length c.self.inside.slots.items) w.truncate.ensures.items in
           let count : w.len-count.result ≡ length c.self.inside.slots.items = omega (arith, w.len-count.ensures) in
-          rw (w.self-inside-is, w.add_empty.ensures, count, slots) (ap (λ R. get_or R i []) none.rows ∙ get_or-of_default (length c.self.inside.slots.items) i [])
+          rw (w.self-inside-is, w.add_empty.ensures.items, count, slots) (ap (λ R. get_or R i []) none.rows ∙ get_or-of_default (length c.self.inside.slots.items) i [])
     ]

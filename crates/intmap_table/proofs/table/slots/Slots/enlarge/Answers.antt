@@ -30,7 +30,7 @@ module _ (g : _) (c : After-add_empty g) where
   start : IsEnlarged g.K.IntKey.number_of c.self.inside.slots.items (c.self.inside.mask + 1) c.args.capacity c.add_empty.new.slots.items
   start =
       Enlarged g.K.IntKey.number_of c.self.inside.slots.items c.self.inside.pool c.self.inside.bits c.self.inside.mask c.args.capacity c.add_empty.new.slots.items c.self.invariant (rw (← c.self.view_is) at c.requires.grown)
-      (c.add_empty.ensures ∙ ap (λ xs. xs ++ replicate (c.args.capacity - length xs) Empty) c.reserve_exact.ensures.items)
+      (c.add_empty.ensures.items ∙ ap (λ xs. xs ++ replicate (c.args.capacity - length xs) Empty) c.reserve_exact.ensures.items)
 
   -- without the pairs of the old ones no slot holds any
   none : HaveRows g.K.IntKey.number_of (replicate c.args.capacity Empty) c.in-Ok.made.1 c.in-Ok.made.0 (c.args.capacity - 1) (replicate c.args.capacity [])

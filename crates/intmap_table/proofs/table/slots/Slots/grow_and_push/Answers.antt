@@ -1,6 +1,8 @@
-use Rattle.std.proofs.Common.{inl, inr, ℕ, ◌≡◌, ◌<◌, ◌%◌, length, ap, sym, subst, ◌∙◌, arith}
-use Rattle.std.specs.Prelude.{cond, nat_lt}
+use Rattle.std.proofs.Common.{inl, inr, ℕ, ◌≡◌, ◌+◌, ◌<◌, ◌%◌, [], ◌∷◌, ◌++◌, length, ap, sym, subst, ◌∙◌, arith}
+use Rattle.std.specs.Prelude.{cond, get_or, nat_lt}
 use Rattle.std.proofs.lemmas.Bool.{cases_Bool}
+use Rattle.std.proofs.lemmas.List.{get_or-set_same, length_push}
+use Rattle.intmap_table.specs.Classes.{slot_number}
 use Rattle.intmap_table.specs.Walk.{slot_of}
 use Rattle.intmap_table.specs.Tables.Nodes.{further}
 use Rattle.intmap_table.specs.Tables.Slots.{joined}
@@ -15,8 +17,8 @@ needed-room-requires-clause-part g c =
     let C = length c.args.self.now.rows in
     ap (λ n. n % C) c.requires.target ∙ slot_number-grown g.K.IntKey.number_of C c.args.capacity c.args.pair.0 c.requires.grown ∙ sym c.requires.slot
 
-pub put_back-requires-clause-ready : goal.put_back-requires-clause-ready
-put_back-requires-clause-ready g c =
+pub put_last-requires-clause-ready : goal.put_last-requires-clause-ready
+put_last-requires-clause-ready g c =
     let number = g.K.IntKey.number_of in
     let D = c.args.capacity in let j = c.args.target in
     let going = slot_of number (joined c.args.self.now.rows) D j in
@@ -33,4 +35,10 @@ put_back-requires-clause-ready g c =
 pub returns-clause-rows : goal.returns-clause-rows
 returns-clause-rows g c =
     let L = joined c.args.self.now.rows in
-    (Moved-next g.K.IntKey.number_of c.args.capacity L c.enlarge.new.self.rows c.args.pair c.args.target c.put_back.new.self.rows c.in-Ok.ensures.placed (sym c.requires.target) c.put_back.ensures.rows).rows
+    (Moved-next g.K.IntKey.number_of c.args.capacity L c.enlarge.new.self.rows c.args.pair c.args.target c.put_last.new.self.rows c.in-Ok.ensures.placed (sym c.requires.target) c.put_last.ensures.rows).rows
+
+pub returns-clause-place : goal.returns-clause-place
+returns-clause-place g c =
+    let row = get_or c.enlarge.new.self.rows c.args.target [] in
+    let below : c.args.target < length c.enlarge.new.self.rows = subst (λ n. n < length c.enlarge.new.self.rows) (sym c.requires.target) (subst (λ D. slot_number g.K.IntKey.number_of c.args.pair.0 c.args.capacity < D) (sym c.in-Ok.ensures.placed.len) (slot_number-below g.K.IntKey.number_of c.args.pair.0 c.args.capacity c.requires.grown.new)) in
+    ap (λ n. n + 1) c.put_last.ensures.place ∙ sym (ap (λ R. length (get_or R c.args.target [])) c.put_last.ensures.rows ∙ ap length (get_or-set_same c.enlarge.new.self.rows c.args.target (row ++ c.args.pair ∷ []) [] below) ∙ length_push row c.args.pair)

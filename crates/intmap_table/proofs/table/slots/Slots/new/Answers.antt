@@ -9,7 +9,7 @@ use Rattle.intmap_table.proofs.table.slots.Slots.new.Goals.{After-add_empty}
 none : (g : _) (c : After-add_empty g) → c.add_empty.new.slots.items ≡ replicate c.args.capacity Empty
 none g c =
     let all : c.args.capacity - 0 ≡ c.args.capacity = omega arith in
-    c.add_empty.ensures ∙ ap (λ xs. xs ++ replicate (c.args.capacity - length xs) Empty) c.in_ok-slots.ensures.items ∙ ap (λ n. replicate n Empty) all
+    c.add_empty.ensures.items ∙ ap (λ xs. xs ++ replicate (c.args.capacity - length xs) Empty) c.in_ok-slots.ensures.items ∙ ap (λ n. replicate n Empty) all
 
 pub invariant_of-result : goal.invariant_of-result
 invariant_of-result g c =

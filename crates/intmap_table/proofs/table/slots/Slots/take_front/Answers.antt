@@ -1,13 +1,15 @@
-use Rattle.std.proofs.Common.{◌<◌, [], length, false, cond, sym, ap, ◌∙◌, subst, arith}
+use Rattle.std.proofs.Common.{◌≡◌, ◌<◌, ◌≤◌, false, [], ◌∷◌, length, refl, sym, ap, ◌∙◌, subst, arith}
 use Rattle.std.specs.Prelude.{get_or, set, drop}
 use Rattle.intmap_table.specs.Classes.{slot_number}
-use Rattle.intmap_table.specs.Tables.Nodes.{is_empty, rows_in, row_in, IsSlotSet}
+use Rattle.intmap_table.specs.Tables.Nodes.{Empty, Filled, node_limit, chain_of, rows_in, row_in, IsChain, IsSlot}
 use Rattle.intmap_table.proofs.Tables.FilledLemmas.{row-within}
-use Rattle.intmap_table.proofs.Nodes.LinkedLemmas.{HaveRows, IsRow, Row-of, Row-changed, home_drop}
+use Rattle.intmap_table.proofs.Nodes.LinkedLemmas.{HaveRows, IsRow, Row-of, Row-kept, Row-changed, home_drop}
+use Rattle.intmap_table.proofs.Nodes.PathLemmas.{Chain-some}
+use Rattle.intmap_table.proofs.Nodes.SlotLemmas.{first_was, slot_is, Front-only}
 use Rattle.intmap_table.proofs.table.slots.Slots.take_front.Goals as goal
-use Rattle.intmap_table.proofs.table.slots.Slots.take_front.Goals.{After-index_mut-slot, After-take_front-pair}
+use Rattle.intmap_table.proofs.table.slots.Slots.take_front.Goals.{In-Some, After-take_first_of_several, After-take_only}
 
-module _ (g : _) (c : After-index_mut-slot g) where
+module _ (g : _) (c : In-Some g) where
   -- the slot holds a pair
   some : 0 < length (get_or (rows_in c.self.inside.slots.items c.self.inside.pool.nodes) c.args.index [])
   some = let place = rw (← c.self.view_is) at c.requires in omega (arith, place)
@@ -15,25 +17,82 @@ module _ (g : _) (c : After-index_mut-slot g) where
   row : IsRow g.K.IntKey.number_of c.self.inside.slots.items c.self.inside.pool (rows_in c.self.inside.slots.items c.self.inside.pool.nodes) c.args.index c.index_mut-slot.result.now
   row = Row-of g.K.IntKey.number_of c.self.inside.slots.items c.self.inside.pool c.self.inside.bits c.self.inside.mask c.args.index c.index_mut-slot.result.now c.self.invariant (row-within (rows_in c.self.inside.slots.items c.self.inside.pool.nodes) c.args.index some) c.index_mut-slot.ensures.value
 
-pub take_front-pair-requires-clause-leads : goal.take_front-pair-requires-clause-leads
-take_front-pair-requires-clause-leads g c = (row g (goal.at.take_front-pair-requires-clause-leads g c).After-index_mut-slot).chain
+  -- and others, which its link leads through
+  chain : IsChain c.self.inside.pool.nodes c.in-Some.link
+  chain = subst (IsSlot c.self.inside.pool.nodes) c.in-Some.ensures.some row.chain
 
--- the slots with what is left of the row
-done : (g : _) (c : After-take_front-pair g) → 0 < length (get_or (rows_in c.self.inside.slots.items c.self.inside.pool.nodes) c.args.index []) → IsRow g.K.IntKey.number_of c.self.inside.slots.items c.self.inside.pool (rows_in c.self.inside.slots.items c.self.inside.pool.nodes) c.args.index c.index_mut-slot.result.now
-    → HaveRows g.K.IntKey.number_of (set c.self.inside.slots.items c.args.index c.take_front-pair.new.slot) c.take_front-pair.new.pool (cond (is_empty c.take_front-pair.new.slot) (set c.self.inside.bits c.args.index false) c.self.inside.bits) c.self.inside.mask (set (rows_in c.self.inside.slots.items c.self.inside.pool.nodes) c.args.index (drop 1 (get_or (rows_in c.self.inside.slots.items c.self.inside.pool.nodes) c.args.index [])))
-done g c some r =
-    Row-changed g.K.IntKey.number_of c.self.inside.slots.items c.self.inside.pool c.self.inside.bits c.self.inside.mask c.args.index c.index_mut-slot.result.now (λ ps. drop 1 (ps)) c.take_front-pair.new.pool c.take_front-pair.new.slot c.self.invariant r (subst (λ ps. IsSlotSet c.self.inside.pool c.index_mut-slot.result.now ps c.take_front-pair.new.pool c.take_front-pair.new.slot) (sym (ap (drop 1) c.take_front-pair.ensures.row.1)) c.take_front-pair.ensures.row.2)
-    (home_drop (λ p. slot_number g.K.IntKey.number_of p.0 (length c.self.inside.slots.items)) c.args.index 1 (row_in c.self.inside.pool.nodes c.index_mut-slot.result.now) r.own) some
+pub take_first_of_several-requires-clause-leads : goal.take_first_of_several-requires-clause-leads
+take_first_of_several-requires-clause-leads g c = chain g (goal.at.take_first_of_several-requires-clause-leads g c).In-Some
+
+pub take_first_of_several-requires-clause-several : goal.take_first_of_several-requires-clause-several
+take_first_of_several-requires-clause-several g c =
+    Chain-some c.self.inside.pool.nodes c.in-Some.link (chain g (goal.at.take_first_of_several-requires-clause-several g c).In-Some) (omega (arith, c.if-link-lt-NODE_LIMIT.true))
+
+module _ (g : _) (c : After-take_first_of_several g) (some : 0 < length (get_or (rows_in c.self.inside.slots.items c.self.inside.pool.nodes) c.args.index []))
+    (r : IsRow g.K.IntKey.number_of c.self.inside.slots.items c.self.inside.pool (rows_in c.self.inside.slots.items c.self.inside.pool.nodes) c.args.index c.index_mut-slot.result.now) where
+  -- the first pair and the others
+  pairs : get_or (rows_in c.self.inside.slots.items c.self.inside.pool.nodes) c.args.index [] ≡ c.take_first_of_several.result ∷ chain_of c.self.inside.pool.nodes c.in-Some.link
+  pairs = sym r.is ∙ ap (row_in c.self.inside.pool.nodes) c.take_first_of_several.ensures.value
+
+  -- the slots with these
+  several : IsChain c.self.inside.pool.nodes c.in-Some.link
+      → HaveRows g.K.IntKey.number_of (set c.self.inside.slots.items c.args.index c.take_first_of_several.new.slot) c.take_first_of_several.new.pool c.self.inside.bits c.self.inside.mask
+      (set (rows_in c.self.inside.slots.items c.self.inside.pool.nodes) c.args.index (drop 1 (get_or (rows_in c.self.inside.slots.items c.self.inside.pool.nodes) c.args.index [])))
+  several chain =
+      let told = c.take_first_of_several.ensures in let a = c.self.inside.pool in let l = c.in-Some.link in let x = c.take_first_of_several.result in
+      let more = Chain-some a.nodes l chain (omega (arith, c.if-link-lt-NODE_LIMIT.true)) in
+      let left = ap (λ ps. length (drop 1 ps)) pairs in
+      Row-kept g.K.IntKey.number_of c.self.inside.slots.items a c.self.inside.bits c.self.inside.mask c.args.index c.index_mut-slot.result.now (λ ps. drop 1 (ps)) c.take_first_of_several.new.pool c.take_first_of_several.new.slot c.self.invariant r
+      (slot_is a (Filled l x) c.take_first_of_several.new.slot (chain_of a.nodes l) (drop 1 (row_in a.nodes c.index_mut-slot.result.now)) c.take_first_of_several.new.pool c.index_mut-slot.result.now c.take_first_of_several.new.slot
+      (told.row x) told.value (ap (λ s. drop 1 (row_in a.nodes s)) told.value) refl)
+      (home_drop (λ p. slot_number g.K.IntKey.number_of p.0 (length c.self.inside.slots.items)) c.args.index 1 (row_in a.nodes c.index_mut-slot.result.now) r.own) some (omega (arith, more, left))
 
 pub invariant_of-self : goal.invariant_of-self
 invariant_of-self g c =
-    let at = (goal.at.invariant_of-self g c).After-index_mut-slot in
-    rw (c.unmark_if.ensures, c.is_empty.ensures) (done g (goal.at.invariant_of-self g c).After-take_front-pair (some g at) (row g at)).are
+    let at = (goal.at.invariant_of-self g c).In-Some in
+    (several g (goal.at.invariant_of-self g c).After-take_first_of_several (some g at) (row g at) (chain g at)).are
+
+pub returns-then-link-lt-NODE_LIMIT-clause-row : goal.returns-then-link-lt-NODE_LIMIT-clause-row
+returns-then-link-lt-NODE_LIMIT-clause-row g c =
+    let at = (goal.at.returns-then-link-lt-NODE_LIMIT-clause-row g c).In-Some in
+    let after = (goal.at.returns-then-link-lt-NODE_LIMIT-clause-row g c).After-take_first_of_several in
+    let is = pairs g after (some g at) (row g at) in
+    let R = rows_in c.self.inside.slots.items c.self.inside.pool.nodes in
+    rw (← c.self.view_is) (chain_of c.self.inside.pool.nodes c.in-Some.link, is, (several g after (some g at) (row g at) (chain g at)).rows ∙ ap (λ ps. set R c.args.index (drop 1 ps)) is)
+
+module _ (g : _) (c : After-take_only g) (some : 0 < length (get_or (rows_in c.self.inside.slots.items c.self.inside.pool.nodes) c.args.index []))
+    (r : IsRow g.K.IntKey.number_of c.self.inside.slots.items c.self.inside.pool (rows_in c.self.inside.slots.items c.self.inside.pool.nodes) c.args.index c.index_mut-slot.result.now) where
+  -- the only pair
+  alone : c.index_mut-slot.result.now ≡ Filled c.in-Some.link c.take_only.result
+  alone =
+      let pair = c.take_only.ensures.pair in
+      c.in-Some.ensures.some ∙ ap (λ p. Filled c.in-Some.link p) (sym (first_was c.index_mut-slot.result.now c.in-Some.link c.in-Some.field-0-1.now c.take_only.result pair.0 c.in-Some.ensures.some pair.1))
+
+  only : get_or (rows_in c.self.inside.slots.items c.self.inside.pool.nodes) c.args.index [] ≡ c.take_only.result ∷ chain_of c.self.inside.pool.nodes c.in-Some.link
+  only = sym r.is ∙ ap (row_in c.self.inside.pool.nodes) alone
+
+  -- the slots without it
+  gone : node_limit ≤ c.in-Some.link → IsChain c.self.inside.pool.nodes c.in-Some.link
+      → HaveRows g.K.IntKey.number_of (set c.self.inside.slots.items c.args.index Empty) c.self.inside.pool (set c.self.inside.bits c.args.index false) c.self.inside.mask
+      (set (rows_in c.self.inside.slots.items c.self.inside.pool.nodes) c.args.index (drop 1 (get_or (rows_in c.self.inside.slots.items c.self.inside.pool.nodes) c.args.index [])))
+  gone last chain =
+      let a = c.self.inside.pool in let l = c.in-Some.link in let x = c.take_only.result in
+      Row-changed g.K.IntKey.number_of c.self.inside.slots.items a c.self.inside.bits c.self.inside.mask c.args.index c.index_mut-slot.result.now (λ ps. drop 1 (ps)) a Empty c.self.invariant r
+      (slot_is a (Filled l x) Empty (chain_of a.nodes l) (drop 1 (row_in a.nodes c.index_mut-slot.result.now)) a c.index_mut-slot.result.now Empty
+      (Front-only a l x chain last) alone (ap (λ s. drop 1 (row_in a.nodes s)) alone) refl)
+      (home_drop (λ p. slot_number g.K.IntKey.number_of p.0 (length c.self.inside.slots.items)) c.args.index 1 (row_in a.nodes c.index_mut-slot.result.now) r.own) some
+
+pub invariant_of-self-2 : goal.invariant_of-self-2
+invariant_of-self-2 g c =
+    let at = (goal.at.invariant_of-self-2 g c).In-Some in
+    rw (c.take_only.ensures.bits, c.take_only.ensures.slot)
+    (gone g (goal.at.invariant_of-self-2 g c).After-take_only (some g at) (row g at) c.if-link-lt-NODE_LIMIT.false (chain g at)).are
 
 pub returns-clause-row : goal.returns-clause-row
 returns-clause-row g c =
-    let at = (goal.at.returns-clause-row g c).After-index_mut-slot in
-    let r = row g at in
-    let pairs = sym r.is ∙ c.take_front-pair.ensures.row.1 in
-    let rows = (done g (goal.at.returns-clause-row g c).After-take_front-pair (some g at) r).rows in
-    rw (← c.self.view_is) (c.take_front-pair.ensures.row.0, pairs, rows ∙ ap (λ ps. set (rows_in c.self.inside.slots.items c.self.inside.pool.nodes) c.args.index ps) (ap (drop 1) pairs))
+    let at = (goal.at.returns-clause-row g c).In-Some in
+    let after = (goal.at.returns-clause-row g c).After-take_only in
+    let is = only g after (some g at) (row g at) in
+    let R = rows_in c.self.inside.slots.items c.self.inside.pool.nodes in
+    rw (← c.self.view_is, c.take_only.ensures.slot)
+    (chain_of c.self.inside.pool.nodes c.in-Some.link, is, (gone g after (some g at) (row g at) c.if-link-lt-NODE_LIMIT.false (chain g at)).rows ∙ ap (λ ps. set R c.args.index (drop 1 ps)) is)

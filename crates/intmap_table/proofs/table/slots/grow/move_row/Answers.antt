@@ -1,7 +1,8 @@
 use Rattle.std.proofs.Common.{◌⊎◌, ℕ, ◌≡◌, ◌+◌, ◌<◌, ◌≤◌, [], ◌∷◌, length, ap, sym, ◌∙◌, subst, arith}
-use Rattle.std.specs.Prelude.{◌==◌, false, get_or, reverse, set}
+use Rattle.std.specs.Prelude.{get_or, reverse, set}
 use Rattle.std.proofs.lemmas.List.{get_or_default}
 use Rattle.intmap_table.specs.Classes.{slot_number}
+use Rattle.intmap_table.specs.declared.linked.row.growth.Order.TheVariants as orders
 use Rattle.intmap_table.specs.Tables.Growing.{blank, put_in}
 use Rattle.intmap_table.specs.Tables.Nodes.{Empty, Filled, chain_of, row_in, rows_in, AreHome}
 use Rattle.intmap_table.proofs.Nodes.GrowingLemmas.{part-outside, home-reverse, Chain-head, Cut-chain, Taken-start, Taken-next, Moving-start, Moving-next, Moving-end, IsReached, HasPut, HasTaken, Growing-reached, Growing-put, Growing-taken, length-put_in}
@@ -59,9 +60,9 @@ put_at-requires-clause-ready g c =
     let e = ap length (none g (goal.at.put_at-requires-clause-ready g c).After-take-first) in
     λ some. absurd (omega (arith, e, some))
 
-pub loop-link-init : goal.loop-link-init
-loop-link-init g c =
-    let at = goal.at.loop-link-init g c in
+pub loop-rest-init : goal.loop-rest-init
+loop-rest-init g c =
+    let at = goal.at.loop-rest-init g c in
     let number = g.K.IntKey.number_of in
     let a = c.args.old_pool.now in let pool = c.args.pool.now in
     let S = c.args.slots.now.items in let C = c.args.old_mask + 1 in let D = c.args.mask + 1 in
@@ -73,27 +74,27 @@ loop-link-init g c =
     let t = taken g at.After-take-first in
     let mine = own g at.After-take-first first in
     let row : row_in a.nodes (get_or S i Empty) ≡ p ∷ left = ap (row_in a.nodes) is ∙ ap (λ q. q ∷ left) (sym first) in
-    let put : HasPut number (i + 1) C c.args.mask T pool j false p c.put_at.new.slots.items c.put_at.new.pool c.put_at.new.bits =
-    Growing-put number (i + 1) C T pool c.args.bits.now c.args.mask j t.are (out g at.After-take-first) c.moved_index_of-first_target.ensures.within false p c.put_at.new.slots.items c.put_at.new.pool c.put_at.new.bits mine
+    let put : HasPut number (i + 1) C c.args.mask T pool j orders.First p c.put_at.new.slots.items c.put_at.new.pool c.put_at.new.bits =
+    Growing-put number (i + 1) C T pool c.args.bits.now c.args.mask j t.are (out g at.After-take-first) c.moved_index_of-first_target.ensures.within orders.First p c.put_at.new.slots.items c.put_at.new.pool c.put_at.new.bits mine
     c.put_at.ensures.row c.put_at.ensures.bits in
-    let b = c.turn-link.new.pool in let m = c.turn-link.result in
+    let b = c.turn.new.pool in let m = c.turn.result in
     let home : g.row.K.Denot × g.row.X.Denot → ℕ = λ q. slot_number number q.0 C in
-    let turned : chain_of b.nodes m ≡ reverse left = c.turn-link.ensures.chain.pairs in
+    let turned : chain_of b.nodes m ≡ reverse left = c.turn.ensures.chain.pairs in
     let few = ap length turned ∙ length-reverse left in
     let n = ap length row in
     let alone = ap length (none g at.After-take-first) in
     let used = c.put_at.ensures.row.2.held in
-    let long = length-put_in false (row_in pool.nodes (get_or T j Empty)) p in
+    let long = length-put_in orders.First (row_in pool.nodes (get_or T j Empty)) p in
     let more = c.put_at.ensures.total in
     let room = c.requires.room in
     let counted = c.put_at.ensures.counted in
     record {
-      taken = Taken-start a (row_in a.nodes (get_or S i Empty)) c.in-Some.link p b m row c.turn-link.ensures.chain;
+      taken = Taken-start a (row_in a.nodes (get_or S i Empty)) c.in-Some.link p b m row c.turn.ensures.chain;
       own = subst (λ ps. AreHome home i ps) (sym turned) (home-reverse home i left (let all : AreHome home i (p ∷ left) = subst (λ ps. AreHome home i ps) row c.requires.own in all.1));
       are = put.are;
       moving = Moving-start number D (row_in a.nodes (get_or S i Empty)) j (chain_of b.nodes m) (rows_in (blank i C S) pool.nodes) (rows_in (blank (i + 1) C c.put_at.new.slots.items) c.put_at.new.pool.nodes) p
           (row ∙ ap (λ ps. p ∷ ps) (sym (ap reverse turned ∙ reverse-reverse left))) mine (c.requires.free j c.moved_index_of-first_target.ensures.part)
-          (put.rows ∙ ap (λ R. set R j (put_in false (get_or R j []) p)) t.rows);
+          (put.rows ∙ ap (λ R. set R j (put_in orders.First (get_or R j []) p)) t.rows);
       len = put.len ∙ t.len;
       left = λ k up lt. put.left k up lt ∙ t.left k up lt;
       ready = omega (arith, n, few, alone, used, long, more, room);
@@ -104,66 +105,66 @@ loop-link-init g c =
 
 pub pair-next-requires : goal.pair-next-requires
 pair-next-requires g c =
-    let cs = c.loop-link.old_pool.nodes in let l = c.loop-link.link in
-    let is = c.loop-link.invariant.taken.is in
-    Chain-first cs l is (Chain-some cs l is (omega (arith, c.loop-link-test.true)))
+    let cs = c.loop-rest.old_pool.nodes in let l = c.loop-rest.rest in
+    let is = c.loop-rest.invariant.taken.is in
+    Chain-first cs l is (Chain-some cs l is (omega (arith, c.loop-rest-test.true)))
 
 pub moved_index_of-target-requires-clause-own : goal.moved_index_of-target-requires-clause-own
 moved_index_of-target-requires-clause-own g c =
     let number = g.K.IntKey.number_of in
     let C = c.args.old_mask + 1 in
-    let cs = c.loop-link.old_pool.nodes in let l = c.loop-link.link in
+    let cs = c.loop-rest.old_pool.nodes in let l = c.loop-rest.rest in
     let home : g.row.K.Denot × g.row.X.Denot → ℕ = λ p. slot_number number p.0 C in
-    let next = Chain-next cs l c.pair-next.ensures.0 c.pair-next.result.now c.loop-link.invariant.taken.is c.pair-next.ensures.1 in
-    let here : AreHome home c.args.index (c.pair-next.result.now ∷ chain_of cs c.pair-next.ensures.0) = subst (λ ps. AreHome home c.args.index ps) next.pairs c.loop-link.invariant.own in
-    ap (λ k. slot_number number k C) c.key-in-loop-link.ensures.value ∙ here.0
+    let next = Chain-next cs l c.pair-next.ensures.0 c.pair-next.result.now c.loop-rest.invariant.taken.is c.pair-next.ensures.1 in
+    let here : AreHome home c.args.index (c.pair-next.result.now ∷ chain_of cs c.pair-next.ensures.0) = subst (λ ps. AreHome home c.args.index ps) next.pairs c.loop-rest.invariant.own in
+    ap (λ k. slot_number number k C) c.key-in-loop-rest.ensures.value ∙ here.0
 
 module _ (g : _) (c : After-moved_index_of-target g) where
   out_next : (c.moved_index_of-target.result < c.args.index + 1) ⊎ (c.args.old_mask + 1 ≤ c.moved_index_of-target.result)
   out_next = part-outside (c.args.old_mask + 1) c.args.index c.moved_index_of-target.result c.moved_index_of-target.ensures.part
 
-  reached_next : IsReached g.K.IntKey.number_of c.loop-link.slots.items c.loop-link.pool c.loop-link.bits (rows_in (blank (c.args.index + 1) (c.args.old_mask + 1) c.loop-link.slots.items) c.loop-link.pool.nodes) c.moved_index_of-target.result
+  reached_next : IsReached g.K.IntKey.number_of c.loop-rest.slots.items c.loop-rest.pool c.loop-rest.bits (rows_in (blank (c.args.index + 1) (c.args.old_mask + 1) c.loop-rest.slots.items) c.loop-rest.pool.nodes) c.moved_index_of-target.result
   reached_next =
-      Growing-reached g.K.IntKey.number_of (c.args.index + 1) (c.args.old_mask + 1) c.loop-link.slots.items c.loop-link.pool c.loop-link.bits c.args.mask c.moved_index_of-target.result c.loop-link.invariant.are out_next
+      Growing-reached g.K.IntKey.number_of (c.args.index + 1) (c.args.old_mask + 1) c.loop-rest.slots.items c.loop-rest.pool c.loop-rest.bits c.args.mask c.moved_index_of-target.result c.loop-rest.invariant.are out_next
       c.moved_index_of-target.ensures.within
 
-pub put_at-requires-in-loop-link-clause-within : goal.put_at-requires-in-loop-link-clause-within
-put_at-requires-in-loop-link-clause-within g c = (reached_next g (goal.at.put_at-requires-in-loop-link-clause-within g c).After-moved_index_of-target).within
+pub put_at-requires-in-loop-rest-clause-within : goal.put_at-requires-in-loop-rest-clause-within
+put_at-requires-in-loop-rest-clause-within g c = (reached_next g (goal.at.put_at-requires-in-loop-rest-clause-within g c).After-moved_index_of-target).within
 
-pub put_at-requires-in-loop-link-clause-leads : goal.put_at-requires-in-loop-link-clause-leads
-put_at-requires-in-loop-link-clause-leads g c = (reached_next g (goal.at.put_at-requires-in-loop-link-clause-leads g c).After-moved_index_of-target).leads
+pub put_at-requires-in-loop-rest-clause-leads : goal.put_at-requires-in-loop-rest-clause-leads
+put_at-requires-in-loop-rest-clause-leads g c = (reached_next g (goal.at.put_at-requires-in-loop-rest-clause-leads g c).After-moved_index_of-target).leads
 
-pub loop-link-preserved : goal.loop-link-preserved
-loop-link-preserved g c =
-    let at = (goal.at.loop-link-preserved g c).After-moved_index_of-target in
+pub loop-rest-preserved : goal.loop-rest-preserved
+loop-rest-preserved g c =
+    let at = (goal.at.loop-rest-preserved g c).After-moved_index_of-target in
     let number = g.K.IntKey.number_of in
     let a = c.args.old_pool.now in let C = c.args.old_mask + 1 in let D = c.args.mask + 1 in
     let S = c.args.slots.now.items in let i = c.args.index in
     let j = c.moved_index_of-target.result in let j0 = c.moved_index_of-first_target.result in
-    let loop = c.loop-link.invariant in
+    let loop = c.loop-rest.invariant in
     let p = c.take_behind-pair.result in
     let cut = c.take_behind-pair.ensures.cut in
-    let b = c.loop-link.old_pool in let l = c.loop-link.link in
+    let b = c.loop-rest.old_pool in let l = c.loop-rest.rest in
     let d = c.take_behind-pair.new.pool in let m = c.take_behind-pair.new.link in
     let chain : chain_of b.nodes l ≡ p ∷ chain_of d.nodes m = Cut-chain b l p d m cut in
     let pair : c.pair-next.result.now ≡ p = Chain-head b.nodes l c.pair-next.ensures.0 c.pair-next.result.now p (chain_of d.nodes m) loop.taken.is c.pair-next.ensures.1 chain in
-    let mine : slot_number number p.0 D ≡ j = ap (λ k. slot_number number k D) (ap (λ q. q.0) (sym pair) ∙ sym c.key-in-loop-link.ensures.value) ∙ c.moved_index_of-target.ensures.slot in
-    let T = c.put_at-in-loop-link.new.slots.items in let pool = c.put_at-in-loop-link.new.pool in
-    let put : HasPut number (i + 1) C c.args.mask c.loop-link.slots.items c.loop-link.pool j (j0 == j) p T pool c.put_at-in-loop-link.new.bits =
-    Growing-put number (i + 1) C c.loop-link.slots.items c.loop-link.pool c.loop-link.bits c.args.mask j loop.are (out_next g at) c.moved_index_of-target.ensures.within (j0 == j) p T pool c.put_at-in-loop-link.new.bits mine
-    c.put_at-in-loop-link.ensures.row c.put_at-in-loop-link.ensures.bits in
+    let mine : slot_number number p.0 D ≡ j = ap (λ k. slot_number number k D) (ap (λ q. q.0) (sym pair) ∙ sym c.key-in-loop-rest.ensures.value) ∙ c.moved_index_of-target.ensures.slot in
+    let T = c.put_at-in-loop-rest.new.slots.items in let pool = c.put_at-in-loop-rest.new.pool in
+    let put : HasPut number (i + 1) C c.args.mask c.loop-rest.slots.items c.loop-rest.pool j c.further_order-order.result p T pool c.put_at-in-loop-rest.new.bits =
+    Growing-put number (i + 1) C c.loop-rest.slots.items c.loop-rest.pool c.loop-rest.bits c.args.mask j loop.are (out_next g at) c.moved_index_of-target.ensures.within c.further_order-order.result p T pool c.put_at-in-loop-rest.new.bits mine
+    c.put_at-in-loop-rest.ensures.row c.put_at-in-loop-rest.ensures.bits in
     let n = ap length chain in
-    let used = c.put_at-in-loop-link.ensures.row.2.held in
-    let long = length-put_in (j0 == j) (row_in c.loop-link.pool.nodes (get_or c.loop-link.slots.items j Empty)) p in
-    let more = c.put_at-in-loop-link.ensures.total in
+    let used = c.put_at-in-loop-rest.ensures.row.2.held in
+    let long = length-put_in c.further_order-order.result (row_in c.loop-rest.pool.nodes (get_or c.loop-rest.slots.items j Empty)) p in
+    let more = c.put_at-in-loop-rest.ensures.total in
     let ready = loop.ready in let held = loop.held in let total = loop.total in let before = loop.counted in
-    let counted = c.put_at-in-loop-link.ensures.counted in
+    let counted = c.put_at-in-loop-rest.ensures.counted in
     record {
       taken = Taken-next a (row_in a.nodes (get_or S i Empty)) b l p d m loop.taken cut;
       own = (let all : AreHome (λ q. slot_number number q.0 C) i (p ∷ chain_of d.nodes m) = subst (λ ps. AreHome (λ q. slot_number number q.0 C) i ps) chain loop.own in all.1);
       are = put.are;
-      moving = Moving-next number D (row_in a.nodes (get_or S i Empty)) j0 (chain_of b.nodes l) (rows_in (blank i C S) c.args.pool.now.nodes) (rows_in (blank (i + 1) C c.loop-link.slots.items) c.loop-link.pool.nodes) p (chain_of d.nodes m) j
-          (rows_in (blank (i + 1) C T) pool.nodes) loop.moving chain mine (c.requires.free j c.moved_index_of-target.ensures.part) put.rows;
+      moving = Moving-next number D (row_in a.nodes (get_or S i Empty)) j0 (chain_of b.nodes l) (rows_in (blank i C S) c.args.pool.now.nodes) (rows_in (blank (i + 1) C c.loop-rest.slots.items) c.loop-rest.pool.nodes) p (chain_of d.nodes m) j c.further_order-order.result
+          (rows_in (blank (i + 1) C T) pool.nodes) loop.moving chain mine c.further_order-order.ensures (c.requires.free j c.moved_index_of-target.ensures.part) put.rows;
       len = put.len ∙ loop.len;
       left = λ k up lt. put.left k up lt ∙ loop.left k up lt;
       ready = omega (arith, n, used, long, more, ready);
@@ -174,17 +175,17 @@ loop-link-preserved g c =
 
 pub returns-clause-placed : goal.returns-clause-placed
 returns-clause-placed g c =
-    let loop = c.loop-link in
-    let none = Chain-beyond loop.old_pool.nodes loop.link loop.invariant.taken.is (omega (arith, c.loop-link-test.false)) in
-    Moving-end g.K.IntKey.number_of (c.args.mask + 1) (row_in c.args.old_pool.now.nodes (get_or c.args.slots.now.items c.args.index Empty)) c.moved_index_of-first_target.result (chain_of loop.old_pool.nodes loop.link)
+    let loop = c.loop-rest in
+    let none = Chain-beyond loop.old_pool.nodes loop.rest loop.invariant.taken.is (omega (arith, c.loop-rest-test.false)) in
+    Moving-end g.K.IntKey.number_of (c.args.mask + 1) (row_in c.args.old_pool.now.nodes (get_or c.args.slots.now.items c.args.index Empty)) c.moved_index_of-first_target.result (chain_of loop.old_pool.nodes loop.rest)
     (rows_in (blank c.args.index (c.args.old_mask + 1) c.args.slots.now.items) c.args.pool.now.nodes) (rows_in (blank (c.args.index + 1) (c.args.old_mask + 1) loop.slots.items) loop.pool.nodes) loop.invariant.moving none
 
 pub returns-clause-spares : goal.returns-clause-spares
-returns-clause-spares g c = c.loop-link.invariant.taken.spares
+returns-clause-spares g c = c.loop-rest.invariant.taken.spares
 
 pub returns-clause-counted : goal.returns-clause-counted
 returns-clause-counted g c =
-    let loop = c.loop-link in
-    let none = ap length (Chain-beyond loop.old_pool.nodes loop.link loop.invariant.taken.is (omega (arith, c.loop-link-test.false))) in
+    let loop = c.loop-rest in
+    let none = ap length (Chain-beyond loop.old_pool.nodes loop.rest loop.invariant.taken.is (omega (arith, c.loop-rest-test.false))) in
     let counted = loop.invariant.counted in
     omega (arith, none, counted)

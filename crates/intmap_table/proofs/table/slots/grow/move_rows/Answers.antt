@@ -159,7 +159,7 @@ loop-index-preserved g c =
     let before : HasMoved number (joined (take from R)) D (rows_in (blank i C c.loop-index.slots.items) c.loop-index.pool.nodes) =
     subst (λ T. HasMoved number (joined (take from R)) D (rows_in T c.loop-index.pool.nodes)) (passed g at.In-Some (less g at.Start)) loop.placed in
     let now = rows_in (blank (i + 1) C c.move_row.new.slots.items) c.move_row.new.pool.nodes in
-    record {
+    rw c.move_row.ensures.from (record {
       old = Left-next (λ p. slot_number number p.0 C) R from i C c.loop-index.slots.items c.loop-index.old_pool c.move_row.new.slots.items c.move_row.new.old_pool loop.old (own g at.Start) n.behind w
           (λ j behind lt. c.move_row.ensures.left j behind (omega (arith, lt))) c.move_row.ensures.spares;
       word = c.in-Some.ensures.left;
@@ -170,7 +170,7 @@ loop-index-preserved g c =
       held = omega (arith, same, fewer, more, filled, held, used);
       total = omega (arith, total, grown);
       counted = omega (arith, same, len, counted, c.move_row.ensures.counted);
-    }
+    })
 
 module _ (g : _) (c : In_default g) where
   -- no old row is left

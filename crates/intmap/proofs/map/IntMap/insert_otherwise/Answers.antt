@@ -1,0 +1,63 @@
+use Rattle.std.proofs.Common.{◌≡◌, ◌+◌, length, None, Some, refl, sym}
+use Rattle.intmap_table.specs.Bindings.{value_of}
+use Rattle.intmap.specs.Spots.{TakesOneMore}
+use Rattle.intmap.proofs.InsertionLemmas.{IsInsertion-added, IsInsertion-replaced}
+use Rattle.intmap.proofs.RefusalLemmas.{RefusalIsDue-memory}
+use Rattle.intmap.proofs.MapLemmas.{placed-same, IsConsistent-replaced}
+use Rattle.intmap.proofs.SpotLemmas.{IsConsistent-one_more, MapState-counted}
+use Rattle.intmap.proofs.map.IntMap.insert_otherwise.Goals as goal
+use Rattle.intmap.proofs.map.IntMap.insert_otherwise.Goals.{After-put, In-Ok-Some, In-Ok-None}
+
+takes : (g : _) (c : After-put g) → TakesOneMore c.self.inside.table.walk c.self.inside.table.capacity c.self.inside.factor
+takes g c = rw (← c.self.view_is) at c.if-not-takes_one_more.ensures
+
+-- the key is present
+bound : (g : _) (c : In-Ok-Some g) → value_of g.K.IntKey.number_of c.self.inside.table.walk c.args.key ≡ Some c.in-Ok-Some.old
+bound g c = sym (rw c.in-Ok-Some.field-0-is at c.in-Ok-Some.ensures.value)
+
+-- it is absent
+missing : (g : _) (c : In-Ok-None g) → value_of g.K.IntKey.number_of c.self.inside.table.walk c.args.key ≡ None
+missing g c = sym (rw c.in-Ok-None.field-0-is at c.in-Ok-None.ensures.value)
+
+pub invariant_of-self : goal.invariant_of-self
+invariant_of-self g c =
+    let told = c.in-Ok-Some.ensures in
+    IsConsistent-replaced _ _ _ _ _ _ _ _ c.self.invariant c.put.new.self.capacity c.args.key c.new.result c.in-Ok-Some.old told.capacity told.known (bound g (goal.at.invariant_of-self g c).In-Ok-Some) told.walk
+
+pub returns-in-Ok-Some-clause-inserted : goal.returns-in-Ok-Some-clause-inserted
+returns-in-Ok-Some-clause-inserted g c =
+    let told = c.in-Ok-Some.ensures in
+    rw (← c.self.view_is) (IsInsertion-replaced g.K.IntKey.number_of g.K.IntKey.is_valid _ _ c.args.key c.args.value c.in-Ok-Some.old (bound g (goal.at.returns-in-Ok-Some-clause-inserted g c).In-Ok-Some) c.self.invariant.map (invariant_of-self g c).map
+    (rw told.capacity (rw c.new.ensures at told.walk)) told.capacity)
+
+pub returns-in-Ok-Some-clause-state : goal.returns-in-Ok-Some-clause-state
+returns-in-Ok-Some-clause-state g c =
+    let told = c.in-Ok-Some.ensures in
+    rw (← c.self.view_is, told.capacity) (MapState-counted (rw c.new.ensures at told.walk) refl (placed-same c.self.inside.table.capacity c.self.inside.placed (length c.self.inside.table.walk + 1)) told.counted)
+
+pub returns-in-Ok-Some-clause-valid_after : goal.returns-in-Ok-Some-clause-valid_after
+returns-in-Ok-Some-clause-valid_after g c = (invariant_of-self g c).map
+
+pub invariant_of-self-in-Ok-None : goal.invariant_of-self-in-Ok-None
+invariant_of-self-in-Ok-None g c =
+    let at = goal.at.invariant_of-self-in-Ok-None g c in let told = c.in-Ok-None.ensures in
+    IsConsistent-one_more _ _ _ _ _ _ _ _ c.self.invariant c.put.new.self.capacity c.args.key c.new.result told.capacity told.known (missing g at.In-Ok-None) (takes g at.After-put) told.walk
+
+pub returns-in-Ok-None-clause-inserted : goal.returns-in-Ok-None-clause-inserted
+returns-in-Ok-None-clause-inserted g c =
+    let at = goal.at.returns-in-Ok-None-clause-inserted g c in let told = c.in-Ok-None.ensures in let more = takes g at.After-put in
+    rw (← c.self.view_is) (IsInsertion-added g.K.IntKey.number_of g.K.IntKey.is_valid _ _ c.args.key c.args.value (missing g at.In-Ok-None) c.self.invariant.map (invariant_of-self-in-Ok-None g c).map (rw told.capacity (rw c.new.ensures at told.walk))
+    more.count (rw told.capacity more.stays))
+
+pub returns-in-Ok-None-clause-state : goal.returns-in-Ok-None-clause-state
+returns-in-Ok-None-clause-state g c =
+    let told = c.in-Ok-None.ensures in
+    rw (← c.self.view_is, told.capacity) (MapState-counted (rw c.new.ensures at told.walk) refl (placed-same c.self.inside.table.capacity c.self.inside.placed (length c.self.inside.table.walk + 1)) told.counted)
+
+pub returns-in-Ok-None-clause-valid_after : goal.returns-in-Ok-None-clause-valid_after
+returns-in-Ok-None-clause-valid_after g c = (invariant_of-self-in-Ok-None g c).map
+
+pub returns-in-Err-clause-refused : goal.returns-in-Err-clause-refused
+returns-in-Err-clause-refused g c =
+    let more = takes g (goal.at.returns-in-Err-clause-refused g c).After-put in let told = c.in-Err.ensures in
+    rw (← c.self.view_is) (RefusalIsDue-memory g.K.IntKey.number_of _ c.args.key told.missing c.self.inside.table.capacity more.count c.self.invariant.map.capacity more.stays (λ _. told.memory))

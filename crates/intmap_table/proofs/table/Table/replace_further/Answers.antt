@@ -1,0 +1,34 @@
+use Rattle.std.proofs.Common.{◌∙◌, ap}
+use Rattle.intmap_table.specs.Tables.Slots.{joined}
+use Rattle.intmap_table.proofs.Tables.MemoryLemmas.{OnErr-always}
+use Rattle.intmap_table.proofs.Tables.TableLemmas.{IsSlot, slot_of-joined, value_of-here, walk-put, Belong-taken, Belong-push, IsTable-set}
+use Rattle.intmap_table.proofs.table.Table.replace_further.Goals as goal
+
+pub replace_further-requires-clause-other : goal.replace_further-requires-clause-other
+replace_further-requires-clause-other g c = rw (slot_of-joined g.K.IntKey.number_of c.self.inside.slots.rows c.self.invariant c.args.slot) at (rw (← c.self.view_is) at c.requires.other)
+
+pub returns-in_err-old-clause-missing : goal.returns-in_err-old-clause-missing
+returns-in_err-old-clause-missing g c =
+    let R = c.self.inside.slots.rows in let i = c.args.slot in let k = c.args.key in let at : IsSlot g.K.IntKey.number_of R i k = record { table = c.self.invariant; slot = rw (← c.self.view_is) at c.requires.slot } in
+    OnErr-always c.from_residual.result (rw (← c.self.view_is) (value_of-here g.K.IntKey.number_of R i k at ∙ c.in_err-old.ensures.missing))
+
+pub returns-in_err-old-clause-counted : goal.returns-in_err-old-clause-counted
+returns-in_err-old-clause-counted g c = rw (← c.self.view_is) (rw (slot_of-joined g.K.IntKey.number_of c.self.inside.slots.rows c.self.invariant c.args.slot) c.replace_further.ensures.counted)
+
+pub invariant_of-self-2 : goal.invariant_of-self-2
+invariant_of-self-2 g c =
+    let R = c.self.inside.slots.rows in let i = c.args.slot in let k = c.args.key in let at : IsSlot g.K.IntKey.number_of R i k = record { table = c.self.invariant; slot = rw (← c.self.view_is) at c.requires.slot } in
+    rw c.in_ok-old.ensures.rows (IsTable-set g.K.IntKey.number_of R i k at _ (Belong-push g.K.IntKey.number_of R i k at _ c.args.value (Belong-taken g.K.IntKey.number_of R i k at)))
+
+pub returns-clause-value : goal.returns-clause-value
+returns-clause-value g c =
+    let R = c.self.inside.slots.rows in let i = c.args.slot in let k = c.args.key in let at : IsSlot g.K.IntKey.number_of R i k = record { table = c.self.invariant; slot = rw (← c.self.view_is) at c.requires.slot } in
+    rw (← c.self.view_is) (value_of-here g.K.IntKey.number_of R i k at ∙ c.in_ok-old.ensures.value)
+
+pub returns-clause-walk : goal.returns-clause-walk
+returns-clause-walk g c =
+    let R = c.self.inside.slots.rows in let i = c.args.slot in let k = c.args.key in let at : IsSlot g.K.IntKey.number_of R i k = record { table = c.self.invariant; slot = rw (← c.self.view_is) at c.requires.slot } in
+    rw (← c.self.view_is) (ap joined c.in_ok-old.ensures.rows ∙ walk-put g.K.IntKey.number_of R i k at c.args.value)
+
+pub returns-clause-counted : goal.returns-clause-counted
+returns-clause-counted g c = rw (← c.self.view_is) (rw (slot_of-joined g.K.IntKey.number_of c.self.inside.slots.rows c.self.invariant c.args.slot) c.replace_further.ensures.counted)

@@ -1,9 +1,0 @@
-use Rattle.intmap_table.proofs.Tables.LocationLemmas.{place-within, value_of-at}
-use Rattle.intmap_table.proofs.table.Table.value_at.Goals as goal
-
-pub value_at-requires : goal.value_at-requires
-value_at-requires g c = place-within g.K.IntKey.number_of c.self.inside.slots.rows c.args.at c.self.invariant (rw (← c.self.view_is) at c.requires)
-
-pub returns : goal.returns
-returns g c =
-    rw (← c.self.view_is) (value_of-at g.K.IntKey.number_of c.self.inside.slots.rows c.args.at c.self.invariant (rw (← c.self.view_is) at c.requires) c.value_at.result.now c.value_at.ensures)
