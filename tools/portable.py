@@ -15,7 +15,7 @@ from scopes import Scopes
 
 PARTS = "tools/portable_driver"
 # Functions that stay functions, so that no other becomes too long to read. The compiler of the C inlines them in LLVM's place.
-APART = ("IntMap::get_counted", "Slots::clone", "chain::last_in", "chain::seek", "chain::swap_behind", "Pool::add_new")
+APART = ("IntMap::get_counted", "Slots::clone", "chain::last_in", "chain::seek", "Pool::add_new")
 # How clang prints a module, with names: as it is given, and behind the optimiser. Vectors have no form in C, and unrolled
 # loops are longer and no faster.
 GIVEN = "-Xclang -disable-llvm-passes -fno-discard-value-names -S -emit-llvm"
@@ -52,6 +52,7 @@ HELPERS = {
     "llvm.ctlz.i64": ("high_zeros", 1),
     "llvm.ctpop.i64": ("ones_in", 1),
     "llvm.umax.i64": ("greater", 2),
+    "llvm.umin.i64": ("lesser", 2),
     "llvm.uadd.sat.i64": ("sum_or_most", 2),
 }
 MOVES = {"llvm.memset": "memset", "llvm.memcpy": "memcpy", "llvm.memmove": "memmove"}

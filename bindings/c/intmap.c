@@ -20,7 +20,7 @@
 //     grep -v '^// Compilers: ' intmap.c | sha256sum
 //
 // Compilers: rattle-kit-13f logic dac8208d650f15bf; clang version 22.1.8
-// Sources: 78682bc5caf9fa8c9c3be425c8a9095f87710f350c0ea1a54d9327af2d8db53d
+// Sources: a9b92d6ef791d021529387b1b3cd771674185d0884035b9894d813def9e16e89
 //
 // SPDX-License-Identifier: MIT
 //
@@ -214,6 +214,10 @@ static inline uint64_t greater(uint64_t one, uint64_t other) {
     return one > other ? one : other;
 }
 
+static inline uint64_t lesser(uint64_t one, uint64_t other) {
+    return one < other ? one : other;
+}
+
 static inline uint64_t sum_or_most(uint64_t one, uint64_t other) {
     return one > ~other ? UINT64_MAX : one + other;
 }
@@ -342,6 +346,16 @@ struct word_word {
 };
 static inline struct word_word made_word_word(uint64_t first, uint64_t second) {
     struct word_word made;
+    made.first = first;
+    made.second = second;
+    return made;
+}
+struct byte_word {
+    uint8_t first;
+    uint64_t second;
+};
+static inline struct byte_word made_byte_word(uint8_t first, uint64_t second) {
+    struct byte_word made;
     made.first = first;
     made.second = second;
     return made;
@@ -519,6 +533,13 @@ enum {
     SLOT_VALUE = 16,
     SLOT_SIZE = 24
 };
+// Vec, in Rattle's library
+enum {
+    VEC_ADDRESS = 0,
+    VEC_LEN = 8,
+    VEC_ROOM = 16,
+    VEC_SIZE = 24
+};
 // A position in a walk: before the pair at this place of this slot or, if the slot has no such pair, before the pairs
 // of the slots behind it.
 // Cursor, in crates/intmap_table/src/table/walk.rt
@@ -536,32 +557,39 @@ enum {
 // Numbers that the sources name. Statuses are those of intmap.h, without a sign.
 
 #define MULTIPLIER UINT64_C(11400714819323198549)
-#define NODE_LIMIT UINT64_C(281470681743360)
-#define NOWHERE UINT64_C(281474976710655)
 #define NOWHERE_HIGH 65535
+#define NOWHERE UINT64_C(281474976710655)
 #define NOWHERE_LOW 4294967295u
+#define NODE_LIMIT UINT64_C(281470681743360)
 #define NO_MEMORY 4294967295u
 #define TOO_LARGE 4294967294u
 #define GREATEST_CAPACITY UINT64_C(9223372036854775808)
 #define MOST_FIRST_PAIRS UINT64_C(8393268553537845985)
 
-static ALWAYS_INLINE uint64_t chain_seek(char *pool, uint64_t from, uint64_t place);
 static ALWAYS_INLINE struct byte_address intmap_get_counted(char *map, uint64_t key);
-static ALIGNED NOINLINE struct word_word row_take_first_of_several(char *slot, uint64_t link, char *pool);
-static ALWAYS_INLINE uint64_t chain_swap_behind(uint64_t link, char *pool, uint64_t place, uint64_t a3, uint64_t a4);
+static ALWAYS_INLINE uint64_t chain_seek(char *pool, uint64_t from, uint64_t place);
+static ALIGNED NOINLINE struct word_word removal_take_first_of_several(char *slot, uint64_t link, char *pool);
+static ALIGNED NOINLINE struct byte_word removal_remove_of_several(char *slot, uint64_t link, char *pool, uint64_t key);
 static ALWAYS_INLINE void slots_clone(char *result, char *map);
+static ALIGNED NOINLINE struct byte_word clone_clone_chain(char *pool, uint64_t from, char *made);
 static ALWAYS_INLINE void pool_add_new(char *result, char *nodes_at, uint64_t link, uint64_t a3, uint64_t a4);
 static COLD bool vec_grow_amortized(char *nodes_at);
+static ALIGNED NOINLINE void slots_add_empty(char *slots, uint64_t count);
+static COLD bool vec_grow_amortized_2(char *vec, uint64_t a1);
 static ALIGNED uint32_t make_keep(char *handle, char *made);
 static ALIGNED void intmap_of_slots(char *result, uint64_t slots);
-static ALIGNED void slots_new(char *result, uint64_t capacity, uint64_t room);
 static ALIGNED NOINLINE struct byte_address handle_make_first(void);
-static ALIGNED NOINLINE void intmap_add_growing(char *result, char *map, uint64_t len, uint64_t slot, uint64_t key, uint64_t value);
-static ALIGNED void slots_move_all(char *map, char *new_);
-static ALIGNED NOINLINE struct word_word row_take_first_of_several_2(char *slot, uint64_t link, char *pool);
-static ALIGNED NOINLINE void row_put_behind_first(char *slot, char *pool, uint64_t a2, uint64_t a3);
-static ALWAYS_INLINE uint64_t chain_last_in(char *pool, uint64_t from);
-static ALWAYS_INLINE struct word_word chain_last_in_2(char *pool, uint64_t from);
+static ALIGNED NOINLINE void intmap_add_growing(char *result, char *map, uint64_t slot, uint64_t key, uint64_t value);
+static ALIGNED uint8_t slots_enlarge(char *map, uint64_t capacity, uint64_t room);
+static ALIGNED NOINLINE void growth_put_before_first(char *slot, char *a1, uint64_t a2, uint64_t a3);
+static ALIGNED NOINLINE void growth_put_behind_first(char *slot, char *a1, uint64_t a2, uint64_t a3);
+static ALIGNED NOINLINE void insertion_push_further(char *result, char *slot, char *pool, uint64_t a3, uint64_t a4);
+static ALWAYS_INLINE struct word_word chain_last_in(char *pool, uint64_t from);
+static COLD uint64_t insertion_replace_first_of_several(char *slot, uint64_t link, char *pool, uint64_t a3, uint64_t a4);
+static ALWAYS_INLINE uint64_t chain_last_in_2(char *pool, uint64_t from);
+static ALIGNED NOINLINE void intmap_insert_otherwise(char *result, char *map, uint64_t slot, uint64_t key, uint64_t value);
+static ALWAYS_INLINE void pool_add_new_2(char *result, char *nodes_at, uint64_t a3, uint64_t a4);
+static COLD bool vec_grow_amortized_3(char *nodes_at);
 static ALIGNED uint8_t table_grow_to(char *map, uint64_t capacity, uint64_t additional);
 static ALWAYS_INLINE void do_intmap_place(char *word, uint64_t key, char *at);
 static ALWAYS_INLINE uint32_t do_intmap_version(void);
@@ -589,6 +617,37 @@ static ALWAYS_INLINE uint32_t do_intmap_reserve_insertions(char *handle, uint64_
 static ALWAYS_INLINE uint32_t do_intmap_reserve_slots(char *handle, uint64_t additional);
 static ALWAYS_INLINE uint32_t do_intmap_set_load_factor(char *handle, uint64_t thousandths);
 
+// The same as `get`, but each comparison of a stored key with the sought one is counted in `steps`.
+// intmap::map::IntMap::get_counted, in crates/intmap/src/map/get.rt
+static ALWAYS_INLINE struct byte_address intmap_get_counted(char *map, uint64_t key) {
+    char *x2;
+    char *slot = load_address(map + INT_MAP_SLOTS) + ((load64(map + INT_MAP_MASK) & (key * MULTIPLIER)) * SLOT_SIZE);
+    if (load8(slot + SLOT_HAS_PAIR) != 1) {
+        return made_byte_address(0, NULL);
+    }
+    if (load64(slot + SLOT_KEY) == key) {
+        x2 = slot;
+    } else {
+        uint64_t nodes_len = load64(map + INT_MAP_NODES_LEN);
+        uint64_t at = link_of(load16(slot + SLOT_HIGH), load32(slot + SLOT_LOW));
+        for (;;) {
+            if (nodes_len <= at) {
+                return made_byte_address(0, NULL);
+            }
+            char *node = load_address(map + INT_MAP_NODES) + (at * NODE_SIZE);
+            if (load8(node + NODE_HAS_PAIR) != 1) {
+                return made_byte_address(0, NULL);
+            }
+            if (load64(node + NODE_KEY) == key) {
+                x2 = node;
+                break;
+            }
+            at = link_of(load16(node + NODE_HIGH), load32(node + NODE_LOW));
+        }
+    }
+    return made_byte_address(1, x2 + 16);
+}
+
 // The node at a place of a chain.
 // intmap_table::linked::chain::seek, in crates/intmap_table/src/linked/chain.rt
 static ALWAYS_INLINE uint64_t chain_seek(char *pool, uint64_t from, uint64_t place) {
@@ -613,57 +672,9 @@ static ALWAYS_INLINE uint64_t chain_seek(char *pool, uint64_t from, uint64_t pla
     }
 }
 
-// The same as `get`, but each comparison of a stored key with the sought one is counted in `steps`.
-// intmap::map::IntMap::get_counted, in crates/intmap/src/map/get.rt
-static ALWAYS_INLINE struct byte_address intmap_get_counted(char *map, uint64_t key) {
-    char *r11;
-    char *slot = load_address(map + INT_MAP_SLOTS) + ((load64(map + INT_MAP_MASK) & (key * MULTIPLIER)) * SLOT_SIZE);
-    if (load8(slot + SLOT_HAS_PAIR) != 1) {
-        return made_byte_address(0, NULL);
-    }
-    uint64_t link = link_of(load16(slot + SLOT_HIGH), load32(slot + SLOT_LOW));
-    if (load64(slot + SLOT_KEY) == key) {
-        r11 = slot;
-    } else {
-        uint64_t nodes_len = load64(map + INT_MAP_NODES_LEN);
-        if (nodes_len <= link) {
-            return made_byte_address(0, NULL);
-        }
-        char *nodes = load_address(map + INT_MAP_NODES);
-        uint64_t at = link;
-        uint64_t r2_0 = 0;
-        for (;;) {
-            char *node = nodes + (at * NODE_SIZE);
-            if (load8(node + NODE_HAS_PAIR) != 1) {
-                return made_byte_address(0, NULL);
-            }
-            if (load64(node + NODE_KEY) == key) {
-                if (r2_0 == UINT64_MAX) {
-                    r11 = slot;
-                    break;
-                }
-                uint64_t at_2 = chain_seek(map + INT_MAP_NODES, link, r2_0);
-                char *node_2 = load_address(map + INT_MAP_NODES) + (at_2 * NODE_SIZE);
-                if (load8(node_2 + NODE_HAS_PAIR) != 1) {
-                    abort(); // The proof excludes this.
-                }
-                r11 = node_2;
-                break;
-            }
-            uint64_t link_2 = link_of(load16(node + NODE_HIGH), load32(node + NODE_LOW));
-            if (nodes_len <= link_2) {
-                return made_byte_address(0, NULL);
-            }
-            at = link_2;
-            r2_0 = r2_0 + 1;
-        }
-    }
-    return made_byte_address(1, r11 + 16);
-}
-
 // Removes the first pair of a slot that holds others, which move up by one place.
-// intmap_table::linked::row::take_first_of_several, in crates/intmap_table/src/linked/row.rt
-static ALIGNED NOINLINE struct word_word row_take_first_of_several(char *slot, uint64_t link, char *pool) {
+// intmap_table::linked::row::removal::take_first_of_several, in crates/intmap_table/src/linked/row/removal.rt
+static ALIGNED NOINLINE struct word_word removal_take_first_of_several(char *slot, uint64_t link, char *pool) {
     char *node = load_address(pool + POOL_NODES) + (link * NODE_SIZE);
     if (load8(node + NODE_HAS_PAIR) != 1) {
         abort(); // The proof excludes this.
@@ -691,30 +702,175 @@ static ALIGNED NOINLINE struct word_word row_take_first_of_several(char *slot, u
     return made_word_word(key_2, value_2);
 }
 
-// Puts a pair into the place of another of those that a link leads through, and returns that one.
-// intmap_table::linked::chain::swap_behind, in crates/intmap_table/src/linked/chain.rt
-static ALWAYS_INLINE uint64_t chain_swap_behind(uint64_t link, char *pool, uint64_t place, uint64_t a3, uint64_t a4) {
-    uint64_t at = chain_seek(pool, link, place);
-    char *node = load_address(pool + POOL_NODES) + (at * NODE_SIZE);
-    if (load8(node + NODE_HAS_PAIR) != 1) {
+// Removes the key's pair from a slot that holds several.
+// intmap_table::linked::row::removal::remove_of_several, in crates/intmap_table/src/linked/row/removal.rt
+static ALIGNED NOINLINE struct byte_word removal_remove_of_several(char *slot, uint64_t link, char *pool, uint64_t key) {
+    if (load8(slot + SLOT_HAS_PAIR) != 1) {
         abort(); // The proof excludes this.
     }
-    uint64_t value = load64(node + NODE_VALUE);
-    store64(node + NODE_KEY, a3);
-    store64(node + NODE_VALUE, a4);
-    return value;
+    if (load64(slot + SLOT_KEY) == key) {
+        uint64_t r6, at, r2_0, link_2;
+        char *nodes = load_address(pool + POOL_NODES);
+        uint64_t r8 = link * NODE_SIZE;
+        char *node = nodes + r8;
+        if (load8(node + NODE_HAS_PAIR) != 1) {
+            abort(); // The proof excludes this.
+        }
+        uint16_t high = load16(node + NODE_HIGH);
+        if (high == NOWHERE_HIGH) {
+            r6 = r8;
+            at = NOWHERE;
+            r2_0 = link;
+        } else {
+            uint64_t at_2 = link_of(high, load32(node + NODE_LOW));
+            uint64_t r2_0_2 = link;
+            for (;;) {
+                uint64_t r8_2 = at_2 * NODE_SIZE;
+                char *node_2 = nodes + r8_2;
+                if (load8(node_2 + NODE_HAS_PAIR) != 1) {
+                    abort(); // The proof excludes this.
+                }
+                uint16_t high_2 = load16(node_2 + NODE_HIGH);
+                if (high_2 == NOWHERE_HIGH) {
+                    r6 = r8_2;
+                    at = r2_0_2;
+                    r2_0 = at_2;
+                    break;
+                }
+                r2_0_2 = at_2;
+                at_2 = link_of(high_2, load32(node_2 + NODE_LOW));
+            }
+        }
+        char *node_3 = nodes + r6;
+        uint64_t free = load64(pool + POOL_FREE);
+        uint64_t key_2 = load64(node_3 + NODE_KEY);
+        uint64_t value = load64(node_3 + NODE_VALUE);
+        store16(node_3 + NODE_HAS_PAIR, 0);
+        store16(node_3 + NODE_HIGH, (uint16_t)(free >> 32));
+        store32(node_3 + NODE_LOW, (uint32_t)free);
+        memset(node_3 + NODE_KEY, 0, PAIR_SIZE);
+        store64(pool + POOL_FREE, r2_0);
+        store64(pool + POOL_SPARE, load64(pool + POOL_SPARE) + 1);
+        if (at > UINT64_C(281470681743359)) {
+            link_2 = NOWHERE;
+        } else {
+            char *node_4 = load_address(pool + POOL_NODES) + (at * NODE_SIZE);
+            if (load8(node_4 + NODE_HAS_PAIR) != 1) {
+                abort(); // The proof excludes this.
+            }
+            store16(node_4 + NODE_HIGH, NOWHERE_HIGH);
+            store32(node_4 + NODE_LOW, NOWHERE_LOW);
+            link_2 = link;
+        }
+        if (load8(slot + SLOT_HAS_PAIR) != 1) {
+            abort(); // The proof excludes this.
+        }
+        store16(slot + SLOT_HIGH, (uint16_t)(link_2 >> 32));
+        store32(slot + SLOT_LOW, (uint32_t)link_2);
+        uint64_t value_2 = load64(slot + SLOT_VALUE);
+        store64(slot + SLOT_KEY, key_2);
+        store64(slot + SLOT_VALUE, value);
+        return made_byte_word(1, value_2);
+    }
+    uint64_t nodes_len = load64(pool + POOL_NODES_LEN);
+    uint64_t at_3 = link;
+    uint64_t at_4 = NOWHERE;
+    for (;;) {
+        if (nodes_len <= at_3) {
+            return made_byte_word(0, 0);
+        }
+        char *nodes_2 = load_address(pool + POOL_NODES);
+        uint64_t r8_3 = at_3 * NODE_SIZE;
+        char *node_5 = nodes_2 + r8_3;
+        if (load8(node_5 + NODE_HAS_PAIR) != 1) {
+            return made_byte_word(0, 0);
+        }
+        uint16_t high_3 = load16(node_5 + NODE_HIGH);
+        uint64_t link_3 = link_of(high_3, load32(node_5 + NODE_LOW));
+        if (load64(node_5 + NODE_KEY) == key) {
+            uint64_t key_3, r6_2, at_5, at_6, link_4, value_4;
+            if (high_3 == NOWHERE_HIGH) {
+                key_3 = key;
+                r6_2 = r8_3;
+                at_5 = at_4;
+                at_6 = at_3;
+            } else {
+                uint64_t at_7 = link_3;
+                uint64_t at_8 = at_3;
+                for (;;) {
+                    uint64_t r8_4 = at_7 * NODE_SIZE;
+                    char *node_6 = nodes_2 + r8_4;
+                    if (load8(node_6 + NODE_HAS_PAIR) != 1) {
+                        abort(); // The proof excludes this.
+                    }
+                    uint16_t high_4 = load16(node_6 + NODE_HIGH);
+                    if (high_4 == NOWHERE_HIGH) {
+                        key_3 = load64(node_6 + NODE_KEY);
+                        r6_2 = r8_4;
+                        at_5 = at_8;
+                        at_6 = at_7;
+                        break;
+                    }
+                    at_8 = at_7;
+                    at_7 = link_of(high_4, load32(node_6 + NODE_LOW));
+                }
+            }
+            char *node_7 = nodes_2 + r6_2;
+            uint64_t free_2 = load64(pool + POOL_FREE);
+            uint64_t value_3 = load64(node_7 + NODE_VALUE);
+            store16(node_7 + NODE_HAS_PAIR, 0);
+            store16(node_7 + NODE_HIGH, (uint16_t)(free_2 >> 32));
+            store32(node_7 + NODE_LOW, (uint32_t)free_2);
+            memset(node_7 + NODE_KEY, 0, PAIR_SIZE);
+            store64(pool + POOL_FREE, at_6);
+            store64(pool + POOL_SPARE, load64(pool + POOL_SPARE) + 1);
+            if (at_5 > UINT64_C(281470681743359)) {
+                link_4 = NOWHERE;
+            } else {
+                char *node_8 = load_address(pool + POOL_NODES) + (at_5 * NODE_SIZE);
+                if (load8(node_8 + NODE_HAS_PAIR) != 1) {
+                    abort(); // The proof excludes this.
+                }
+                store16(node_8 + NODE_HIGH, NOWHERE_HIGH);
+                store32(node_8 + NODE_LOW, NOWHERE_LOW);
+                link_4 = link;
+            }
+            if (at_6 == at_3) {
+                value_4 = value_3;
+            } else {
+                char *node_9 = load_address(pool + POOL_NODES) + r8_3;
+                if (load8(node_9 + NODE_HAS_PAIR) != 1) {
+                    abort(); // The proof excludes this.
+                }
+                uint64_t value_5 = load64(node_9 + NODE_VALUE);
+                store64(node_9 + NODE_KEY, key_3);
+                store64(node_9 + NODE_VALUE, value_3);
+                value_4 = value_5;
+            }
+            if (load8(slot + SLOT_HAS_PAIR) != 1) {
+                abort(); // The proof excludes this.
+            }
+            store16(slot + SLOT_HIGH, (uint16_t)(link_4 >> 32));
+            store32(slot + SLOT_LOW, (uint32_t)link_4);
+            return made_byte_word(1, value_4);
+        }
+        at_4 = at_3;
+        at_3 = link_3;
+    }
 }
 
 // The same keys in the same slots, with clones of their values.
 // intmap_table::table::slots::Slots::clone, in crates/intmap_table/src/table/slots/clone.rt
 static ALWAYS_INLINE void slots_clone(char *result, char *map) {
-    char *r19, *r9_45_0_ph34, *r26;
-    uint64_t r7_pre_phi33;
+    char *r15, *r9_45_0_ph34, *r20;
+    uint64_t r7_pre_phi33, r42;
     char *dangling = (char *)no_bytes;
-    uint64_t r13_room[3];
-    char *r13 = (char *)r13_room;
-    uint64_t r0_27_room[5];
-    char *r0_27 = (char *)r0_27_room;
+    uint64_t r0_24_room[3];
+    char *r0_24 = (char *)r0_24_room;
+    uint64_t r0_25_room[5];
+    char *r0_25 = (char *)r0_25_room;
+    uint64_t vec_room[3];
+    char *vec = (char *)vec_room;
     uint64_t nodes_at_room[5];
     char *nodes_at = (char *)nodes_at_room;
     memset(nodes_at, 0, POOL_SIZE);
@@ -724,7 +880,7 @@ static ALWAYS_INLINE void slots_clone(char *result, char *map) {
         if (slots_len < TOO_MANY(24)) {
             struct word_word block = rattle_alloc(slots_len * 24, 8);
             if ((block.first & 1) != 0) {
-                r19 = (char *)(uintptr_t)block.second;
+                r15 = (char *)(uintptr_t)block.second;
                 goto arm_1;
             }
         }
@@ -732,20 +888,23 @@ static ALWAYS_INLINE void slots_clone(char *result, char *map) {
         memset(result + MADE_SLOTS_MASK, 0, SLOTS_SIZE);
         return;
     }
-    r19 = dangling;
+    r15 = dangling;
 arm_1:;
+    store_address(vec + VEC_ADDRESS, r15);
+    store64(vec + VEC_LEN, 0);
+    store64(vec + VEC_ROOM, slots_len);
     char *words = load_address(map + INT_MAP_WORDS);
     uint64_t words_len = load64(map + INT_MAP_WORDS_LEN);
     bool r12_2 = words_len == 0;
     if (!r12_2) {
         if (words_len < TOO_MANY(8)) {
-            uint64_t r19_2 = words_len << 3;
-            struct word_word block_2 = rattle_alloc(r19_2, 8);
+            uint64_t r19 = words_len << 3;
+            struct word_word block_2 = rattle_alloc(r19, 8);
             if ((block_2.first & 1) != 0) {
                 char *r8 = (char *)(uintptr_t)block_2.second;
-                if ((block_2.second - ((uint64_t)(uintptr_t)words)) >= r19_2) {
+                if ((block_2.second - ((uint64_t)(uintptr_t)words)) >= r19) {
                     r9_45_0_ph34 = r8;
-                    r7_pre_phi33 = r19_2;
+                    r7_pre_phi33 = r19;
                     goto apart_2;
                 }
                 uint64_t r0_05 = 0;
@@ -754,7 +913,7 @@ arm_1:;
                     store64(r8 + r18, load64(words + r18));
                     uint64_t r30 = r0_05 + 1;
                     if (r30 == words_len) {
-                        r26 = r8;
+                        r20 = r8;
                         goto arm_5;
                     }
                     r0_05 = r30;
@@ -762,7 +921,7 @@ arm_1:;
             }
         }
         if (!r12) {
-            rattle_dealloc(r19);
+            rattle_dealloc(r15);
         }
         store8(result + MADE_SLOTS_HAS_FAILED, 1);
         memset(result + MADE_SLOTS_MASK, 0, SLOTS_SIZE);
@@ -772,133 +931,175 @@ arm_1:;
     r7_pre_phi33 = 0;
 apart_2:;
     memmove(r9_45_0_ph34, words, r7_pre_phi33);
-    r26 = r9_45_0_ph34;
+    r20 = r9_45_0_ph34;
 arm_5:;
     uint64_t nodes_len = load64(map + INT_MAP_NODES_LEN);
     uint64_t spare = load64(map + INT_MAP_SPARE);
     uint64_t r10 = nodes_len - spare;
     if (r10 <= NODE_LIMIT) {
-        char *r31;
+        char *r24;
+        uint64_t bits;
         if (nodes_len == spare) {
-            r31 = dangling;
+            r24 = dangling;
         } else {
             struct word_word block_3 = rattle_alloc(r10 * 24, 8);
             if ((block_3.first & 1) == 0) {
                 goto arm_9;
             }
-            r31 = (char *)(uintptr_t)block_3.second;
+            r24 = (char *)(uintptr_t)block_3.second;
         }
-        store_address(nodes_at + POOL_NODES, r31);
+        store_address(nodes_at + POOL_NODES, r24);
         store64(nodes_at + POOL_NODES_LEN, 0);
         store64(nodes_at + POOL_NODES_ROOM, r10);
         store64(nodes_at + POOL_FREE, NOWHERE);
         store64(nodes_at + POOL_SPARE, 0);
         char *slots = load_address(map + INT_MAP_SLOTS);
         uint64_t slots_len_2 = load64(map + INT_MAP_SLOTS_LEN);
-        if (slots_len_2 != 0) {
-            uint64_t index = 0;
-            for (;;) {
-                uint64_t key_2, value_2;
-                uint16_t r48, r48_2;
-                uint32_t r48_3;
-                uint64_t r111 = index * SLOT_SIZE;
-                char *slot = slots + r111;
-                if (load8(slot + SLOT_HAS_PAIR) == 1) {
-                    uint16_t high = load16(slot + SLOT_HIGH);
-                    uint64_t value = load64(slot + SLOT_VALUE);
-                    uint64_t key = load64(slot + SLOT_KEY);
-                    if (high == NOWHERE_HIGH) {
-                        key_2 = key;
-                        value_2 = value;
-                        r48 = 1;
-                        r48_2 = NOWHERE_HIGH;
-                        r48_3 = NOWHERE_LOW;
-                    } else {
-                        uint64_t r10_2 = load64(nodes_at + POOL_NODES_LEN) - load64(nodes_at + POOL_SPARE);
-                        uint64_t at = link_of(high, load32(slot + SLOT_LOW));
-                        for (;;) {
-                            if (load64(map + INT_MAP_NODES_LEN) <= at) {
-                                break;
-                            }
-                            char *node = load_address(map + INT_MAP_NODES) + (at * NODE_SIZE);
-                            uint8_t has_pair = load8(node + NODE_HAS_PAIR);
-                            if (has_pair == 1) {
-                                uint16_t high_2 = load16(node + NODE_HIGH);
-                                uint64_t link = link_of(high_2, load32(node + NODE_LOW));
-                                pool_add_new(r13, nodes_at, (high_2 == NOWHERE_HIGH) ? NOWHERE : ((load64(nodes_at + POOL_NODES_LEN) + 1) - load64(nodes_at + POOL_SPARE)), load64(node + NODE_KEY), load64(node + NODE_VALUE));
-                                if (load8(r13) == 0) {
-                                    at = link;
-                                    continue;
-                                }
-                            } else {
-                                if (has_pair == 0) {
-                                    break;
-                                }
-                            }
-                            memset(r0_27, 0, 40);
-                            if (load64(nodes_at + POOL_NODES_ROOM) != 0) {
-                                rattle_dealloc(load_address(nodes_at + POOL_NODES));
-                            }
-                            if (!r12_2) {
-                                rattle_dealloc(r26);
-                            }
-                            if (!r12) {
-                                rattle_dealloc(r19);
-                            }
-                            store8(result + MADE_SLOTS_HAS_FAILED, 1);
-                            memset(result + MADE_SLOTS_MASK, 0, 56);
-                            memcpy(result + MADE_SLOTS_NODES, r0_27, POOL_SIZE);
-                            return;
-                        }
-                        key_2 = key;
-                        value_2 = value;
-                        r48 = 1;
-                        r48_2 = (uint16_t)(r10_2 >> 32);
-                        r48_3 = (uint32_t)r10_2;
-                    }
-                } else {
-                    key_2 = 0;
-                    value_2 = 0;
-                    r48 = 0;
-                    r48_2 = 0;
-                    r48_3 = 0;
-                }
-                char *r22 = r19 + r111;
-                store16(r22, r48);
-                store16(r22 + 2, r48_2);
-                store32(r22 + 4, r48_3);
-                store64(r22 + 8, key_2);
-                store64(r22 + 16, value_2);
-                uint64_t next_index = index + 1;
-                if (next_index == slots_len_2) {
-                    break;
-                }
-                index = next_index;
-            }
+        if (load64(map + INT_MAP_WORDS_LEN) == 0) {
+            bits = 0;
+        } else {
+            bits = load64(load_address(map + INT_MAP_WORDS));
         }
-        uint64_t mask = load64(map + INT_MAP_MASK);
-        store8(result + MADE_SLOTS_HAS_FAILED, 0);
-        store64(result + MADE_SLOTS_MASK, mask);
-        store_address(result + MADE_SLOTS_WORDS, r26);
-        store64(result + MADE_SLOTS_WORDS_LEN, words_len);
-        store64(result + MADE_SLOTS_WORDS_ROOM, words_len);
-        store_address(result + MADE_SLOTS_SLOTS, r19);
-        store64(result + MADE_SLOTS_SLOTS_LEN, slots_len_2);
-        store64(result + MADE_SLOTS_SLOTS_ROOM, slots_len);
-        memcpy(result + MADE_SLOTS_NODES, nodes_at, POOL_SIZE);
-        return;
+        uint64_t r4 = 0;
+        uint64_t r4_2 = bits;
+        for (;;) {
+            uint64_t r4_4, r4_5, key_2, value_2;
+            uint16_t r19_2, r19_3;
+            uint32_t r19_4;
+            if (r4_2 == 0) {
+                uint64_t words_len_2 = load64(map + INT_MAP_WORDS_LEN);
+                uint64_t r4_3 = r4;
+                for (;;) {
+                    uint64_t r26 = r4_3 + 1;
+                    if (words_len_2 <= r26) {
+                        slots_add_empty(vec, slots_len_2);
+                        uint64_t mask = load64(map + INT_MAP_MASK);
+                        store8(result + MADE_SLOTS_HAS_FAILED, 0);
+                        store64(result + MADE_SLOTS_MASK, mask);
+                        store_address(result + MADE_SLOTS_WORDS, r20);
+                        store64(result + MADE_SLOTS_WORDS_LEN, words_len);
+                        store64(result + MADE_SLOTS_WORDS_ROOM, words_len);
+                        memcpy(result + MADE_SLOTS_SLOTS, vec, VEC_SIZE);
+                        memcpy(result + MADE_SLOTS_NODES, nodes_at, POOL_SIZE);
+                        return;
+                    }
+                    uint64_t bits_2 = load64(load_address(map + INT_MAP_WORDS) + (r26 << 3));
+                    if (bits_2 != 0) {
+                        r4_4 = r26;
+                        r4_5 = bits_2;
+                        break;
+                    }
+                    r4_3 = r26;
+                }
+            } else {
+                r4_4 = r4;
+                r4_5 = r4_2;
+            }
+            uint64_t r49 = place_of_lowest_1(r4_5);
+            uint64_t index = r49 | (r4_4 << 6);
+            uint64_t r64 = (r4_5 - 1) & r4_5;
+            if (load64(vec + VEC_LEN) <= index) {
+                uint64_t a1_a0 = lesser(index + 64, slots_len_2);
+                slots_add_empty(vec, a1_a0);
+            }
+            uint64_t r63 = index * SLOT_SIZE;
+            char *slot = slots + r63;
+            if (load8(slot + SLOT_HAS_PAIR) == 1) {
+                uint16_t high = load16(slot + SLOT_HIGH);
+                uint64_t value = load64(slot + SLOT_VALUE);
+                uint64_t key = load64(slot + SLOT_KEY);
+                if (high == NOWHERE_HIGH) {
+                    key_2 = key;
+                    value_2 = value;
+                    r19_2 = 1;
+                    r19_3 = NOWHERE_HIGH;
+                    r19_4 = NOWHERE_LOW;
+                } else {
+                    struct byte_word r92 = clone_clone_chain(map + INT_MAP_NODES, link_of(high, load32(slot + SLOT_LOW)), nodes_at);
+                    if (r92.first != 0) {
+                        memset(r0_24, 0, 24);
+                        memset(r0_25, 0, 40);
+                        if (load64(nodes_at + POOL_NODES_ROOM) != 0) {
+                            rattle_dealloc(load_address(nodes_at + POOL_NODES));
+                        }
+                        if (!r12_2) {
+                            rattle_dealloc(r20);
+                        }
+                        if (load64(vec + VEC_ROOM) != 0) {
+                            rattle_dealloc(load_address(vec + VEC_ADDRESS));
+                        }
+                        store8(result + MADE_SLOTS_HAS_FAILED, 1);
+                        memset(result + MADE_SLOTS_MASK, 0, 32);
+                        memcpy(result + MADE_SLOTS_SLOTS, r0_24, VEC_SIZE);
+                        memcpy(result + MADE_SLOTS_NODES, r0_25, POOL_SIZE);
+                        return;
+                    }
+                    key_2 = key;
+                    value_2 = value;
+                    r19_2 = 1;
+                    r19_3 = (uint16_t)(r92.second >> 32);
+                    r19_4 = (uint32_t)r92.second;
+                }
+            } else {
+                key_2 = 0;
+                value_2 = 0;
+                r19_2 = 0;
+                r19_3 = 0;
+                r19_4 = 0;
+            }
+            char *r9 = load_address(vec + VEC_ADDRESS) + r63;
+            store16(r9, r19_2);
+            store16(r9 + 2, r19_3);
+            store32(r9 + 4, r19_4);
+            store64(r9 + 8, key_2);
+            store64(r9 + 16, value_2);
+            r4 = r4_4;
+            r4_2 = r64;
+        }
     }
 arm_9:;
-    memset(r0_27, 0, 40);
-    if (!r12_2) {
-        rattle_dealloc(r26);
+    memset(r0_24, 0, 24);
+    memset(r0_25, 0, 40);
+    if (r12_2) {
+        r42 = slots_len;
+    } else {
+        rattle_dealloc(r20);
+        r42 = load64(vec + VEC_ROOM);
     }
-    if (!r12) {
-        rattle_dealloc(r19);
+    if (r42 != 0) {
+        rattle_dealloc(load_address(vec + VEC_ADDRESS));
     }
     store8(result + MADE_SLOTS_HAS_FAILED, 1);
-    memset(result + MADE_SLOTS_MASK, 0, 56);
-    memcpy(result + MADE_SLOTS_NODES, r0_27, POOL_SIZE);
+    memset(result + MADE_SLOTS_MASK, 0, 32);
+    memcpy(result + MADE_SLOTS_SLOTS, r0_24, VEC_SIZE);
+    memcpy(result + MADE_SLOTS_NODES, r0_25, POOL_SIZE);
+}
+
+// Puts clones of the pairs that a link leads through, of which there is at least one, into new nodes of `made`, in
+// their order, and returns the link to them.
+// intmap_table::table::slots::clone::clone_chain, in crates/intmap_table/src/table/slots/clone.rt
+static ALIGNED NOINLINE struct byte_word clone_clone_chain(char *pool, uint64_t from, char *made) {
+    uint64_t r13_room[3];
+    char *r13 = (char *)r13_room;
+    uint64_t r10 = load64(made + POOL_NODES_LEN) - load64(made + POOL_SPARE);
+    uint64_t at = from;
+    for (;;) {
+        if (load64(pool + POOL_NODES_LEN) <= at) {
+            return made_byte_word(0, r10);
+        }
+        char *node = load_address(pool + POOL_NODES) + (at * NODE_SIZE);
+        uint8_t has_pair = load8(node + NODE_HAS_PAIR);
+        if (has_pair != 1) {
+            return made_byte_word(has_pair, r10);
+        }
+        uint16_t high = load16(node + NODE_HIGH);
+        uint64_t link = link_of(high, load32(node + NODE_LOW));
+        pool_add_new(r13, made, (high == NOWHERE_HIGH) ? NOWHERE : ((load64(made + POOL_NODES_LEN) + 1) - load64(made + POOL_SPARE)), load64(node + NODE_KEY), load64(node + NODE_VALUE));
+        if (load8(r13) != 0) {
+            return made_byte_word(1, 0);
+        }
+        at = link;
+    }
 }
 
 // Puts a pair with a link into a new node behind the others, none of which may be free, and returns which.
@@ -964,6 +1165,75 @@ static COLD bool vec_grow_amortized(char *nodes_at) {
     }
     store_address(nodes_at + POOL_NODES, (char *)(uintptr_t)r0.second);
     store64(nodes_at + POOL_NODES_ROOM, common_ret_op);
+    return true;
+}
+
+// Adds slots without a pair, so that there are `count`.
+// intmap_table::table::slots::add_empty, in crates/intmap_table/src/table/slots.rt
+static ALIGNED NOINLINE void slots_add_empty(char *slots, uint64_t count) {
+    uint64_t len_2;
+    uint64_t len = load64(slots + VEC_LEN);
+    if (count <= len) {
+        if (len <= count) {
+            return;
+        }
+        store64(slots + VEC_LEN, count);
+        return;
+    }
+    uint64_t r30 = count - len;
+    if (r30 > (load64(slots + VEC_ROOM) - len)) {
+        bool r24 = vec_grow_amortized_2(slots, r30);
+        if (!r24) {
+            return;
+        }
+        len_2 = load64(slots + VEC_LEN);
+    } else {
+        len_2 = len;
+    }
+    if (len_2 >= count) {
+        return;
+    }
+    uint64_t r2 = len_2;
+    for (;;) {
+        uint64_t r41 = r2 + 1;
+        memset(load_address(slots + VEC_ADDRESS) + (r2 * 24), 0, 24);
+        store64(slots + VEC_LEN, r41);
+        if (r41 == count) {
+            return;
+        }
+        r2 = r41;
+    }
+}
+
+// std_alloc::vec::Vec::grow_amortized, in Rattle's library std_alloc
+static COLD bool vec_grow_amortized_2(char *vec, uint64_t a1) {
+    struct word_word r0;
+    uint64_t len = load64(vec + VEC_LEN);
+    if (a1 > (~len)) {
+        return false;
+    }
+    uint64_t room = load64(vec + VEC_ROOM);
+    uint64_t a2_a1 = greater(len + a1, 4);
+    uint64_t x0 = greater(a2_a1, room << 1);
+    uint64_t common_ret_op = (room < UINT64_C(4611686018427387904)) ? x0 : a2_a1;
+    if (common_ret_op >= TOO_MANY(24)) {
+        return false;
+    }
+    if (room == 0) {
+        struct word_word block = rattle_alloc(x0 * 24, 8);
+        if ((block.first & 1) == 0) {
+            return false;
+        }
+        r0 = block;
+    } else {
+        struct word_word block_2 = rattle_realloc(load_address(vec + VEC_ADDRESS), len * 24, common_ret_op * 24, 8);
+        if ((block_2.first & 1) == 0) {
+            return false;
+        }
+        r0 = block_2;
+    }
+    store_address(vec + VEC_ADDRESS, (char *)(uintptr_t)r0.second);
+    store64(vec + VEC_ROOM, common_ret_op);
     return true;
 }
 
@@ -1045,97 +1315,85 @@ static ALIGNED uint32_t make_keep(char *handle, char *made) {
 // An empty map of `slots` slots.
 // intmap::map::IntMap::of_slots, in crates/intmap/src/map/build.rt
 static ALIGNED void intmap_of_slots(char *result, uint64_t slots) {
-    uint64_t r15, r4_0, r4_2, r4_4, r4_5, slots_2, r4_7, r4_8, r4_9;
-    char *r15_2, *r12_451_0_ph199, *r4_3, *r4_6, *dangling_2;
-    uint8_t r3_2;
+    char *r12_2, *r15, *r4_3, *dangling_2;
+    uint64_t r4_0, r15_2, r4_2, r4_4, r4_5, r4_6, r4_7, r4_8;
     u128 r17;
+    uint8_t r3_2;
     char *dangling = (char *)no_bytes;
+    uint64_t vec_room[3];
+    char *vec = (char *)vec_room;
+    uint64_t vec_2_room[3];
+    char *vec_2 = (char *)vec_2_room;
+    uint64_t vec_3_room[3];
+    char *vec_3 = (char *)vec_3_room;
     uint64_t r4_room[2];
     char *r4 = (char *)r4_room;
+    memset(vec_3, 0, VEC_SIZE);
     memset(r4, 0, 16);
-    if (slots == 0) {
-        r15 = 0;
-        r15_2 = dangling;
-        r12_451_0_ph199 = dangling;
-        r4_0 = 0;
+    bool r12 = slots == 0;
+    if (r12) {
+        r12_2 = dangling;
+    } else {
+        if (slots >= TOO_MANY(24)) {
+            goto after_Table_new;
+        }
+        struct word_word block = rattle_alloc(slots * 24, 8);
+        if ((block.first & 1) == 0) {
+            goto after_Table_new;
+        }
+        r12_2 = (char *)(uintptr_t)block.second;
+    }
+    store_address(vec + VEC_ADDRESS, r12_2);
+    store64(vec + VEC_LEN, 0);
+    store64(vec + VEC_ROOM, slots);
+    r4_0 = (slots >> 6) + ((uint64_t)((slots & 63) != 0));
+    if (r12) {
+        r15 = dangling;
+        r15_2 = 0;
     } else {
         uint64_t r3;
-        if (slots >= TOO_MANY(24)) {
-            r3_2 = 1;
-            r4_2 = 0;
-            r4_3 = NULL;
-            r4_4 = 0;
-            r4_5 = 0;
-            r4_6 = NULL;
-            slots_2 = 0;
-            dangling_2 = NULL;
-            r4_7 = 0;
-            r4_8 = 0;
-            r4_9 = 0;
-            goto join_4;
-        }
-        uint64_t r19 = slots * 24;
-        struct word_word block = rattle_alloc(r19, 8);
-        if ((block.first & 1) == 0) {
-            r3_2 = 1;
-            r4_2 = 0;
-            r4_3 = NULL;
-            r4_4 = 0;
-            r4_5 = 0;
-            r4_6 = NULL;
-            slots_2 = 0;
-            dangling_2 = NULL;
-            r4_7 = 0;
-            r4_8 = 0;
-            r4_9 = 0;
-            goto join_4;
-        }
-        char *r8 = (char *)(uintptr_t)block.second;
-        uint64_t r4_0_2 = (slots + 63) >> 6;
-        uint64_t r19_2 = r4_0_2 << 3;
-        struct word_word block_2 = rattle_alloc(r19_2, 8);
+        uint64_t r19 = r4_0 << 3;
+        struct word_word block_2 = rattle_alloc(r19, 8);
         if ((block_2.first & 1) == 0) {
-            rattle_dealloc(r8);
-            r3_2 = 1;
-            r4_2 = 0;
-            r4_3 = NULL;
-            r4_4 = 0;
-            r4_5 = 0;
-            r4_6 = NULL;
-            slots_2 = 0;
-            dangling_2 = NULL;
-            r4_7 = 0;
-            r4_8 = 0;
-            r4_9 = 0;
-            goto join_4;
+            rattle_dealloc(r12_2);
+            goto after_Table_new;
         }
-        char *r8_2 = (char *)(uintptr_t)block_2.second;
-        if (r4_0_2 == 1) {
+        char *r8 = (char *)(uintptr_t)block_2.second;
+        if (r4_0 == 1) {
             r3 = 0;
         } else {
-            memset(r8_2, 0, r19_2 - 8);
-            r3 = r4_0_2 - 1;
+            memset(r8, 0, r19 - 8);
+            r3 = r4_0 - 1;
         }
-        store64(r8_2 + (r3 << 3), 0);
-        memset(r8, 0, r19);
-        r15 = r3 + 1;
-        r15_2 = r8_2;
-        r12_451_0_ph199 = r8;
-        r4_0 = r4_0_2;
+        store64(r8 + (r3 << 3), 0);
+        r15 = r8;
+        r15_2 = r3 + 1;
     }
+    slots_add_empty(vec, slots);
+    memcpy(vec_2, vec, VEC_SIZE);
     r17 = u128_less_one(u128_mul(u128_of(slots), u128_of(910u)));
+    memcpy(vec_3, vec_2, VEC_SIZE);
     memset(r4, 0, 16);
     r3_2 = 0;
     r4_2 = slots - 1;
-    r4_3 = r15_2;
-    r4_4 = r15;
+    r4_3 = r15;
+    r4_4 = r15_2;
     r4_5 = r4_0;
-    r4_6 = r12_451_0_ph199;
-    slots_2 = slots;
     dangling_2 = dangling;
-    r4_7 = NOWHERE;
-    r4_8 = u128_above(r17, u128_two(999, UINT64_MAX)) ? UINT64_MAX : u128_low(u128_div(r17, u128_of(1000u)));
-    r4_9 = 909;
+    r4_6 = NOWHERE;
+    r4_7 = u128_above(r17, u128_two(999, UINT64_MAX)) ? UINT64_MAX : u128_low(u128_div(r17, u128_of(1000u)));
+    r4_8 = 909;
+    goto join_4;
+after_Table_new:;
+    r3_2 = 1;
+    r4_2 = 0;
+    r4_3 = NULL;
+    r4_4 = 0;
+    r4_5 = 0;
+    dangling_2 = NULL;
+    r4_6 = 0;
+    r4_7 = 0;
+    r4_8 = 0;
 join_4:;
     store8(result + MADE_INT_MAP_HAS_FAILED, r3_2);
     store8(result + MADE_INT_MAP_CAUSE, 0);
@@ -1143,153 +1401,85 @@ join_4:;
     store_address(result + MADE_INT_MAP_WORDS, r4_3);
     store64(result + MADE_INT_MAP_WORDS_LEN, r4_4);
     store64(result + MADE_INT_MAP_WORDS_ROOM, r4_5);
-    store_address(result + MADE_INT_MAP_SLOTS, r4_6);
-    store64(result + MADE_INT_MAP_SLOTS_LEN, slots_2);
-    store64(result + MADE_INT_MAP_SLOTS_ROOM, slots_2);
+    memcpy(result + MADE_INT_MAP_SLOTS, vec_3, VEC_SIZE);
     store_address(result + MADE_INT_MAP_NODES, dangling_2);
     memcpy(result + MADE_INT_MAP_NODES_LEN, r4, 16);
-    store64(result + MADE_INT_MAP_FREE, r4_7);
+    store64(result + MADE_INT_MAP_FREE, r4_6);
     memset(result + MADE_INT_MAP_SPARE, 0, 16);
-    store64(result + MADE_INT_MAP_THRESHOLD, r4_8);
-    store64(result + MADE_INT_MAP_FACTOR, r4_9);
-}
-
-// `capacity` slots without a pair, and room for `room` pairs that share a slot with another.
-// intmap_table::table::slots::Slots::new, in crates/intmap_table/src/table/slots.rt
-static ALIGNED void slots_new(char *result, uint64_t capacity, uint64_t room) {
-    uint64_t r4_0, r15_2;
-    char *r12_451_0_ph199, *r15;
-    char *dangling = (char *)no_bytes;
-    bool r12 = capacity == 0;
-    if (!r12) {
-        if (capacity < TOO_MANY(24)) {
-            struct word_word block = rattle_alloc(capacity * 24, 8);
-            if ((block.first & 1) != 0) {
-                uint64_t r3;
-                char *r8 = (char *)(uintptr_t)block.second;
-                uint64_t r4_0_2 = (capacity + 63) >> 6;
-                uint64_t r19 = r4_0_2 << 3;
-                struct word_word block_2 = rattle_alloc(r19, 8);
-                if ((block_2.first & 1) == 0) {
-                    rattle_dealloc(r8);
-                    store8(result + MADE_SLOTS_HAS_FAILED, 1);
-                    memset(result + MADE_SLOTS_MASK, 0, SLOTS_SIZE);
-                    return;
-                }
-                char *r8_2 = (char *)(uintptr_t)block_2.second;
-                if (r4_0_2 == 1) {
-                    r3 = 0;
-                } else {
-                    memset(r8_2, 0, r19 - 8);
-                    r3 = r4_0_2 - 1;
-                }
-                store64(r8_2 + (r3 << 3), 0);
-                r4_0 = r4_0_2;
-                r12_451_0_ph199 = r8;
-                r15 = r8_2;
-                r15_2 = r3 + 1;
-                goto arm_5;
-            }
-        }
-        store8(result + MADE_SLOTS_HAS_FAILED, 1);
-        memset(result + MADE_SLOTS_MASK, 0, SLOTS_SIZE);
-        return;
-    }
-    r4_0 = 0;
-    r12_451_0_ph199 = dangling;
-    r15 = dangling;
-    r15_2 = 0;
-arm_5:;
-    if (room <= NODE_LIMIT) {
-        char *r18;
-        if (room == 0) {
-            r18 = dangling;
-        } else {
-            struct word_word block_3 = rattle_alloc(room * 24, 8);
-            if ((block_3.first & 1) == 0) {
-                goto arm_9;
-            }
-            r18 = (char *)(uintptr_t)block_3.second;
-        }
-        if (!r12) {
-            memset(r12_451_0_ph199, 0, capacity * 24);
-        }
-        store8(result + MADE_SLOTS_HAS_FAILED, 0);
-        store64(result + MADE_SLOTS_MASK, capacity - 1);
-        store_address(result + MADE_SLOTS_WORDS, r15);
-        store64(result + MADE_SLOTS_WORDS_LEN, r15_2);
-        store64(result + MADE_SLOTS_WORDS_ROOM, r4_0);
-        store_address(result + MADE_SLOTS_SLOTS, r12_451_0_ph199);
-        store64(result + MADE_SLOTS_SLOTS_LEN, capacity);
-        store64(result + MADE_SLOTS_SLOTS_ROOM, capacity);
-        store_address(result + MADE_SLOTS_NODES, r18);
-        store64(result + MADE_SLOTS_NODES_LEN, 0);
-        store64(result + MADE_SLOTS_NODES_ROOM, room);
-        store64(result + MADE_SLOTS_FREE, NOWHERE);
-        store64(result + MADE_SLOTS_SPARE, 0);
-        return;
-    }
-arm_9:;
-    if (!r12) {
-        rattle_dealloc(r15);
-        rattle_dealloc(r12_451_0_ph199);
-    }
-    store8(result + MADE_SLOTS_HAS_FAILED, 1);
-    memset(result + MADE_SLOTS_MASK, 0, SLOTS_SIZE);
+    store64(result + MADE_INT_MAP_THRESHOLD, r4_7);
+    store64(result + MADE_INT_MAP_FACTOR, r4_8);
 }
 
 // Makes a new map, for which there may be no memory.
 // intmap_c::handle::make_first, in crates/intmap_c/src/handle.rt
 static ALIGNED NOINLINE struct byte_address handle_make_first(void) {
     char *dangling = (char *)no_bytes;
+    uint64_t vec_room[3];
+    char *vec = (char *)vec_room;
     struct word_word block = rattle_alloc(96, 8);
-    if ((block.first & 1) == 0) {
-        return made_byte_address(0, NULL);
-    }
-    char *r8 = (char *)(uintptr_t)block.second;
-    struct word_word block_2 = rattle_alloc(8, 8);
-    if ((block_2.first & 1) == 0) {
+    if ((block.first & 1) != 0) {
+        char *r8 = (char *)(uintptr_t)block.second;
+        store_address(vec + VEC_ADDRESS, r8);
+        store64(vec + VEC_LEN, 0);
+        store64(vec + VEC_ROOM, 4);
+        struct word_word block_2 = rattle_alloc(8, 8);
+        if ((block_2.first & 1) != 0) {
+            char *r8_2 = (char *)(uintptr_t)block_2.second;
+            store64(r8_2, 0);
+            slots_add_empty(vec, 4);
+            char *address = load_address(vec + VEC_ADDRESS);
+            uint64_t len = load64(vec + VEC_LEN);
+            uint64_t room = load64(vec + VEC_ROOM);
+            struct word_word block_3 = rattle_alloc(120, 8);
+            if ((block_3.first & 1) == 0) {
+                rattle_dealloc(r8_2);
+                if (room == 0) {
+                    return made_byte_address(0, NULL);
+                }
+                rattle_dealloc(address);
+                return made_byte_address(0, NULL);
+            }
+            char *x0 = (char *)(uintptr_t)block_3.second;
+            store_address(x0, (char *)(uintptr_t)3);
+            store_address(x0 + 8, r8_2);
+            store64(x0 + 16, 1);
+            store64(x0 + 24, 1);
+            store_address(x0 + 32, address);
+            store64(x0 + 40, len);
+            store64(x0 + 48, room);
+            store_address(x0 + 56, dangling);
+            memset(x0 + 64, 0, 16);
+            store64(x0 + 80, NOWHERE);
+            memset(x0 + 88, 0, 16);
+            store64(x0 + 104, 3);
+            store64(x0 + 112, 909);
+            return made_byte_address(1, x0);
+        }
         rattle_dealloc(r8);
-        return made_byte_address(0, NULL);
     }
-    char *r8_2 = (char *)(uintptr_t)block_2.second;
-    store64(r8_2, 0);
-    memset(r8, 0, 96);
-    struct word_word block_3 = rattle_alloc(120, 8);
-    if ((block_3.first & 1) == 0) {
-        rattle_dealloc(r8_2);
-        rattle_dealloc(r8);
-        return made_byte_address(0, NULL);
-    }
-    char *x0 = (char *)(uintptr_t)block_3.second;
-    store_address(x0, (char *)(uintptr_t)3);
-    store_address(x0 + 8, r8_2);
-    store64(x0 + 16, 1);
-    store64(x0 + 24, 1);
-    store_address(x0 + 32, r8);
-    store64(x0 + 40, 4);
-    store64(x0 + 48, 4);
-    store_address(x0 + 56, dangling);
-    memset(x0 + 64, 0, 16);
-    store64(x0 + 80, NOWHERE);
-    memset(x0 + 88, 0, 16);
-    store64(x0 + 104, 3);
-    store64(x0 + 112, 909);
-    return made_byte_address(1, x0);
+    return made_byte_address(0, NULL);
 }
 
-// Adds the pair of an absent key, if the new length exceeds the load factor, and returns where it is.
+// Adds the pair of an absent key, if the slots don't take one more, and returns where it is.
 // intmap::map::IntMap::add_growing, in crates/intmap/src/map/insert.rt
-static ALIGNED NOINLINE void intmap_add_growing(char *result, char *map, uint64_t len, uint64_t slot, uint64_t key, uint64_t value) {
+static ALIGNED NOINLINE void intmap_add_growing(char *result, char *map, uint64_t slot, uint64_t key, uint64_t value) {
     u128 r15;
-    uint64_t r0, x2, r12, r12_2, r17_2, r17_4;
-    uint8_t r17_3;
-    uint64_t mask_at_room[12];
-    char *mask_at = (char *)mask_at_room;
-    uint64_t has_failed_at_room[13];
-    char *has_failed_at = (char *)has_failed_at_room;
+    uint64_t r0, x2, r17_2, r17_3, r22, r22_3;
+    uint8_t r22_2;
+    uint64_t r4_room[3];
+    char *r4 = (char *)r4_room;
+    uint64_t len = load64(map + INT_MAP_LEN);
+    if (len == UINT64_MAX) {
+        store64(result, 1);
+        store64(result + 8, value);
+        store8(result + 16, 1);
+        store_bytes(result + 17, 0, 7);
+        store64(result + 24, 0);
+        return;
+    }
+    uint64_t r45 = len + 1;
     uint64_t slots_len = load64(map + INT_MAP_SLOTS_LEN);
-    u128 r10 = u128_mul(u128_of(len), u128_of(1000u));
+    u128 r10 = u128_mul(u128_of(r45), u128_of(1000u));
     u128 r13 = u128_add(u128_of(load64(map + INT_MAP_FACTOR)), u128_of(1u));
     u128 r187 = u128_mul(r13, u128_of(slots_len));
     if (u128_above(r187, r10)) {
@@ -1320,7 +1510,6 @@ static ALIGNED NOINLINE void intmap_add_growing(char *result, char *map, uint64_
     uint64_t r8_0 = u128_above(r17, u128_two(999, UINT64_MAX)) ? UINT64_MAX : u128_low(u128_div(r17, u128_of(1000u)));
     uint64_t r2 = r0 - 1;
     uint64_t index = r2 & (key * MULTIPLIER);
-    memset(has_failed_at, 0, MADE_SLOTS_SIZE);
     uint64_t nodes_len = load64(map + INT_MAP_NODES_LEN);
     uint64_t r10_2 = nodes_len - load64(map + INT_MAP_SPARE);
     char *slot_2 = load_address(map + INT_MAP_SLOTS) + (slot * SLOT_SIZE);
@@ -1348,16 +1537,24 @@ static ALIGNED NOINLINE void intmap_add_growing(char *result, char *map, uint64_
         x2 = r10_2;
     }
 after_Slots_needed:;
-    slots_new(has_failed_at, r0, x2);
-    if (load8(has_failed_at + MADE_SLOTS_HAS_FAILED) == 0) {
-        uint64_t r3_0;
-        memcpy(mask_at, has_failed_at + MADE_SLOTS_MASK, SLOTS_SIZE);
-        slots_move_all(map, mask_at);
-        uint64_t r6 = index * SLOT_SIZE;
-        char *slot_3 = load_address(mask_at + SLOTS_SLOTS) + r6;
+    uint8_t r18_2 = slots_enlarge(map, r0, x2);
+    if ((r18_2 & 1) != 0) {
+        r17_2 = value;
+        r17_3 = 1;
+        r22 = 0;
+        r22_2 = 0;
+        r22_3 = 0;
+    } else {
+        uint64_t common_ret_op;
+        char *slot_3 = load_address(map + INT_MAP_SLOTS) + (index * SLOT_SIZE);
         uint8_t has_pair = load8(slot_3 + SLOT_HAS_PAIR);
         if (has_pair == 1) {
-            row_put_behind_first(slot_3, mask_at + SLOTS_NODES, key, value);
+            memset(r4, 0, 24);
+            insertion_push_further(r4, slot_3, map + INT_MAP_NODES, key, value);
+            if (load8(r4) != 0) {
+                abort(); // The proof excludes this.
+            }
+            common_ret_op = load64(r4 + 8);
         } else {
             store16(slot_3 + SLOT_HAS_PAIR, 1);
             store16(slot_3 + SLOT_HIGH, NOWHERE_HIGH);
@@ -1367,302 +1564,278 @@ after_Slots_needed:;
             if (has_pair != 0) {
                 abort(); // The proof excludes this.
             }
+            common_ret_op = 0;
         }
-        char *words = load_address(mask_at + SLOTS_WORDS);
-        char *r9 = words + ((index >> 3) & UINT64_C(0x1FFFFFFFFFFFFFF8));
-        store64(r9, load64(r9) | ((uint64_t)1 << (index & 63)));
-        if (load64(mask_at + SLOTS_NODES_LEN) != load64(mask_at + SLOTS_SPARE)) {
-            uint64_t bits;
-            uint64_t words_len = load64(mask_at + SLOTS_WORDS_LEN);
-            if (words_len == 0) {
-                bits = 0;
-            } else {
-                bits = load64(words);
+        char *r11 = load_address(map + INT_MAP_WORDS) + ((index >> 3) & UINT64_C(0x1FFFFFFFFFFFFFF8));
+        store64(r11, load64(r11) | ((uint64_t)1 << (index & 63)));
+        store64(map + INT_MAP_LEN, r45);
+        store64(map + INT_MAP_THRESHOLD, r8_0);
+        r17_2 = key;
+        r17_3 = 0;
+        r22 = (uint64_t)((index >> 8) & UINT64_C(72057594037927935));
+        r22_2 = (uint8_t)index;
+        r22_3 = common_ret_op;
+    }
+    store64(result, r17_3);
+    store64(result + 8, r17_2);
+    store8(result + 16, r22_2);
+    store_bytes(result + 17, r22, 7);
+    store64(result + 24, r22_3);
+}
+
+// Adds slots, so that there are `capacity`, and moves all pairs, in the order of the walk, to their slots among
+// these.
+// intmap_table::table::slots::Slots::enlarge, in crates/intmap_table/src/table/slots/grow.rt
+static ALIGNED uint8_t slots_enlarge(char *map, uint64_t capacity, uint64_t room) {
+    char *r9;
+    uint64_t r9_2;
+    char *dangling = (char *)no_bytes;
+    uint64_t r4_room[5];
+    char *r4 = (char *)r4_room;
+    uint64_t slots_len = load64(map + INT_MAP_SLOTS_LEN);
+    uint64_t r41 = capacity - slots_len;
+    uint64_t slots_room = load64(map + INT_MAP_SLOTS_ROOM);
+    if (r41 > (slots_room - slots_len)) {
+        struct word_word r0;
+        if (!((capacity < TOO_MANY(24)) & (r41 <= (~slots_len)))) {
+            return 1;
+        }
+        if (slots_room == 0) {
+            struct word_word block = rattle_alloc(capacity * 24, 8);
+            if ((block.first & 1) == 0) {
+                return 1;
             }
-            char *slots = load_address(mask_at + SLOTS_SLOTS);
-            char *nodes = load_address(mask_at + SLOTS_NODES);
-            uint64_t r1 = 0;
-            uint64_t r1_2 = bits;
-            for (;;) {
-                uint64_t r1_4, r1_5;
-                if (r1_2 == 0) {
-                    uint64_t r1_3 = r1;
-                    for (;;) {
-                        uint64_t r26 = r1_3 + 1;
-                        if (words_len <= r26) {
-                            goto after_Slots_turn_each;
+            r0 = block;
+        } else {
+            struct word_word block_2 = rattle_realloc(load_address(map + INT_MAP_SLOTS), slots_len * 24, capacity * 24, 8);
+            if ((block_2.first & 1) == 0) {
+                return 1;
+            }
+            r0 = block_2;
+        }
+        store_address(map + INT_MAP_SLOTS, (char *)(uintptr_t)r0.second);
+        store64(map + INT_MAP_SLOTS_ROOM, capacity);
+    }
+    uint64_t r4_0 = (capacity >> 6) + ((uint64_t)((capacity & 63) != 0));
+    bool r12 = capacity == 0;
+    if (r12) {
+        r9 = dangling;
+        r9_2 = 0;
+    } else {
+        uint64_t r3;
+        uint64_t r19 = r4_0 << 3;
+        struct word_word block_3 = rattle_alloc(r19, 8);
+        if ((block_3.first & 1) == 0) {
+            goto arm_7;
+        }
+        char *r8 = (char *)(uintptr_t)block_3.second;
+        if (r4_0 == 1) {
+            r3 = 0;
+        } else {
+            memset(r8, 0, r19 - 8);
+            r3 = r4_0 - 1;
+        }
+        store64(r8 + (r3 << 3), 0);
+        r9 = r8;
+        r9_2 = r3 + 1;
+    }
+    if (room <= NODE_LIMIT) {
+        char *r13;
+        uint64_t bits;
+        if (room == 0) {
+            r13 = dangling;
+        } else {
+            struct word_word block_4 = rattle_alloc(room * 24, 8);
+            if ((block_4.first & 1) == 0) {
+                goto arm_6_3;
+            }
+            r13 = (char *)(uintptr_t)block_4.second;
+        }
+        slots_add_empty(map + INT_MAP_SLOTS, capacity);
+        store_address(r4, r13);
+        store64(r4 + 8, 0);
+        store64(r4 + 16, room);
+        store64(r4 + 24, NOWHERE);
+        store64(r4 + 32, 0);
+        uint64_t mask = load64(map + INT_MAP_MASK);
+        uint64_t r69 = capacity - 1;
+        if (load64(map + INT_MAP_WORDS_LEN) == 0) {
+            bits = 0;
+        } else {
+            bits = load64(load_address(map + INT_MAP_WORDS));
+        }
+        uint64_t a3 = ~mask;
+        uint64_t invariant_op7 = a3 & r69;
+        uint64_t invariant_op = a3 & r69;
+        uint64_t r0_2 = 0;
+        uint64_t r0_3 = bits;
+        for (;;) {
+            uint64_t r0_5, r0_6;
+            if (r0_3 == 0) {
+                uint64_t words_len = load64(map + INT_MAP_WORDS_LEN);
+                uint64_t r0_4 = r0_2;
+                for (;;) {
+                    uint64_t r26 = r0_4 + 1;
+                    if (words_len <= r26) {
+                        store64(map + INT_MAP_MASK, r69);
+                        char *words = load_address(map + INT_MAP_WORDS);
+                        uint64_t words_room = load64(map + INT_MAP_WORDS_ROOM);
+                        store_address(map + INT_MAP_WORDS, r9);
+                        store64(map + INT_MAP_WORDS_LEN, r9_2);
+                        store64(map + INT_MAP_WORDS_ROOM, r4_0);
+                        if (words_room != 0) {
+                            rattle_dealloc(words);
                         }
-                        uint64_t bits_2 = load64(words + (r26 << 3));
-                        if (bits_2 != 0) {
-                            r1_4 = r26;
-                            r1_5 = bits_2;
+                        char *nodes = load_address(map + INT_MAP_NODES);
+                        uint64_t nodes_room = load64(map + INT_MAP_NODES_ROOM);
+                        memcpy(map + INT_MAP_NODES, r4, POOL_SIZE);
+                        if (nodes_room == 0) {
+                            return 0;
+                        }
+                        rattle_dealloc(nodes);
+                        return 0;
+                    }
+                    uint64_t bits_2 = load64(load_address(map + INT_MAP_WORDS) + (r26 << 3));
+                    if (bits_2 != 0) {
+                        r0_5 = r26;
+                        r0_6 = bits_2;
+                        break;
+                    }
+                    r0_4 = r26;
+                }
+            } else {
+                r0_5 = r0_2;
+                r0_6 = r0_3;
+            }
+            uint64_t r49 = place_of_lowest_1(r0_6);
+            uint64_t index = r49 | (r0_5 << 6);
+            uint64_t r64 = (r0_6 - 1) & r0_6;
+            char *slot = load_address(map + INT_MAP_SLOTS) + (index * SLOT_SIZE);
+            if (load8(slot + SLOT_HAS_PAIR) != 1) {
+                abort(); // The proof excludes this.
+            }
+            uint16_t high = load16(slot + SLOT_HIGH);
+            uint64_t link = link_of(high, load32(slot + SLOT_LOW));
+            uint64_t key = load_key(slot + SLOT_KEY);
+            uint64_t index_2 = (key * MULTIPLIER) & invariant_op7;
+            uint64_t index_3 = index_2 + index;
+            uint64_t value = load64(slot + SLOT_VALUE);
+            memset(slot, 0, SLOT_SIZE);
+            char *slot_2 = load_address(map + INT_MAP_SLOTS) + (index_3 * SLOT_SIZE);
+            uint8_t has_pair = load8(slot_2 + SLOT_HAS_PAIR);
+            if (has_pair == 1) {
+                growth_put_before_first(slot_2, r4, key, value);
+            } else {
+                store16(slot_2 + SLOT_HAS_PAIR, 1);
+                store16(slot_2 + SLOT_HIGH, NOWHERE_HIGH);
+                store32(slot_2 + SLOT_LOW, NOWHERE_LOW);
+                store64(slot_2 + SLOT_KEY, key);
+                store64(slot_2 + SLOT_VALUE, value);
+                if (has_pair != 0) {
+                    abort(); // The proof excludes this.
+                }
+            }
+            char *r11 = r9 + ((index_3 >> 3) & UINT64_C(0x1FFFFFFFFFFFFFF8));
+            store64(r11, load64(r11) | ((uint64_t)1 << (index_3 & 63)));
+            if (high != NOWHERE_HIGH) {
+                uint64_t at = NOWHERE;
+                uint64_t at_2 = link;
+                for (;;) {
+                    char *node = load_address(map + INT_MAP_NODES) + (at_2 * NODE_SIZE);
+                    if (load8(node + NODE_HAS_PAIR) != 1) {
+                        abort(); // The proof excludes this.
+                    }
+                    uint16_t high_2 = load16(node + NODE_HIGH);
+                    uint64_t link_2 = link_of(high_2, load32(node + NODE_LOW));
+                    store16(node + NODE_HIGH, (uint16_t)(at >> 32));
+                    store32(node + NODE_LOW, (uint32_t)at);
+                    if (high_2 == NOWHERE_HIGH) {
+                        if (at_2 >= NODE_LIMIT) {
                             break;
                         }
-                        r1_3 = r26;
-                    }
-                } else {
-                    r1_4 = r1;
-                    r1_5 = r1_2;
-                }
-                uint64_t r49 = place_of_lowest_1(r1_5);
-                uint64_t r64 = (r1_5 - 1) & r1_5;
-                char *slot_4 = slots + ((r49 | (r1_4 << 6)) * SLOT_SIZE);
-                if (load8(slot_4 + SLOT_HAS_PAIR) == 1) {
-                    uint16_t high = load16(slot_4 + SLOT_HIGH);
-                    if (high != NOWHERE_HIGH) {
-                        uint64_t at_2 = NOWHERE;
-                        uint64_t at_3 = link_of(high, load32(slot_4 + SLOT_LOW));
+                        uint64_t at_3 = at_2;
                         for (;;) {
-                            char *node_2 = nodes + (at_3 * NODE_SIZE);
+                            char *node_2 = load_address(map + INT_MAP_NODES) + (at_3 * NODE_SIZE);
                             if (load8(node_2 + NODE_HAS_PAIR) != 1) {
                                 abort(); // The proof excludes this.
                             }
-                            uint16_t high_2 = load16(node_2 + NODE_HIGH);
-                            uint64_t link = link_of(high_2, load32(node_2 + NODE_LOW));
-                            store16(node_2 + NODE_HIGH, (uint16_t)(at_2 >> 32));
-                            store32(node_2 + NODE_LOW, (uint32_t)at_2);
-                            if (high_2 == NOWHERE_HIGH) {
-                                if (load8(slot_4 + SLOT_HAS_PAIR) != 1) {
+                            uint64_t key_2 = load_key(node_2 + NODE_KEY);
+                            uint64_t index_4 = (key_2 * MULTIPLIER) & invariant_op;
+                            uint64_t index_5 = index_4 + index;
+                            uint16_t high_3 = load16(node_2 + NODE_HIGH);
+                            uint64_t link_3 = link_of(high_3, load32(node_2 + NODE_LOW));
+                            uint64_t free = load64(map + INT_MAP_FREE);
+                            uint64_t value_2 = load64(node_2 + NODE_VALUE);
+                            store16(node_2 + NODE_HAS_PAIR, 0);
+                            store16(node_2 + NODE_HIGH, (uint16_t)(free >> 32));
+                            store32(node_2 + NODE_LOW, (uint32_t)free);
+                            memset(node_2 + NODE_KEY, 0, PAIR_SIZE);
+                            store64(map + INT_MAP_FREE, at_3);
+                            store64(map + INT_MAP_SPARE, load64(map + INT_MAP_SPARE) + 1);
+                            char *slot_3 = load_address(map + INT_MAP_SLOTS) + (index_5 * SLOT_SIZE);
+                            uint8_t has_pair_2 = load8(slot_3 + SLOT_HAS_PAIR);
+                            if (has_pair_2 == 1) {
+                                if (index_2 == index_4) {
+                                    growth_put_behind_first(slot_3, r4, key_2, value_2);
+                                } else {
+                                    growth_put_before_first(slot_3, r4, key_2, value_2);
+                                }
+                            } else {
+                                store16(slot_3 + SLOT_HAS_PAIR, 1);
+                                store16(slot_3 + SLOT_HIGH, NOWHERE_HIGH);
+                                store32(slot_3 + SLOT_LOW, NOWHERE_LOW);
+                                store64(slot_3 + SLOT_KEY, key_2);
+                                store64(slot_3 + SLOT_VALUE, value_2);
+                                if (has_pair_2 != 0) {
                                     abort(); // The proof excludes this.
                                 }
-                                store16(slot_4 + SLOT_HIGH, (uint16_t)(at_3 >> 32));
-                                store32(slot_4 + SLOT_LOW, (uint32_t)at_3);
-                                break;
                             }
-                            at_2 = at_3;
-                            at_3 = link;
+                            char *r11_2 = r9 + ((index_5 >> 3) & UINT64_C(0x1FFFFFFFFFFFFFF8));
+                            store64(r11_2, load64(r11_2) | ((uint64_t)1 << (index_5 & 63)));
+                            if (high_3 == NOWHERE_HIGH) {
+                                goto loop_2_backedge;
+                            }
+                            at_3 = link_3;
                         }
                     }
+                    at = at_2;
+                    at_2 = link_2;
                 }
-                r1 = r1_4;
-                r1_2 = r64;
             }
+        loop_2_backedge:;
+            r0_2 = r0_5;
+            r0_3 = r64;
         }
-    after_Slots_turn_each:;
-        char *words_2 = load_address(map + INT_MAP_WORDS);
-        char *slots_2 = load_address(map + INT_MAP_SLOTS);
-        uint64_t slots_room = load64(map + INT_MAP_SLOTS_ROOM);
-        char *nodes_2 = load_address(map + INT_MAP_NODES);
-        uint64_t nodes_room = load64(map + INT_MAP_NODES_ROOM);
-        uint64_t words_room = load64(map + INT_MAP_WORDS_ROOM);
-        memcpy(map, mask_at, TABLE_SIZE);
-        if (words_room != 0) {
-            rattle_dealloc(words_2);
-        }
-        if (slots_room != 0) {
-            rattle_dealloc(slots_2);
-        }
-        if (nodes_room != 0) {
-            rattle_dealloc(nodes_2);
-        }
-        char *slot_5 = load_address(map + INT_MAP_SLOTS) + r6;
-        if (load8(slot_5 + SLOT_HAS_PAIR) == 1) {
-            uint64_t link_2 = link_of(load16(slot_5 + SLOT_HIGH), load32(slot_5 + SLOT_LOW));
-            uint64_t nodes_len_2 = load64(map + INT_MAP_NODES_LEN);
-            if (nodes_len_2 > link_2) {
-                char *nodes_3 = load_address(map + INT_MAP_NODES);
-                uint64_t at_4 = link_2;
-                uint64_t r2_016 = 0;
-                for (;;) {
-                    char *node_3 = nodes_3 + (at_4 * NODE_SIZE);
-                    if (load8(node_3 + NODE_HAS_PAIR) != 1) {
-                        r3_0 = r2_016;
-                        break;
-                    }
-                    uint64_t link_3 = link_of(load16(node_3 + NODE_HIGH), load32(node_3 + NODE_LOW));
-                    uint64_t r11 = r2_016 + 1;
-                    if (nodes_len_2 <= link_3) {
-                        r3_0 = r11;
-                        break;
-                    }
-                    at_4 = link_3;
-                    r2_016 = r11;
-                }
-            } else {
-                r3_0 = 0;
-            }
-        } else {
-            r3_0 = UINT64_MAX;
-        }
-        store64(map + INT_MAP_LEN, len);
-        store64(map + INT_MAP_THRESHOLD, r8_0);
-        r12 = key;
-        r12_2 = 0;
-        r17_2 = (uint64_t)((index >> 8) & UINT64_C(72057594037927935));
-        r17_3 = (uint8_t)index;
-        r17_4 = r3_0;
-    } else {
-        r12 = value;
-        r12_2 = 1;
-        r17_2 = 0;
-        r17_3 = 0;
-        r17_4 = 0;
     }
-    store64(result, r12_2);
-    store64(result + 8, r12);
-    store8(result + 16, r17_3);
-    store_bytes(result + 17, r17_2, 7);
-    store64(result + 24, r17_4);
+arm_6_3:;
+    if (!r12) {
+        rattle_dealloc(r9);
+    }
+arm_7:;
+    uint64_t slots_len_2 = load64(map + INT_MAP_SLOTS_LEN);
+    if (load64(map + INT_MAP_SLOTS_ROOM) <= slots_len_2) {
+        return 1;
+    }
+    if (slots_len_2 == 0) {
+        rattle_dealloc(load_address(map + INT_MAP_SLOTS));
+        store_address(map + INT_MAP_SLOTS, dangling);
+        memset(map + INT_MAP_SLOTS_LEN, 0, 16);
+        return 1;
+    }
+    uint64_t r12_2 = slots_len_2 * SLOT_SIZE;
+    struct word_word block_5 = rattle_realloc(load_address(map + INT_MAP_SLOTS), r12_2, r12_2, 8);
+    if ((block_5.first & 1) == 0) {
+        return 1;
+    }
+    store_address(map + INT_MAP_SLOTS, (char *)(uintptr_t)block_5.second);
+    store64(map + INT_MAP_SLOTS_ROOM, slots_len_2);
+    return 1;
 }
 
-// Moves all pairs, slot after slot, to new slots, and leaves none.
-// intmap_table::table::slots::Slots::move_all, in crates/intmap_table/src/table/slots/grow.rt
-static ALIGNED void slots_move_all(char *map, char *new_) {
-    uint64_t bits;
-    if (load64(map + INT_MAP_WORDS_LEN) == 0) {
-        bits = 0;
-    } else {
-        bits = load64(load_address(map + INT_MAP_WORDS));
-    }
-    uint64_t r1 = 0;
-    uint64_t r1_2 = bits;
-loop_2:;
-    for (;;) {
-        uint64_t r1_4, r1_5;
-        struct word_word r10;
-        if (r1_2 == 0) {
-            uint64_t words_len = load64(map + INT_MAP_WORDS_LEN);
-            char *words = load_address(map + INT_MAP_WORDS);
-            uint64_t r1_3 = r1;
-            for (;;) {
-                uint64_t r26 = r1_3 + 1;
-                if (words_len <= r26) {
-                    if (words_len == 0) {
-                        return;
-                    }
-                    uint64_t r28 = words_len - 1;
-                    if (r28 != 0) {
-                        memset(words, 0, (words_len << 3) - 8);
-                    }
-                    store64(words + (r28 << 3), 0);
-                    return;
-                }
-                uint64_t bits_2 = load64(words + (r26 << 3));
-                if (bits_2 != 0) {
-                    r1_4 = r26;
-                    r1_5 = bits_2;
-                    break;
-                }
-                r1_3 = r26;
-            }
-        } else {
-            r1_4 = r1;
-            r1_5 = r1_2;
-        }
-        uint64_t r49 = place_of_lowest_1(r1_5);
-        uint64_t r64 = (r1_5 - 1) & r1_5;
-        char *slot = load_address(map + INT_MAP_SLOTS) + ((r49 | (r1_4 << 6)) * SLOT_SIZE);
-        if (load8(slot + SLOT_HAS_PAIR) != 1) {
-            abort(); // The proof excludes this.
-        }
-        uint64_t key = load_key(slot + SLOT_KEY);
-        uint64_t index = (key * MULTIPLIER) & load64(new_ + SLOTS_MASK);
-        uint16_t high = load16(slot + SLOT_HIGH);
-        if (high == NOWHERE_HIGH) {
-            uint64_t value = load64(slot + SLOT_VALUE);
-            memset(slot, 0, SLOT_SIZE);
-            r10 = made_word_word(key, value);
-        } else {
-            struct word_word r16 = row_take_first_of_several_2(slot, link_of(high, load32(slot + SLOT_LOW)), map + INT_MAP_NODES);
-            r10 = r16;
-        }
-        char *slot_2 = load_address(new_ + SLOTS_SLOTS) + (index * SLOT_SIZE);
-        uint8_t has_pair = load8(slot_2 + SLOT_HAS_PAIR);
-        if (has_pair == 1) {
-            row_put_behind_first(slot_2, new_ + SLOTS_NODES, r10.first, r10.second);
-        } else {
-            store16(slot_2 + SLOT_HAS_PAIR, 1);
-            store16(slot_2 + SLOT_HIGH, NOWHERE_HIGH);
-            store32(slot_2 + SLOT_LOW, NOWHERE_LOW);
-            store64(slot_2 + SLOT_KEY, r10.first);
-            store64(slot_2 + SLOT_VALUE, r10.second);
-            if (has_pair != 0) {
-                abort(); // The proof excludes this.
-            }
-        }
-        char *r9 = load_address(new_ + SLOTS_WORDS) + ((index >> 3) & UINT64_C(0x1FFFFFFFFFFFFFF8));
-        store64(r9, load64(r9) | ((uint64_t)1 << (index & 63)));
-        for (;;) {
-            uint64_t key_2, index_2;
-            uint16_t high_2;
-            struct word_word r10_2;
-            char *slot_3, *r9_2;
-            uint8_t has_pair_2;
-            switch (load8(slot + SLOT_HAS_PAIR)) {
-            case 0:
-                r1 = r1_4;
-                r1_2 = r64;
-                goto loop_2;
-            case 1:
-                key_2 = load_key(slot + SLOT_KEY);
-                index_2 = (key_2 * MULTIPLIER) & load64(new_ + SLOTS_MASK);
-                high_2 = load16(slot + SLOT_HIGH);
-                if (high_2 == NOWHERE_HIGH) {
-                    uint64_t value_2 = load64(slot + SLOT_VALUE);
-                    memset(slot, 0, SLOT_SIZE);
-                    r10_2 = made_word_word(key_2, value_2);
-                } else {
-                    struct word_word r16_2 = row_take_first_of_several_2(slot, link_of(high_2, load32(slot + SLOT_LOW)), map + INT_MAP_NODES);
-                    r10_2 = r16_2;
-                }
-                slot_3 = load_address(new_ + SLOTS_SLOTS) + (index_2 * SLOT_SIZE);
-                has_pair_2 = load8(slot_3 + SLOT_HAS_PAIR);
-                if (has_pair_2 == 1) {
-                    row_put_behind_first(slot_3, new_ + SLOTS_NODES, r10_2.first, r10_2.second);
-                } else {
-                    store16(slot_3 + SLOT_HAS_PAIR, 1);
-                    store16(slot_3 + SLOT_HIGH, NOWHERE_HIGH);
-                    store32(slot_3 + SLOT_LOW, NOWHERE_LOW);
-                    store64(slot_3 + SLOT_KEY, r10_2.first);
-                    store64(slot_3 + SLOT_VALUE, r10_2.second);
-                    if (has_pair_2 != 0) {
-                        abort(); // The proof excludes this.
-                    }
-                }
-                r9_2 = load_address(new_ + SLOTS_WORDS) + ((index_2 >> 3) & UINT64_C(0x1FFFFFFFFFFFFFF8));
-                store64(r9_2, load64(r9_2) | ((uint64_t)1 << (index_2 & 63)));
-                break;
-            default:
-                abort(); // The proof excludes this.
-            }
-        }
-    }
-}
-
-// Removes the first pair of a slot that holds others, which move up by one place.
-// intmap_table::linked::row::take_first_of_several, in crates/intmap_table/src/linked/row.rt
-static ALIGNED NOINLINE struct word_word row_take_first_of_several_2(char *slot, uint64_t link, char *pool) {
-    char *node = load_address(pool + POOL_NODES) + (link * NODE_SIZE);
-    if (load8(node + NODE_HAS_PAIR) != 1) {
-        abort(); // The proof excludes this.
-    }
-    uint16_t high = load16(node + NODE_HIGH);
-    uint32_t low = load32(node + NODE_LOW);
-    uint64_t free = load64(pool + POOL_FREE);
-    uint64_t key = load64(node + NODE_KEY);
-    uint64_t value = load64(node + NODE_VALUE);
-    store16(node + NODE_HAS_PAIR, 0);
-    store16(node + NODE_HIGH, (uint16_t)(free >> 32));
-    store32(node + NODE_LOW, (uint32_t)free);
-    memset(node + NODE_KEY, 0, PAIR_SIZE);
-    store64(pool + POOL_FREE, link);
-    store64(pool + POOL_SPARE, load64(pool + POOL_SPARE) + 1);
-    if (load8(slot + SLOT_HAS_PAIR) != 1) {
-        abort(); // The proof excludes this.
-    }
-    store16(slot + SLOT_HIGH, high);
-    store32(slot + SLOT_LOW, low);
-    uint64_t key_2 = load64(slot + SLOT_KEY);
-    uint64_t value_2 = load64(slot + SLOT_VALUE);
-    store64(slot + SLOT_KEY, key);
-    store64(slot + SLOT_VALUE, value);
-    return made_word_word(key_2, value_2);
-}
-
-// Puts a pair behind the first one of a slot that holds some.
-// intmap_table::linked::row::put_behind_first, in crates/intmap_table/src/linked/row.rt
-static ALIGNED NOINLINE void row_put_behind_first(char *slot, char *pool, uint64_t a2, uint64_t a3) {
-    uint64_t r6;
+// Puts a pair before the first one of a slot that holds some, and returns its place.
+// intmap_table::linked::row::growth::put_before_first, in crates/intmap_table/src/linked/row/growth.rt
+static ALIGNED NOINLINE void growth_put_before_first(char *slot, char *a1, uint64_t a2, uint64_t a3) {
+    uint64_t r10;
     uint64_t r0_room[3];
     char *r0 = (char *)r0_room;
     if (load8(slot + SLOT_HAS_PAIR) != 1) {
@@ -1670,14 +1843,144 @@ static ALIGNED NOINLINE void row_put_behind_first(char *slot, char *pool, uint64
     }
     uint16_t high = load16(slot + SLOT_HIGH);
     uint32_t low = load32(slot + SLOT_LOW);
-    uint64_t spare = load64(pool + POOL_SPARE);
-    if (spare == 0) {
-        pool_add_new(r0, pool, link_of(high, low), a2, a3);
+    uint64_t key = load64(slot + SLOT_KEY);
+    uint64_t value = load64(slot + SLOT_VALUE);
+    store64(slot + SLOT_KEY, a2);
+    store64(slot + SLOT_VALUE, a3);
+    uint64_t r19 = load64(a1 + 32);
+    if (r19 == 0) {
+        pool_add_new(r0, a1, link_of(high, low), key, value);
         if (load8(r0) != 0) {
             abort(); // The proof excludes this.
         }
-        r6 = load64(r0 + 8);
+        r10 = load64(r0 + 8);
     } else {
+        uint64_t r34 = load64(a1 + 24);
+        char *r11 = load_address(a1) + (r34 * 24);
+        if (load8(r11) != 0) {
+            abort(); // The proof excludes this.
+        }
+        store64(a1 + 24, link_of(load16(r11 + 2), load32(r11 + 4)));
+        store64(a1 + 32, r19 - 1);
+        uint8_t r15 = load8(r11);
+        store16(r11, 1);
+        store16(r11 + 2, high);
+        store32(r11 + 4, low);
+        store64(r11 + 8, key);
+        store64(r11 + 16, value);
+        if (r15 != 0) {
+            abort(); // The proof excludes this.
+        }
+        r10 = r34;
+    }
+    if (load8(slot + SLOT_HAS_PAIR) != 1) {
+        abort(); // The proof excludes this.
+    }
+    store16(slot + SLOT_HIGH, (uint16_t)(r10 >> 32));
+    store32(slot + SLOT_LOW, (uint32_t)r10);
+}
+
+// Puts a pair behind the first one of a slot that holds some, and returns its place.
+// intmap_table::linked::row::growth::put_behind_first, in crates/intmap_table/src/linked/row/growth.rt
+static ALIGNED NOINLINE void growth_put_behind_first(char *slot, char *a1, uint64_t a2, uint64_t a3) {
+    uint64_t r7;
+    uint64_t r0_room[3];
+    char *r0 = (char *)r0_room;
+    if (load8(slot + SLOT_HAS_PAIR) != 1) {
+        abort(); // The proof excludes this.
+    }
+    uint16_t high = load16(slot + SLOT_HIGH);
+    uint32_t low = load32(slot + SLOT_LOW);
+    uint64_t r19 = load64(a1 + 32);
+    if (r19 == 0) {
+        pool_add_new(r0, a1, link_of(high, low), a2, a3);
+        if (load8(r0) != 0) {
+            abort(); // The proof excludes this.
+        }
+        r7 = load64(r0 + 8);
+    } else {
+        uint64_t r34 = load64(a1 + 24);
+        char *r11 = load_address(a1) + (r34 * 24);
+        if (load8(r11) != 0) {
+            abort(); // The proof excludes this.
+        }
+        store64(a1 + 24, link_of(load16(r11 + 2), load32(r11 + 4)));
+        store64(a1 + 32, r19 - 1);
+        uint8_t r15 = load8(r11);
+        store16(r11, 1);
+        store16(r11 + 2, high);
+        store32(r11 + 4, low);
+        store64(r11 + 8, a2);
+        store64(r11 + 16, a3);
+        if (r15 != 0) {
+            abort(); // The proof excludes this.
+        }
+        r7 = r34;
+    }
+    if (load8(slot + SLOT_HAS_PAIR) != 1) {
+        abort(); // The proof excludes this.
+    }
+    store16(slot + SLOT_HIGH, (uint16_t)(r7 >> 32));
+    store32(slot + SLOT_LOW, (uint32_t)r7);
+}
+
+// Puts a pair last, and returns its place.
+// intmap_table::linked::row::insertion::push_further, in crates/intmap_table/src/linked/row/insertion.rt
+static ALIGNED NOINLINE void insertion_push_further(char *result, char *slot, char *pool, uint64_t a3, uint64_t a4) {
+    uint64_t spare, r13_6_8_copyload102, r4_0, r11, r11_2, r8;
+    uint64_t r0_room[3];
+    char *r0 = (char *)r0_room;
+    uint64_t r0_2_room[3];
+    char *r0_2 = (char *)r0_2_room;
+    if (load8(slot + SLOT_HAS_PAIR) != 1) {
+        abort(); // The proof excludes this.
+    }
+    uint16_t high = load16(slot + SLOT_HIGH);
+    uint64_t link = link_of(high, load32(slot + SLOT_LOW));
+    if (high != NOWHERE_HIGH) {
+        uint64_t r21;
+        struct word_word at = chain_last_in(pool, link);
+        uint64_t spare_2 = load64(pool + POOL_SPARE);
+        if (spare_2 == 0) {
+            pool_add_new(r0_2, pool, NOWHERE, a3, a4);
+            uint64_t r21_6_8_copyload99 = load64(r0_2 + 8);
+            if (load8(r0_2) != 0) {
+                r11_2 = r21_6_8_copyload99;
+                r8 = load64(r0_2 + 16);
+                goto arm_7;
+            }
+            r21 = r21_6_8_copyload99;
+        } else {
+            uint64_t free_2 = load64(pool + POOL_FREE);
+            char *node_2 = load_address(pool + POOL_NODES) + (free_2 * NODE_SIZE);
+            if (load8(node_2 + NODE_HAS_PAIR) != 0) {
+                abort(); // The proof excludes this.
+            }
+            store64(pool + POOL_FREE, link_of(load16(node_2 + NODE_HIGH), load32(node_2 + NODE_LOW)));
+            store64(pool + POOL_SPARE, spare_2 - 1);
+            uint8_t has_pair_2 = load8(node_2 + NODE_HAS_PAIR);
+            store16(node_2 + NODE_HAS_PAIR, 1);
+            store16(node_2 + NODE_HIGH, NOWHERE_HIGH);
+            store32(node_2 + NODE_LOW, NOWHERE_LOW);
+            store64(node_2 + NODE_KEY, a3);
+            store64(node_2 + NODE_VALUE, a4);
+            if (has_pair_2 != 0) {
+                abort(); // The proof excludes this.
+            }
+            r21 = free_2;
+        }
+        char *node_3 = load_address(pool + POOL_NODES) + (at.first * NODE_SIZE);
+        if (load8(node_3 + NODE_HAS_PAIR) != 1) {
+            abort(); // The proof excludes this.
+        }
+        store16(node_3 + NODE_HIGH, (uint16_t)(r21 >> 32));
+        store32(node_3 + NODE_LOW, (uint32_t)r21);
+        r4_0 = link;
+        r11 = at.second + 2;
+        goto arm_6;
+    }
+    spare = load64(pool + POOL_SPARE);
+    if (spare != 0) {
         uint64_t free = load64(pool + POOL_FREE);
         char *node = load_address(pool + POOL_NODES) + (free * NODE_SIZE);
         if (load8(node + NODE_HAS_PAIR) != 0) {
@@ -1687,51 +1990,45 @@ static ALIGNED NOINLINE void row_put_behind_first(char *slot, char *pool, uint64
         store64(pool + POOL_SPARE, spare - 1);
         uint8_t has_pair = load8(node + NODE_HAS_PAIR);
         store16(node + NODE_HAS_PAIR, 1);
-        store16(node + NODE_HIGH, high);
-        store32(node + NODE_LOW, low);
-        store64(node + NODE_KEY, a2);
-        store64(node + NODE_VALUE, a3);
+        store16(node + NODE_HIGH, NOWHERE_HIGH);
+        store32(node + NODE_LOW, NOWHERE_LOW);
+        store64(node + NODE_KEY, a3);
+        store64(node + NODE_VALUE, a4);
         if (has_pair != 0) {
             abort(); // The proof excludes this.
         }
-        r6 = free;
+        r4_0 = free;
+        r11 = 1;
+        goto arm_6;
     }
+    pool_add_new(r0, pool, NOWHERE, a3, a4);
+    r13_6_8_copyload102 = load64(r0 + 8);
+    if (load8(r0) == 0) {
+        r4_0 = r13_6_8_copyload102;
+        r11 = 1;
+        goto arm_6;
+    }
+    r11_2 = r13_6_8_copyload102;
+    r8 = load64(r0 + 16);
+arm_7:;
+    store64(result, 1);
+    store64(result + 8, r11_2);
+    store64(result + 16, r8);
+    return;
+arm_6:;
     if (load8(slot + SLOT_HAS_PAIR) != 1) {
         abort(); // The proof excludes this.
     }
-    store16(slot + SLOT_HIGH, (uint16_t)(r6 >> 32));
-    store32(slot + SLOT_LOW, (uint32_t)r6);
+    store16(slot + SLOT_HIGH, (uint16_t)(r4_0 >> 32));
+    store32(slot + SLOT_LOW, (uint32_t)r4_0);
+    store64(result, 0);
+    store64(result + 8, r11);
+    store64(result + 16, 0);
 }
 
 // The last node of a chain, and its place there.
 // intmap_table::linked::chain::last_in, in crates/intmap_table/src/linked/chain.rt
-static ALWAYS_INLINE uint64_t chain_last_in(char *pool, uint64_t from) {
-    char *nodes = load_address(pool + POOL_NODES);
-    char *node = nodes + (from * NODE_SIZE);
-    if (load8(node + NODE_HAS_PAIR) != 1) {
-        abort(); // The proof excludes this.
-    }
-    uint16_t high = load16(node + NODE_HIGH);
-    if (high == NOWHERE_HIGH) {
-        return from;
-    }
-    uint64_t at = link_of(high, load32(node + NODE_LOW));
-    for (;;) {
-        char *node_2 = nodes + (at * NODE_SIZE);
-        if (load8(node_2 + NODE_HAS_PAIR) != 1) {
-            abort(); // The proof excludes this.
-        }
-        uint16_t high_2 = load16(node_2 + NODE_HIGH);
-        if (high_2 == NOWHERE_HIGH) {
-            return at;
-        }
-        at = link_of(high_2, load32(node_2 + NODE_LOW));
-    }
-}
-
-// The last node of a chain, and its place there.
-// intmap_table::linked::chain::last_in, in crates/intmap_table/src/linked/chain.rt
-static ALWAYS_INLINE struct word_word chain_last_in_2(char *pool, uint64_t from) {
+static ALWAYS_INLINE struct word_word chain_last_in(char *pool, uint64_t from) {
     char *nodes = load_address(pool + POOL_NODES);
     char *node = nodes + (from * NODE_SIZE);
     if (load8(node + NODE_HAS_PAIR) != 1) {
@@ -1758,161 +2055,366 @@ static ALWAYS_INLINE struct word_word chain_last_in_2(char *pool, uint64_t from)
     }
 }
 
+// Removes the first pair of a slot with this link that holds others.
+// intmap_table::linked::row::insertion::replace_first_of_several, in crates/intmap_table/src/linked/row/insertion.rt
+static COLD uint64_t insertion_replace_first_of_several(char *slot, uint64_t link, char *pool, uint64_t a3, uint64_t a4) {
+    uint64_t at = chain_last_in_2(pool, link);
+    char *node = load_address(pool + POOL_NODES) + (at * NODE_SIZE);
+    if (load8(node + NODE_HAS_PAIR) != 1) {
+        abort(); // The proof excludes this.
+    }
+    uint64_t key = load64(node + NODE_KEY);
+    uint64_t value = load64(node + NODE_VALUE);
+    store64(node + NODE_KEY, a3);
+    store64(node + NODE_VALUE, a4);
+    if (load8(slot + SLOT_HAS_PAIR) != 1) {
+        abort(); // The proof excludes this.
+    }
+    uint64_t value_2 = load64(slot + SLOT_VALUE);
+    store64(slot + SLOT_KEY, key);
+    store64(slot + SLOT_VALUE, value);
+    return value_2;
+}
+
+// The last node of a chain, and its place there.
+// intmap_table::linked::chain::last_in, in crates/intmap_table/src/linked/chain.rt
+static ALWAYS_INLINE uint64_t chain_last_in_2(char *pool, uint64_t from) {
+    char *nodes = load_address(pool + POOL_NODES);
+    char *node = nodes + (from * NODE_SIZE);
+    if (load8(node + NODE_HAS_PAIR) != 1) {
+        abort(); // The proof excludes this.
+    }
+    uint16_t high = load16(node + NODE_HIGH);
+    if (high == NOWHERE_HIGH) {
+        return from;
+    }
+    uint64_t at = link_of(high, load32(node + NODE_LOW));
+    for (;;) {
+        char *node_2 = nodes + (at * NODE_SIZE);
+        if (load8(node_2 + NODE_HAS_PAIR) != 1) {
+            abort(); // The proof excludes this.
+        }
+        uint16_t high_2 = load16(node_2 + NODE_HIGH);
+        if (high_2 == NOWHERE_HIGH) {
+            return at;
+        }
+        at = link_of(high_2, load32(node_2 + NODE_LOW));
+    }
+}
+
+// Inserts the pair of a key and a value as `insert` does, if it can't be put at once.
+// intmap::map::IntMap::insert_otherwise, in crates/intmap/src/map/insert.rt
+static ALIGNED NOINLINE void intmap_insert_otherwise(char *result, char *map, uint64_t slot, uint64_t key, uint64_t value) {
+    uint64_t r8_4, r13, value_5, at_4, spare, r7;
+    uint64_t r11_room[4];
+    char *r11 = (char *)r11_room;
+    uint64_t r0_room[3];
+    char *r0 = (char *)r0_room;
+    uint64_t len = load64(map + INT_MAP_LEN);
+    if (len >= load64(map + INT_MAP_THRESHOLD)) {
+        if (!((len != UINT64_MAX) ? (((len + 1) & 4) == 0) : false)) {
+            uint64_t r0_2, r0_3, r0_4;
+            memset(r11, 0, 32);
+            char *slot_2 = load_address(map + INT_MAP_SLOTS) + (slot * SLOT_SIZE);
+            if (load8(slot_2 + SLOT_HAS_PAIR) == 1) {
+                uint64_t nodes_len = load64(map + INT_MAP_NODES_LEN);
+                uint64_t at = link_of(load16(slot_2 + SLOT_HIGH), load32(slot_2 + SLOT_LOW));
+                for (;;) {
+                    if (nodes_len <= at) {
+                        break;
+                    }
+                    char *nodes = load_address(map + INT_MAP_NODES);
+                    uint64_t r8 = at * NODE_SIZE;
+                    char *node = nodes + r8;
+                    if (load8(node + NODE_HAS_PAIR) != 1) {
+                        break;
+                    }
+                    if (load64(node + NODE_KEY) == key) {
+                        uint64_t at_2 = chain_last_in_2(map + INT_MAP_NODES, at);
+                        char *node_2 = nodes + (at_2 * NODE_SIZE);
+                        if (load8(node_2 + NODE_HAS_PAIR) != 1) {
+                            abort(); // The proof excludes this.
+                        }
+                        uint64_t key_2 = load64(node_2 + NODE_KEY);
+                        uint64_t value_2 = load64(node_2 + NODE_VALUE);
+                        store64(node_2 + NODE_KEY, key);
+                        store64(node_2 + NODE_VALUE, value);
+                        if (at_2 == at) {
+                            r0_2 = 0;
+                            r0_3 = 1;
+                            r0_4 = value_2;
+                            goto after_IntMap_insert_growing;
+                        }
+                        char *node_3 = load_address(map + INT_MAP_NODES) + r8;
+                        if (load8(node_3 + NODE_HAS_PAIR) != 1) {
+                            abort(); // The proof excludes this.
+                        }
+                        uint64_t value_3 = load64(node_3 + NODE_VALUE);
+                        store64(node_3 + NODE_KEY, key_2);
+                        store64(node_3 + NODE_VALUE, value_2);
+                        r0_2 = 0;
+                        r0_3 = 1;
+                        r0_4 = value_3;
+                        goto after_IntMap_insert_growing;
+                    }
+                    at = link_of(load16(node + NODE_HIGH), load32(node + NODE_LOW));
+                }
+            }
+            intmap_add_growing(r11, map, slot, key, value);
+            if (load8(r11) == 1) {
+                r0_2 = 1;
+                r0_3 = load64(r11 + 8);
+                r0_4 = load64(r11 + 16);
+            } else {
+                r0_2 = 0;
+                r0_3 = 0;
+                r0_4 = 0;
+            }
+        after_IntMap_insert_growing:;
+            store64(result, r0_2);
+            store64(result + 8, r0_3);
+            store64(result + 16, r0_4);
+            return;
+        }
+    }
+    char *slot_3 = load_address(map + INT_MAP_SLOTS) + (slot * SLOT_SIZE);
+    if (load8(slot_3 + SLOT_HAS_PAIR) != 1) {
+        abort(); // The proof excludes this.
+    }
+    uint16_t high = load16(slot_3 + SLOT_HIGH);
+    uint64_t link = link_of(high, load32(slot_3 + SLOT_LOW));
+    uint64_t nodes_len_2 = load64(map + INT_MAP_NODES_LEN);
+    if (nodes_len_2 > link) {
+        char *nodes_2 = load_address(map + INT_MAP_NODES);
+        uint64_t r8_2 = link * NODE_SIZE;
+        char *node_4 = nodes_2 + r8_2;
+        if (load8(node_4 + NODE_HAS_PAIR) == 1) {
+            char *node_5 = node_4;
+            uint64_t r8_3 = r8_2;
+            uint64_t link_2 = link;
+            for (;;) {
+                if (load64(node_5 + NODE_KEY) == key) {
+                    uint64_t at_3 = chain_last_in_2(map + INT_MAP_NODES, link_2);
+                    char *node_6 = nodes_2 + (at_3 * NODE_SIZE);
+                    if (load8(node_6 + NODE_HAS_PAIR) != 1) {
+                        abort(); // The proof excludes this.
+                    }
+                    uint64_t key_3 = load64(node_6 + NODE_KEY);
+                    uint64_t value_4 = load64(node_6 + NODE_VALUE);
+                    store64(node_6 + NODE_KEY, key);
+                    store64(node_6 + NODE_VALUE, value);
+                    if (at_3 == link_2) {
+                        r8_4 = 0;
+                        r13 = 1;
+                        value_5 = value_4;
+                        goto join_7_2;
+                    }
+                    char *node_7 = load_address(map + INT_MAP_NODES) + r8_3;
+                    if (load8(node_7 + NODE_HAS_PAIR) != 1) {
+                        abort(); // The proof excludes this.
+                    }
+                    uint64_t value_6 = load64(node_7 + NODE_VALUE);
+                    store64(node_7 + NODE_KEY, key_3);
+                    store64(node_7 + NODE_VALUE, value_4);
+                    r8_4 = 0;
+                    r13 = 1;
+                    value_5 = value_6;
+                    goto join_7_2;
+                }
+                uint64_t link_3 = link_of(load16(node_5 + NODE_HIGH), load32(node_5 + NODE_LOW));
+                if (nodes_len_2 <= link_3) {
+                    at_4 = link_2;
+                    break;
+                }
+                uint64_t r8_5 = link_3 * NODE_SIZE;
+                char *node_8 = nodes_2 + r8_5;
+                if (load8(node_8 + NODE_HAS_PAIR) != 1) {
+                    at_4 = link_2;
+                    break;
+                }
+                node_5 = node_8;
+                r8_3 = r8_5;
+                link_2 = link_3;
+            }
+        } else {
+            at_4 = link;
+        }
+    } else {
+        at_4 = link;
+    }
+    spare = load64(map + INT_MAP_SPARE);
+    if (spare == 0) {
+        pool_add_new_2(r0, map + INT_MAP_NODES, key, value);
+        if (load8(r0) != 0) {
+            r8_4 = 1;
+            r13 = load64(r0 + 16);
+            value_5 = 0;
+            goto join_7_2;
+        }
+        r7 = load64(r0 + 8);
+    } else {
+        uint64_t free = load64(map + INT_MAP_FREE);
+        char *node_9 = load_address(map + INT_MAP_NODES) + (free * NODE_SIZE);
+        if (load8(node_9 + NODE_HAS_PAIR) != 0) {
+            abort(); // The proof excludes this.
+        }
+        store64(map + INT_MAP_FREE, link_of(load16(node_9 + NODE_HIGH), load32(node_9 + NODE_LOW)));
+        store64(map + INT_MAP_SPARE, spare - 1);
+        uint8_t has_pair = load8(node_9 + NODE_HAS_PAIR);
+        store16(node_9 + NODE_HAS_PAIR, 1);
+        store16(node_9 + NODE_HIGH, NOWHERE_HIGH);
+        store32(node_9 + NODE_LOW, NOWHERE_LOW);
+        store64(node_9 + NODE_KEY, key);
+        store64(node_9 + NODE_VALUE, value);
+        if (has_pair != 0) {
+            abort(); // The proof excludes this.
+        }
+        r7 = free;
+    }
+    if (high == NOWHERE_HIGH) {
+        if (load8(slot_3 + SLOT_HAS_PAIR) != 1) {
+            abort(); // The proof excludes this.
+        }
+        store16(slot_3 + SLOT_HIGH, (uint16_t)(r7 >> 32));
+        store32(slot_3 + SLOT_LOW, (uint32_t)r7);
+    } else {
+        char *node_10 = load_address(map + INT_MAP_NODES) + (at_4 * NODE_SIZE);
+        if (load8(node_10 + NODE_HAS_PAIR) != 1) {
+            abort(); // The proof excludes this.
+        }
+        store16(node_10 + NODE_HIGH, (uint16_t)(r7 >> 32));
+        store32(node_10 + NODE_LOW, (uint32_t)r7);
+    }
+    store64(map + INT_MAP_LEN, load64(map + INT_MAP_LEN) + 1);
+    r8_4 = 0;
+    r13 = 0;
+    value_5 = 0;
+join_7_2:;
+    store64(result, r8_4);
+    store64(result + 8, r13);
+    store64(result + 16, value_5);
+}
+
+// Puts a pair with a link into a new node behind the others, none of which may be free, and returns which.
+// intmap_table::linked::pool::Pool::add_new, in crates/intmap_table/src/linked/pool.rt
+static ALWAYS_INLINE void pool_add_new_2(char *result, char *nodes_at, uint64_t a3, uint64_t a4) {
+    uint64_t nodes_len = load64(nodes_at + POOL_NODES_LEN);
+    if (nodes_len != NODE_LIMIT) {
+        uint64_t at;
+        if (load64(nodes_at + POOL_NODES_ROOM) == nodes_len) {
+            bool r24 = vec_grow_amortized_3(nodes_at);
+            if (!r24) {
+                goto join_5;
+            }
+            at = load64(nodes_at + POOL_NODES_LEN);
+        } else {
+            at = nodes_len;
+        }
+        char *node = load_address(nodes_at + POOL_NODES) + (at * NODE_SIZE);
+        store16(node + NODE_HAS_PAIR, 1);
+        store16(node + NODE_HIGH, NOWHERE_HIGH);
+        store32(node + NODE_LOW, NOWHERE_LOW);
+        store64(node + NODE_KEY, a3);
+        store64(node + NODE_VALUE, a4);
+        store64(nodes_at + POOL_NODES_LEN, at + 1);
+        store64(result, 0);
+        store64(result + 8, nodes_len);
+        store64(result + 16, 0);
+        return;
+    }
+join_5:;
+    store64(result, 1);
+    store64(result + 8, a3);
+    store64(result + 16, a4);
+}
+
+// std_alloc::vec::Vec::grow_amortized, in Rattle's library std_alloc
+static COLD bool vec_grow_amortized_3(char *nodes_at) {
+    struct word_word r0;
+    uint64_t nodes_len = load64(nodes_at + POOL_NODES_LEN);
+    if (nodes_len == UINT64_MAX) {
+        return false;
+    }
+    uint64_t nodes_room = load64(nodes_at + POOL_NODES_ROOM);
+    uint64_t x0 = greater(nodes_len, 3);
+    uint64_t a2_a1 = x0 + 1;
+    uint64_t x1 = greater(a2_a1, nodes_room << 1);
+    uint64_t common_ret_op = (nodes_room < UINT64_C(4611686018427387904)) ? x1 : a2_a1;
+    if (common_ret_op >= TOO_MANY(24)) {
+        return false;
+    }
+    if (nodes_room == 0) {
+        struct word_word block = rattle_alloc(x1 * 24, 8);
+        if ((block.first & 1) == 0) {
+            return false;
+        }
+        r0 = block;
+    } else {
+        struct word_word block_2 = rattle_realloc(load_address(nodes_at + POOL_NODES), nodes_len * 24, common_ret_op * 24, 8);
+        if ((block_2.first & 1) == 0) {
+            return false;
+        }
+        r0 = block_2;
+    }
+    store_address(nodes_at + POOL_NODES, (char *)(uintptr_t)r0.second);
+    store64(nodes_at + POOL_NODES_ROOM, common_ret_op);
+    return true;
+}
+
 // Moves all pairs, in the order of the walk, to their slots among `capacity` slots.
 // intmap_table::table::Table::grow_to, in crates/intmap_table/src/table/grow.rt
 static ALIGNED uint8_t table_grow_to(char *map, uint64_t capacity, uint64_t additional) {
-    uint8_t r0_2;
-    uint64_t mask_at_room[12];
-    char *mask_at = (char *)mask_at_room;
-    uint64_t has_failed_at_room[13];
-    char *has_failed_at = (char *)has_failed_at_room;
-    if (capacity == load64(map + INT_MAP_SLOTS_LEN)) {
-        struct word_word r0;
-        uint64_t spare = load64(map + INT_MAP_SPARE);
-        if (additional <= spare) {
-            return 0;
-        }
-        uint64_t r19 = additional - spare;
-        uint64_t nodes_len = load64(map + INT_MAP_NODES_LEN);
-        if ((NODE_LIMIT - nodes_len) < r19) {
+    struct word_word r0;
+    if (capacity != load64(map + INT_MAP_SLOTS_LEN)) {
+        uint64_t r10 = load64(map + INT_MAP_NODES_LEN) - load64(map + INT_MAP_SPARE);
+        if (r10 > (~additional)) {
             return 1;
         }
-        uint64_t nodes_room = load64(map + INT_MAP_NODES_ROOM);
-        if (r19 <= (nodes_room - nodes_len)) {
-            return 0;
-        }
-        if (r19 > (~nodes_len)) {
-            return 1;
-        }
-        uint64_t r33 = nodes_len + r19;
-        if (r33 >= TOO_MANY(24)) {
-            return 1;
-        }
-        if (nodes_room == 0) {
-            struct word_word block = rattle_alloc(r33 * 24, 8);
-            if ((block.first & 1) == 0) {
-                return 1;
-            }
-            r0 = block;
-        } else {
-            struct word_word block_2 = rattle_realloc(load_address(map + INT_MAP_NODES), nodes_len * 24, r33 * 24, 8);
-            if ((block_2.first & 1) == 0) {
-                return 1;
-            }
-            r0 = block_2;
-        }
-        store_address(map + INT_MAP_NODES, (char *)(uintptr_t)r0.second);
-        store64(map + INT_MAP_NODES_ROOM, r33);
+        uint8_t r23 = slots_enlarge(map, capacity, r10 + additional);
+        return r23;
+    }
+    uint64_t spare = load64(map + INT_MAP_SPARE);
+    if (additional <= spare) {
         return 0;
     }
-    memset(has_failed_at, 0, MADE_SLOTS_SIZE);
-    uint64_t r10 = load64(map + INT_MAP_NODES_LEN) - load64(map + INT_MAP_SPARE);
-    if (r10 > (~additional)) {
-        r0_2 = 1;
-    } else {
-        slots_new(has_failed_at, capacity, r10 + additional);
-        if (load8(has_failed_at + MADE_SLOTS_HAS_FAILED) == 0) {
-            memcpy(mask_at, has_failed_at + MADE_SLOTS_MASK, SLOTS_SIZE);
-            slots_move_all(map, mask_at);
-            if (load64(mask_at + SLOTS_NODES_LEN) != load64(mask_at + SLOTS_SPARE)) {
-                uint64_t bits;
-                uint64_t words_len = load64(mask_at + SLOTS_WORDS_LEN);
-                char *words = load_address(mask_at + SLOTS_WORDS);
-                if (words_len == 0) {
-                    bits = 0;
-                } else {
-                    bits = load64(words);
-                }
-                char *slots = load_address(mask_at + SLOTS_SLOTS);
-                char *nodes = load_address(mask_at + SLOTS_NODES);
-                uint64_t r1 = 0;
-                uint64_t r1_2 = bits;
-                for (;;) {
-                    uint64_t r1_4, r1_5;
-                    if (r1_2 == 0) {
-                        uint64_t r1_3 = r1;
-                        for (;;) {
-                            uint64_t r26 = r1_3 + 1;
-                            if (words_len <= r26) {
-                                goto after_Slots_turn_each;
-                            }
-                            uint64_t bits_2 = load64(words + (r26 << 3));
-                            if (bits_2 != 0) {
-                                r1_4 = r26;
-                                r1_5 = bits_2;
-                                break;
-                            }
-                            r1_3 = r26;
-                        }
-                    } else {
-                        r1_4 = r1;
-                        r1_5 = r1_2;
-                    }
-                    uint64_t r49 = place_of_lowest_1(r1_5);
-                    uint64_t r64 = (r1_5 - 1) & r1_5;
-                    char *slot = slots + ((r49 | (r1_4 << 6)) * SLOT_SIZE);
-                    if (load8(slot + SLOT_HAS_PAIR) == 1) {
-                        uint16_t high = load16(slot + SLOT_HIGH);
-                        if (high != NOWHERE_HIGH) {
-                            uint64_t at = NOWHERE;
-                            uint64_t at_2 = link_of(high, load32(slot + SLOT_LOW));
-                            for (;;) {
-                                char *node = nodes + (at_2 * NODE_SIZE);
-                                if (load8(node + NODE_HAS_PAIR) != 1) {
-                                    abort(); // The proof excludes this.
-                                }
-                                uint16_t high_2 = load16(node + NODE_HIGH);
-                                uint64_t link = link_of(high_2, load32(node + NODE_LOW));
-                                store16(node + NODE_HIGH, (uint16_t)(at >> 32));
-                                store32(node + NODE_LOW, (uint32_t)at);
-                                if (high_2 == NOWHERE_HIGH) {
-                                    if (load8(slot + SLOT_HAS_PAIR) != 1) {
-                                        abort(); // The proof excludes this.
-                                    }
-                                    store16(slot + SLOT_HIGH, (uint16_t)(at_2 >> 32));
-                                    store32(slot + SLOT_LOW, (uint32_t)at_2);
-                                    break;
-                                }
-                                at = at_2;
-                                at_2 = link;
-                            }
-                        }
-                    }
-                    r1 = r1_4;
-                    r1_2 = r64;
-                }
-            }
-        after_Slots_turn_each:;
-            char *words_2 = load_address(map + INT_MAP_WORDS);
-            char *slots_2 = load_address(map + INT_MAP_SLOTS);
-            uint64_t slots_room = load64(map + INT_MAP_SLOTS_ROOM);
-            char *nodes_2 = load_address(map + INT_MAP_NODES);
-            uint64_t nodes_room_2 = load64(map + INT_MAP_NODES_ROOM);
-            uint64_t words_room = load64(map + INT_MAP_WORDS_ROOM);
-            memcpy(map, mask_at, TABLE_SIZE);
-            if (words_room != 0) {
-                rattle_dealloc(words_2);
-            }
-            if (slots_room != 0) {
-                rattle_dealloc(slots_2);
-            }
-            if (nodes_room_2 == 0) {
-                r0_2 = 0;
-            } else {
-                rattle_dealloc(nodes_2);
-                r0_2 = 0;
-            }
-        } else {
-            r0_2 = 1;
-        }
+    uint64_t r19 = additional - spare;
+    uint64_t nodes_len = load64(map + INT_MAP_NODES_LEN);
+    if ((NODE_LIMIT - nodes_len) < r19) {
+        return 1;
     }
-    return r0_2;
+    uint64_t nodes_room = load64(map + INT_MAP_NODES_ROOM);
+    if (r19 <= (nodes_room - nodes_len)) {
+        return 0;
+    }
+    if (r19 > (~nodes_len)) {
+        return 1;
+    }
+    uint64_t r33 = nodes_len + r19;
+    if (r33 >= TOO_MANY(24)) {
+        return 1;
+    }
+    if (nodes_room == 0) {
+        struct word_word block = rattle_alloc(r33 * 24, 8);
+        if ((block.first & 1) == 0) {
+            return 1;
+        }
+        r0 = block;
+    } else {
+        struct word_word block_2 = rattle_realloc(load_address(map + INT_MAP_NODES), nodes_len * 24, r33 * 24, 8);
+        if ((block_2.first & 1) == 0) {
+            return 1;
+        }
+        r0 = block_2;
+    }
+    store_address(map + INT_MAP_NODES, (char *)(uintptr_t)r0.second);
+    store64(map + INT_MAP_NODES_ROOM, r33);
+    return 0;
 }
 
 // Writes the address of the value of the key, or null if the key is absent.
 // intmap_place, in crates/intmap_c/src/place.rt
 static ALWAYS_INLINE void do_intmap_place(char *word, uint64_t key, char *at) {
-    char *r9;
+    char *r11;
     store_address(at, NULL);
     char *map = load_address(word);
     if (map == NULL) {
@@ -1922,44 +2424,27 @@ static ALWAYS_INLINE void do_intmap_place(char *word, uint64_t key, char *at) {
     if (load8(slot + SLOT_HAS_PAIR) != 1) {
         return;
     }
-    uint64_t link = link_of(load16(slot + SLOT_HIGH), load32(slot + SLOT_LOW));
     if (load64(slot + SLOT_KEY) == key) {
-        r9 = slot;
+        r11 = slot;
     } else {
         uint64_t nodes_len = load64(map + INT_MAP_NODES_LEN);
-        if (nodes_len <= link) {
-            return;
-        }
-        char *nodes = load_address(map + INT_MAP_NODES);
-        uint64_t at_2 = link;
-        uint64_t r2_0 = 0;
+        uint64_t at_2 = link_of(load16(slot + SLOT_HIGH), load32(slot + SLOT_LOW));
         for (;;) {
-            char *node = nodes + (at_2 * NODE_SIZE);
+            if (nodes_len <= at_2) {
+                return;
+            }
+            char *node = load_address(map + INT_MAP_NODES) + (at_2 * NODE_SIZE);
             if (load8(node + NODE_HAS_PAIR) != 1) {
                 return;
             }
             if (load64(node + NODE_KEY) == key) {
-                if (r2_0 == UINT64_MAX) {
-                    r9 = slot;
-                    break;
-                }
-                uint64_t at_3 = chain_seek(map + INT_MAP_NODES, link, r2_0);
-                char *node_2 = nodes + (at_3 * NODE_SIZE);
-                if (load8(node_2 + NODE_HAS_PAIR) != 1) {
-                    abort(); // The proof excludes this.
-                }
-                r9 = node_2;
+                r11 = node;
                 break;
             }
-            uint64_t link_2 = link_of(load16(node + NODE_HIGH), load32(node + NODE_LOW));
-            if (nodes_len <= link_2) {
-                return;
-            }
-            at_2 = link_2;
-            r2_0 = r2_0 + 1;
+            at_2 = link_of(load16(node + NODE_HIGH), load32(node + NODE_LOW));
         }
     }
-    store_address(at, r9 + 16);
+    store_address(at, r11 + 16);
 }
 
 // The version of the code, which is 1.1.0: 10000 times the first number, 100 times the second, and the third.
@@ -2177,7 +2662,7 @@ static ALWAYS_INLINE char *do_intmap_step(char *result, char *word, char *at) {
         r6_2 = 0;
         r6_3 = 0;
     } else {
-        char *r11_2, *r11_pn137, *slot_4;
+        char *r11_2, *r11_pn139, *slot_4;
         uint64_t r3_0_2, r115, words_len, r1, r1_2, r1_3, r49, index;
         uint64_t slot = load64(at + CURSOR_SLOT);
         uint64_t place = load64(at + CURSOR_PLACE);
@@ -2220,7 +2705,7 @@ static ALWAYS_INLINE char *do_intmap_step(char *result, char *word, char *at) {
                     }
                     if (place == 0) {
                         r11_2 = slot_3;
-                        r11_pn137 = slot_3;
+                        r11_pn139 = slot_3;
                         goto arm_5;
                     }
                     uint64_t link_3 = link_of(load16(slot_3 + SLOT_HIGH), load32(slot_3 + SLOT_LOW));
@@ -2237,7 +2722,7 @@ static ALWAYS_INLINE char *do_intmap_step(char *result, char *word, char *at) {
                         abort(); // The proof excludes this.
                     }
                     r11_2 = node_2;
-                    r11_pn137 = node_3;
+                    r11_pn139 = node_3;
                     goto arm_5;
                 }
             }
@@ -2278,14 +2763,14 @@ static ALWAYS_INLINE char *do_intmap_step(char *result, char *word, char *at) {
         slot_4 = load_address(map + INT_MAP_SLOTS) + (index * SLOT_SIZE);
         if (load8(slot_4 + SLOT_HAS_PAIR) == 1) {
             r11_2 = slot_4;
-            r11_pn137 = slot_4;
+            r11_pn139 = slot_4;
             goto arm_5;
         }
     arm_2_4:;
         abort(); // The proof excludes this.
     arm_5:;
         r6 = load64(r11_2 + 8);
-        r6_2 = load64(r11_pn137 + 16);
+        r6_2 = load64(r11_pn139 + 16);
         r6_3 = 1;
     }
 after_read_intmap_step:;
@@ -2309,49 +2794,31 @@ static ALWAYS_INLINE struct word_word do_intmap_add_present(char *handle, uint64
         struct word_half r29;
         char *slot = load_address(map + INT_MAP_SLOTS) + ((load64(map + INT_MAP_MASK) & (key * MULTIPLIER)) * SLOT_SIZE);
         if (load8(slot + SLOT_HAS_PAIR) == 1) {
-            char *r9;
-            uint64_t link = link_of(load16(slot + SLOT_HIGH), load32(slot + SLOT_LOW));
+            char *r11;
             if (load64(slot + SLOT_KEY) == key) {
-                r9 = slot;
+                r11 = slot;
             } else {
                 uint64_t nodes_len = load64(map + INT_MAP_NODES_LEN);
-                if (nodes_len <= link) {
-                    r29 = empty_word_half();
-                    goto after_pairs_add_present;
-                }
-                char *nodes = load_address(map + INT_MAP_NODES);
-                uint64_t at = link;
-                uint64_t r2_0 = 0;
+                uint64_t at = link_of(load16(slot + SLOT_HIGH), load32(slot + SLOT_LOW));
                 for (;;) {
-                    char *node = nodes + (at * NODE_SIZE);
+                    if (nodes_len <= at) {
+                        r29 = empty_word_half();
+                        goto after_pairs_add_present;
+                    }
+                    char *node = load_address(map + INT_MAP_NODES) + (at * NODE_SIZE);
                     if (load8(node + NODE_HAS_PAIR) != 1) {
                         r29 = empty_word_half();
                         goto after_pairs_add_present;
                     }
                     if (load64(node + NODE_KEY) == key) {
-                        if (r2_0 == UINT64_MAX) {
-                            r9 = slot;
-                            break;
-                        }
-                        uint64_t at_2 = chain_seek(map + INT_MAP_NODES, link, r2_0);
-                        char *node_2 = nodes + (at_2 * NODE_SIZE);
-                        if (load8(node_2 + NODE_HAS_PAIR) != 1) {
-                            abort(); // The proof excludes this.
-                        }
-                        r9 = node_2;
+                        r11 = node;
                         break;
                     }
-                    uint64_t link_2 = link_of(load16(node + NODE_HIGH), load32(node + NODE_LOW));
-                    if (nodes_len <= link_2) {
-                        r29 = empty_word_half();
-                        goto after_pairs_add_present;
-                    }
-                    at = link_2;
-                    r2_0 = r2_0 + 1;
+                    at = link_of(load16(node + NODE_HIGH), load32(node + NODE_LOW));
                 }
             }
-            uint64_t r19 = load64(r9 + 16);
-            store64(r9 + 16, r19 + more);
+            uint64_t r19 = load64(r11 + 16);
+            store64(r11 + 16, r19 + more);
             r29 = made_word_half(r19, 1);
         } else {
             r29 = empty_word_half();
@@ -2450,7 +2917,7 @@ loop_2_2:;
                 if (high == NOWHERE_HIGH) {
                     memset(slot, 0, SLOT_SIZE);
                 } else {
-                    row_take_first_of_several(slot, link_of(high, load32(slot + SLOT_LOW)), map + INT_MAP_NODES);
+                    removal_take_first_of_several(slot, link_of(high, load32(slot + SLOT_LOW)), map + INT_MAP_NODES);
                 }
                 break;
             default:
@@ -2474,8 +2941,8 @@ static ALWAYS_INLINE char *do_intmap_cut(char *result, char *handle, char *at) {
         r6_3 = 0;
     } else {
         uint16_t high_2;
-        uint64_t r305863, r3_0_2, r115, words_len, r1, r1_2, r1_3, x13, x14, r49, index;
-        char *slot_3, *nodes_at, *slot_4, *r9;
+        uint64_t r306065, r3_0_2, r115, words_len, r1, r1_2, r1_3, x13, x14, r49, index;
+        char *slot_3, *nodes_at, *slot_4, *r11_2;
         struct word_word r19, r19_2;
         uint32_t r8_2;
         uint64_t slot = load64(at + CURSOR_SLOT);
@@ -2520,10 +2987,10 @@ static ALWAYS_INLINE char *do_intmap_cut(char *result, char *handle, char *at) {
                     switch (place) {
                     case 0:
                         high_2 = high;
-                        r305863 = slot;
+                        r306065 = slot;
                         slot_3 = slot_2;
                         nodes_at = map + INT_MAP_NODES;
-                        goto after_row_take_front_2;
+                        goto after_removal_take_front_2;
                     case 1:
                         node_2 = load_address(map + INT_MAP_NODES) + (link * NODE_SIZE);
                         if (load8(node_2 + NODE_HAS_PAIR) != 1) {
@@ -2626,25 +3093,25 @@ static ALWAYS_INLINE char *do_intmap_cut(char *result, char *handle, char *at) {
             abort(); // The proof excludes this.
         }
         high_2 = load16(slot_4 + SLOT_HIGH);
-        r305863 = index;
+        r306065 = index;
         slot_3 = slot_4;
         nodes_at = map + INT_MAP_NODES;
-    after_row_take_front_2:;
+    after_removal_take_front_2:;
         if (high_2 == NOWHERE_HIGH) {
             uint64_t key_4 = load64(slot_3 + SLOT_KEY);
             uint64_t value_4 = load64(slot_3 + SLOT_VALUE);
             memset(slot_3, 0, SLOT_SIZE);
             r19_2 = made_word_word(key_4, value_4);
         } else {
-            struct word_word r16 = row_take_first_of_several(slot_3, link_of(high_2, load32(slot_3 + SLOT_LOW)), nodes_at);
+            struct word_word r16 = removal_take_first_of_several(slot_3, link_of(high_2, load32(slot_3 + SLOT_LOW)), nodes_at);
             if (load8(slot_3 + SLOT_HAS_PAIR) != 0) {
                 r19 = r16;
                 goto x12;
             }
             r19_2 = r16;
         }
-        r9 = load_address(map + INT_MAP_WORDS) + ((r305863 >> 3) & UINT64_C(0x1FFFFFFFFFFFFFF8));
-        store64(r9, load64(r9) & (~((uint64_t)1 << (r305863 & 63))));
+        r11_2 = load_address(map + INT_MAP_WORDS) + ((r306065 >> 3) & UINT64_C(0x1FFFFFFFFFFFFFF8));
+        store64(r11_2, load64(r11_2) & (~((uint64_t)1 << (r306065 & 63))));
         r19 = r19_2;
     x12:;
         store64(map + INT_MAP_LEN, load64(map + INT_MAP_LEN) - 1);
@@ -2703,171 +3170,43 @@ static ALWAYS_INLINE struct word_word do_intmap_remove(char *handle, uint64_t ke
         r23 = empty_word_half();
     } else {
         uint32_t spec_select1;
-        uint64_t x10;
+        uint64_t x5;
         uint64_t index = load64(map + INT_MAP_MASK) & (key * MULTIPLIER);
         char *slot = load_address(map + INT_MAP_SLOTS) + (index * SLOT_SIZE);
         if (load8(slot + SLOT_HAS_PAIR) == 1) {
-            uint64_t r0, r72_1_merged, r72_1_merged_2;
-            char *r9_2;
+            uint64_t r0;
             uint16_t high = load16(slot + SLOT_HIGH);
-            uint64_t link = link_of(high, load32(slot + SLOT_LOW));
-            if (load64(slot + SLOT_KEY) == key) {
-                r0 = 0;
-            } else {
-                uint64_t nodes_len = load64(map + INT_MAP_NODES_LEN);
-                if (nodes_len <= link) {
+            if (high == NOWHERE_HIGH) {
+                if (load64(slot + SLOT_KEY) != key) {
                     spec_select1 = 0;
-                    x10 = 0;
+                    x5 = 0;
                     goto after_pairs_remove;
                 }
-                char *nodes = load_address(map + INT_MAP_NODES);
-                uint64_t at = link;
-                uint64_t r2_0 = 0;
-                for (;;) {
-                    char *node = nodes + (at * NODE_SIZE);
-                    if (load8(node + NODE_HAS_PAIR) != 1) {
-                        spec_select1 = 0;
-                        x10 = 0;
-                        goto after_pairs_remove;
-                    }
-                    if (load64(node + NODE_KEY) == key) {
-                        r0 = r2_0 + 1;
-                        break;
-                    }
-                    uint64_t link_2 = link_of(load16(node + NODE_HIGH), load32(node + NODE_LOW));
-                    if (nodes_len <= link_2) {
-                        spec_select1 = 0;
-                        x10 = 0;
-                        goto after_pairs_remove;
-                    }
-                    at = link_2;
-                    r2_0 = r2_0 + 1;
-                }
-            }
-            if (high == NOWHERE_HIGH) {
+                uint64_t r8 = (index >> 3) & UINT64_C(0x1FFFFFFFFFFFFFF8);
+                uint64_t bits = load64(load_address(map + INT_MAP_WORDS) + r8);
                 uint64_t value = load64(slot + SLOT_VALUE);
                 memset(slot, 0, SLOT_SIZE);
-                r72_1_merged = value;
+                store64(load_address(map + INT_MAP_WORDS) + r8, bits & (~((uint64_t)1 << (index & 63))));
+                r0 = value;
             } else {
-                uint64_t link_3, r9, key_3, value_3;
-                char *nodes_2 = load_address(map + INT_MAP_NODES);
-                uint64_t r8 = link * NODE_SIZE;
-                char *node_2 = nodes_2 + r8;
-                if (load8(node_2 + NODE_HAS_PAIR) != 1) {
-                    abort(); // The proof excludes this.
+                struct byte_word r48 = removal_remove_of_several(slot, link_of(high, load32(slot + SLOT_LOW)), map + INT_MAP_NODES, key);
+                if (r48.first != 1) {
+                    spec_select1 = 0;
+                    x5 = 0;
+                    goto after_pairs_remove;
                 }
-                uint16_t high_2 = load16(node_2 + NODE_HIGH);
-                if (high_2 == NOWHERE_HIGH) {
-                    uint64_t free = load64(map + INT_MAP_FREE);
-                    uint64_t key_2 = load64(node_2 + NODE_KEY);
-                    uint64_t value_2 = load64(node_2 + NODE_VALUE);
-                    store16(node_2 + NODE_HAS_PAIR, 0);
-                    store16(node_2 + NODE_HIGH, (uint16_t)(free >> 32));
-                    store32(node_2 + NODE_LOW, (uint32_t)free);
-                    memset(node_2 + NODE_KEY, 0, PAIR_SIZE);
-                    store64(map + INT_MAP_FREE, link);
-                    store64(map + INT_MAP_SPARE, load64(map + INT_MAP_SPARE) + 1);
-                    link_3 = NOWHERE;
-                    r9 = 0;
-                    key_3 = key_2;
-                    value_3 = value_2;
-                } else {
-                    uint64_t r6, r6_2, r2_0_2, r3_0;
-                    uint64_t link_4 = link_of(high_2, load32(node_2 + NODE_LOW));
-                    uint64_t r8_2 = link_4 * NODE_SIZE;
-                    char *node_3 = nodes_2 + r8_2;
-                    if (load8(node_3 + NODE_HAS_PAIR) != 1) {
-                        abort(); // The proof excludes this.
-                    }
-                    uint16_t high_3 = load16(node_3 + NODE_HIGH);
-                    if (high_3 == NOWHERE_HIGH) {
-                        r6 = r8;
-                        r6_2 = r8_2;
-                        r2_0_2 = link_4;
-                        r3_0 = 1;
-                    } else {
-                        uint64_t at_2 = link_of(high_3, load32(node_3 + NODE_LOW));
-                        uint64_t r3_0_2 = 1;
-                        uint64_t r2_0_3 = link_4;
-                        for (;;) {
-                            uint64_t r8_3 = at_2 * NODE_SIZE;
-                            char *node_4 = nodes_2 + r8_3;
-                            if (load8(node_4 + NODE_HAS_PAIR) != 1) {
-                                abort(); // The proof excludes this.
-                            }
-                            uint64_t r18 = r3_0_2 + 1;
-                            uint16_t high_4 = load16(node_4 + NODE_HIGH);
-                            if (high_4 == NOWHERE_HIGH) {
-                                r6 = r2_0_3 * 24;
-                                r6_2 = r8_3;
-                                r2_0_2 = at_2;
-                                r3_0 = r18;
-                                break;
-                            }
-                            r3_0_2 = r18;
-                            r2_0_3 = at_2;
-                            at_2 = link_of(high_4, load32(node_4 + NODE_LOW));
-                        }
-                    }
-                    char *node_5 = nodes_2 + r6_2;
-                    uint64_t free_2 = load64(map + INT_MAP_FREE);
-                    uint64_t key_4 = load64(node_5 + NODE_KEY);
-                    uint64_t value_4 = load64(node_5 + NODE_VALUE);
-                    store16(node_5 + NODE_HAS_PAIR, 0);
-                    store16(node_5 + NODE_HIGH, (uint16_t)(free_2 >> 32));
-                    store32(node_5 + NODE_LOW, (uint32_t)free_2);
-                    memset(node_5 + NODE_KEY, 0, PAIR_SIZE);
-                    store64(map + INT_MAP_FREE, r2_0_2);
-                    store64(map + INT_MAP_SPARE, load64(map + INT_MAP_SPARE) + 1);
-                    char *node_6 = load_address(map + INT_MAP_NODES) + r6;
-                    if (load8(node_6 + NODE_HAS_PAIR) != 1) {
-                        abort(); // The proof excludes this.
-                    }
-                    store16(node_6 + NODE_HIGH, NOWHERE_HIGH);
-                    store32(node_6 + NODE_LOW, NOWHERE_LOW);
-                    link_3 = link;
-                    r9 = r3_0;
-                    key_3 = key_4;
-                    value_3 = value_4;
-                }
-                if (load8(slot + SLOT_HAS_PAIR) != 1) {
-                    abort(); // The proof excludes this.
-                }
-                store16(slot + SLOT_HIGH, (uint16_t)(link_3 >> 32));
-                store32(slot + SLOT_LOW, (uint32_t)link_3);
-                if (r0 == 0) {
-                    uint64_t value_5 = load64(slot + SLOT_VALUE);
-                    store64(slot + SLOT_KEY, key_3);
-                    store64(slot + SLOT_VALUE, value_3);
-                    r72_1_merged_2 = value_5;
-                    goto after_row_take_3;
-                }
-                uint64_t r53 = r0 - 1;
-                if (r53 == r9) {
-                    r72_1_merged_2 = value_3;
-                    goto after_row_take_3;
-                }
-                uint64_t r68 = chain_swap_behind(link_3, map + INT_MAP_NODES, r53, key_3, value_3);
-                if (load8(slot + SLOT_HAS_PAIR) != 0) {
-                    r72_1_merged_2 = r68;
-                    goto after_row_take_3;
-                }
-                r72_1_merged = r68;
+                r0 = r48.second;
             }
-            r9_2 = load_address(map + INT_MAP_WORDS) + ((index >> 3) & UINT64_C(0x1FFFFFFFFFFFFFF8));
-            store64(r9_2, load64(r9_2) & (~((uint64_t)1 << (index & 63))));
-            r72_1_merged_2 = r72_1_merged;
-        after_row_take_3:;
             store64(map + INT_MAP_LEN, load64(map + INT_MAP_LEN) - 1);
             spec_select1 = 1;
-            x10 = r72_1_merged_2;
+            x5 = r0;
         } else {
             spec_select1 = 0;
-            x10 = 0;
+            x5 = 0;
         }
     after_pairs_remove:;
         store64(handle, map_address);
-        r23 = made_word_half(x10, spec_select1);
+        r23 = made_word_half(x5, spec_select1);
     }
     uint64_t r0_2_8_ext = (uint64_t)r23.second;
     return made_word_word(r23.first, r0_2_8_ext);
@@ -2886,49 +3225,31 @@ static ALWAYS_INLINE struct word_word do_intmap_replace(char *handle, uint64_t k
         struct word_half r26;
         char *slot = load_address(map + INT_MAP_SLOTS) + ((load64(map + INT_MAP_MASK) & (key * MULTIPLIER)) * SLOT_SIZE);
         if (load8(slot + SLOT_HAS_PAIR) == 1) {
-            char *r9;
-            uint64_t link = link_of(load16(slot + SLOT_HIGH), load32(slot + SLOT_LOW));
+            char *r11;
             if (load64(slot + SLOT_KEY) == key) {
-                r9 = slot;
+                r11 = slot;
             } else {
                 uint64_t nodes_len = load64(map + INT_MAP_NODES_LEN);
-                if (nodes_len <= link) {
-                    r26 = empty_word_half();
-                    goto after_pairs_replace;
-                }
-                char *nodes = load_address(map + INT_MAP_NODES);
-                uint64_t at = link;
-                uint64_t r2_0 = 0;
+                uint64_t at = link_of(load16(slot + SLOT_HIGH), load32(slot + SLOT_LOW));
                 for (;;) {
-                    char *node = nodes + (at * NODE_SIZE);
+                    if (nodes_len <= at) {
+                        r26 = empty_word_half();
+                        goto after_pairs_replace;
+                    }
+                    char *node = load_address(map + INT_MAP_NODES) + (at * NODE_SIZE);
                     if (load8(node + NODE_HAS_PAIR) != 1) {
                         r26 = empty_word_half();
                         goto after_pairs_replace;
                     }
                     if (load64(node + NODE_KEY) == key) {
-                        if (r2_0 == UINT64_MAX) {
-                            r9 = slot;
-                            break;
-                        }
-                        uint64_t at_2 = chain_seek(map + INT_MAP_NODES, link, r2_0);
-                        char *node_2 = nodes + (at_2 * NODE_SIZE);
-                        if (load8(node_2 + NODE_HAS_PAIR) != 1) {
-                            abort(); // The proof excludes this.
-                        }
-                        r9 = node_2;
+                        r11 = node;
                         break;
                     }
-                    uint64_t link_2 = link_of(load16(node + NODE_HIGH), load32(node + NODE_LOW));
-                    if (nodes_len <= link_2) {
-                        r26 = empty_word_half();
-                        goto after_pairs_replace;
-                    }
-                    at = link_2;
-                    r2_0 = r2_0 + 1;
+                    at = link_of(load16(node + NODE_HIGH), load32(node + NODE_LOW));
                 }
             }
-            uint64_t r6 = load64(r9 + 16);
-            store64(r9 + 16, value);
+            uint64_t r6 = load64(r11 + 16);
+            store64(r11 + 16, value);
             r26 = made_word_half(r6, 1);
         } else {
             r26 = empty_word_half();
@@ -3048,13 +3369,11 @@ static ALWAYS_INLINE uint32_t do_intmap_with_slots(char *handle, uint64_t slots)
 // intmap_add_or_insert, in crates/intmap_c/src/pairs.rt
 static ALWAYS_INLINE struct word_word do_intmap_add_or_insert(char *handle, uint64_t key, uint64_t more) {
     char *map;
-    uint64_t r40, value_3, len, x23;
-    uint64_t r0_room[3];
-    char *r0 = (char *)r0_room;
-    uint64_t r0_2_room[3];
-    char *r0_2 = (char *)r0_2_room;
-    uint64_t r12_room[4];
-    char *r12 = (char *)r12_room;
+    uint64_t r40, value_3, len;
+    uint64_t r11_room[3];
+    char *r11 = (char *)r11_room;
+    uint64_t r8_room[4];
+    char *r8 = (char *)r8_room;
     uint64_t map_address = load64(handle);
     store64(handle, 0);
     if (map_address == 0) {
@@ -3070,8 +3389,7 @@ static ALWAYS_INLINE struct word_word do_intmap_add_or_insert(char *handle, uint
     uint64_t index = load64(map + INT_MAP_MASK) & (key * MULTIPLIER);
     char *slot = load_address(map + INT_MAP_SLOTS) + (index * SLOT_SIZE);
     uint8_t has_pair = load8(slot + SLOT_HAS_PAIR);
-    bool x4 = has_pair == 1;
-    if (x4) {
+    if (has_pair == 1) {
         uint64_t value_2;
         char *r9;
         uint64_t link = link_of(load16(slot + SLOT_HIGH), load32(slot + SLOT_LOW));
@@ -3093,21 +3411,13 @@ static ALWAYS_INLINE struct word_word do_intmap_add_or_insert(char *handle, uint
                         break;
                     }
                     uint64_t at_2 = chain_seek(map + INT_MAP_NODES, link, r2_0);
-                    if (load8((nodes + (at_2 * NODE_SIZE)) + NODE_HAS_PAIR) != 1) {
-                        abort(); // The proof excludes this.
-                    }
-                    uint64_t at_3 = chain_seek(map + INT_MAP_NODES, link, r2_0);
-                    char *node_2 = nodes + (at_3 * NODE_SIZE);
+                    char *node_2 = nodes + (at_2 * NODE_SIZE);
                     if (load8(node_2 + NODE_HAS_PAIR) != 1) {
                         abort(); // The proof excludes this.
                     }
                     uint64_t value = load64(node_2 + NODE_VALUE);
-                    uint64_t at_4 = chain_seek(map + INT_MAP_NODES, link, r2_0);
-                    if (load8((nodes + (at_4 * NODE_SIZE)) + NODE_HAS_PAIR) != 1) {
-                        abort(); // The proof excludes this.
-                    }
-                    uint64_t at_5 = chain_seek(map + INT_MAP_NODES, link, r2_0);
-                    char *node_3 = nodes + (at_5 * NODE_SIZE);
+                    uint64_t at_3 = chain_seek(map + INT_MAP_NODES, link, r2_0);
+                    char *node_3 = nodes + (at_3 * NODE_SIZE);
                     if (load8(node_3 + NODE_HAS_PAIR) != 1) {
                         abort(); // The proof excludes this.
                     }
@@ -3132,117 +3442,41 @@ static ALWAYS_INLINE struct word_word do_intmap_add_or_insert(char *handle, uint
         goto after_pairs_add_or_insert;
     }
 arm_2_2:;
-    memset(r12, 0, 32);
+    memset(r8, 0, 32);
     len = load64(map + INT_MAP_LEN);
-    if (len == UINT64_MAX) {
-        x23 = TOO_LARGE;
-    } else {
-        uint64_t r44 = len + 1;
-        if (!(((r44 & 4) != 0) & (load64(map + INT_MAP_THRESHOLD) <= len))) {
-            if (x4) {
-                uint64_t spare, r4_0;
-                uint16_t high = load16(slot + SLOT_HIGH);
-                uint64_t link_3 = link_of(high, load32(slot + SLOT_LOW));
-                if (high != NOWHERE_HIGH) {
-                    uint64_t r21;
-                    uint64_t at_6 = chain_last_in(map + INT_MAP_NODES, link_3);
-                    uint64_t spare_2 = load64(map + INT_MAP_SPARE);
-                    if (spare_2 == 0) {
-                        pool_add_new(r0_2, map + INT_MAP_NODES, NOWHERE, key, more);
-                        if (load8(r0_2) != 0) {
-                            goto after_IntMap_add;
-                        }
-                        r21 = load64(r0_2 + 8);
-                    } else {
-                        uint64_t free_2 = load64(map + INT_MAP_FREE);
-                        char *node_5 = load_address(map + INT_MAP_NODES) + (free_2 * NODE_SIZE);
-                        if (load8(node_5 + NODE_HAS_PAIR) != 0) {
-                            abort(); // The proof excludes this.
-                        }
-                        store64(map + INT_MAP_FREE, link_of(load16(node_5 + NODE_HIGH), load32(node_5 + NODE_LOW)));
-                        store64(map + INT_MAP_SPARE, spare_2 - 1);
-                        uint8_t has_pair_3 = load8(node_5 + NODE_HAS_PAIR);
-                        store16(node_5 + NODE_HAS_PAIR, 1);
-                        store16(node_5 + NODE_HIGH, NOWHERE_HIGH);
-                        store32(node_5 + NODE_LOW, NOWHERE_LOW);
-                        store64(node_5 + NODE_KEY, key);
-                        store64(node_5 + NODE_VALUE, more);
-                        if (has_pair_3 != 0) {
-                            abort(); // The proof excludes this.
-                        }
-                        r21 = free_2;
-                    }
-                    char *node_6 = load_address(map + INT_MAP_NODES) + (at_6 * NODE_SIZE);
-                    if (load8(node_6 + NODE_HAS_PAIR) != 1) {
-                        abort(); // The proof excludes this.
-                    }
-                    store16(node_6 + NODE_HIGH, (uint16_t)(r21 >> 32));
-                    store32(node_6 + NODE_LOW, (uint32_t)r21);
-                    r4_0 = link_3;
-                    goto arm_5_3;
-                }
-                spare = load64(map + INT_MAP_SPARE);
-                if (spare != 0) {
-                    uint64_t free = load64(map + INT_MAP_FREE);
-                    char *node_4 = load_address(map + INT_MAP_NODES) + (free * NODE_SIZE);
-                    if (load8(node_4 + NODE_HAS_PAIR) != 0) {
-                        abort(); // The proof excludes this.
-                    }
-                    store64(map + INT_MAP_FREE, link_of(load16(node_4 + NODE_HIGH), load32(node_4 + NODE_LOW)));
-                    store64(map + INT_MAP_SPARE, spare - 1);
-                    uint8_t has_pair_2 = load8(node_4 + NODE_HAS_PAIR);
-                    store16(node_4 + NODE_HAS_PAIR, 1);
-                    store16(node_4 + NODE_HIGH, NOWHERE_HIGH);
-                    store32(node_4 + NODE_LOW, NOWHERE_LOW);
-                    store64(node_4 + NODE_KEY, key);
-                    store64(node_4 + NODE_VALUE, more);
-                    if (has_pair_2 != 0) {
-                        abort(); // The proof excludes this.
-                    }
-                    r4_0 = free;
-                    goto arm_5_3;
-                }
-                pool_add_new(r0, map + INT_MAP_NODES, NOWHERE, key, more);
-                if (load8(r0) == 0) {
-                    r4_0 = load64(r0 + 8);
-                    goto arm_5_3;
-                }
-            after_IntMap_add:;
-                r40 = NO_MEMORY;
+    if (len >= load64(map + INT_MAP_THRESHOLD)) {
+        if (!((len != UINT64_MAX) ? (((len + 1) & 4) == 0) : false)) {
+            intmap_add_growing(r8, map, index, key, more);
+            if (load8(r8) == 0) {
+                r40 = 0;
                 value_3 = 0;
                 goto after_pairs_add_or_insert;
-            arm_5_3:;
-                if (load8(slot + SLOT_HAS_PAIR) != 1) {
-                    abort(); // The proof excludes this.
-                }
-                store16(slot + SLOT_HIGH, (uint16_t)(r4_0 >> 32));
-                store32(slot + SLOT_LOW, (uint32_t)r4_0);
-            } else {
-                store16(slot + SLOT_HAS_PAIR, 1);
-                store16(slot + SLOT_HIGH, NOWHERE_HIGH);
-                store32(slot + SLOT_LOW, NOWHERE_LOW);
-                store64(slot + SLOT_KEY, key);
-                store64(slot + SLOT_VALUE, more);
-                if (has_pair != 0) {
-                    abort(); // The proof excludes this.
-                }
             }
-            char *r9_2 = load_address(map + INT_MAP_WORDS) + ((index >> 3) & UINT64_C(0x1FFFFFFFFFFFFFF8));
-            store64(r9_2, load64(r9_2) | ((uint64_t)1 << (index & 63)));
-            store64(map + INT_MAP_LEN, r44);
-            r40 = 0;
+            r40 = (load8(r8 + 16) == 0) ? NO_MEMORY : TOO_LARGE;
             value_3 = 0;
             goto after_pairs_add_or_insert;
         }
-        intmap_add_growing(r12, map, r44, index, key, more);
-        if (load8(r12) == 0) {
-            r40 = 0;
-            value_3 = 0;
-            goto after_pairs_add_or_insert;
-        }
-        x23 = ((load64(r12 + 16) & 255) == 0) ? NO_MEMORY : TOO_LARGE;
     }
-    r40 = x23;
+    memset(r11, 0, 24);
+    if (has_pair == 0) {
+        uint64_t r8_2 = (index >> 3) & UINT64_C(0x1FFFFFFFFFFFFFF8);
+        uint64_t bits = load64(load_address(map + INT_MAP_WORDS) + r8_2);
+        store16(slot + SLOT_HAS_PAIR, 1);
+        store16(slot + SLOT_HIGH, NOWHERE_HIGH);
+        store32(slot + SLOT_LOW, NOWHERE_LOW);
+        store64(slot + SLOT_KEY, key);
+        store64(slot + SLOT_VALUE, more);
+        store64(load_address(map + INT_MAP_WORDS) + r8_2, bits | ((uint64_t)1 << (index & 63)));
+    } else {
+        insertion_push_further(r11, slot, map + INT_MAP_NODES, key, more);
+        if (load8(r11) != 0) {
+            r40 = NO_MEMORY;
+            value_3 = 0;
+            goto after_pairs_add_or_insert;
+        }
+    }
+    store64(map + INT_MAP_LEN, load64(map + INT_MAP_LEN) + 1);
+    r40 = 0;
     value_3 = 0;
 after_pairs_add_or_insert:;
     store64(handle, map_address_2);
@@ -3255,12 +3489,10 @@ static ALWAYS_INLINE uint32_t do_intmap_find_or_insert(char *handle, uint64_t ke
     char *map;
     uint32_t r4_0;
     uint64_t len;
-    uint64_t r0_room[3];
-    char *r0 = (char *)r0_room;
-    uint64_t r0_2_room[3];
-    char *r0_2 = (char *)r0_2_room;
-    uint64_t r12_room[4];
-    char *r12 = (char *)r12_room;
+    uint64_t r11_room[3];
+    char *r11 = (char *)r11_room;
+    uint64_t r8_room[4];
+    char *r8 = (char *)r8_room;
     uint64_t map_address = load64(handle);
     store64(handle, 0);
     if (map_address == 0) {
@@ -3276,8 +3508,7 @@ static ALWAYS_INLINE uint32_t do_intmap_find_or_insert(char *handle, uint64_t ke
     uint64_t index = load64(map + INT_MAP_MASK) & (key * MULTIPLIER);
     char *slot = load_address(map + INT_MAP_SLOTS) + (index * SLOT_SIZE);
     uint8_t has_pair = load8(slot + SLOT_HAS_PAIR);
-    bool x4 = has_pair == 1;
-    if (x4) {
+    if (has_pair == 1) {
         uint64_t link = link_of(load16(slot + SLOT_HIGH), load32(slot + SLOT_LOW));
         if (load64(slot + SLOT_KEY) == key) {
             r4_0 = 1;
@@ -3304,117 +3535,43 @@ static ALWAYS_INLINE uint32_t do_intmap_find_or_insert(char *handle, uint64_t ke
             }
         }
     }
-    memset(r12, 0, 32);
+    memset(r8, 0, 32);
     len = load64(map + INT_MAP_LEN);
-    if (len == UINT64_MAX) {
-        r4_0 = TOO_LARGE;
-    } else {
-        uint64_t r44 = len + 1;
-        if (!(((r44 & 4) != 0) & (load64(map + INT_MAP_THRESHOLD) <= len))) {
-            if (x4) {
-                uint64_t spare, r4_0_2;
-                uint16_t high = load16(slot + SLOT_HIGH);
-                uint64_t link_3 = link_of(high, load32(slot + SLOT_LOW));
-                if (high != NOWHERE_HIGH) {
-                    uint64_t r21;
-                    uint64_t at_2 = chain_last_in(map + INT_MAP_NODES, link_3);
-                    uint64_t spare_2 = load64(map + INT_MAP_SPARE);
-                    if (spare_2 == 0) {
-                        pool_add_new(r0_2, map + INT_MAP_NODES, NOWHERE, key, value);
-                        if (load8(r0_2) != 0) {
-                            goto arm_2_thread;
-                        }
-                        r21 = load64(r0_2 + 8);
-                    } else {
-                        uint64_t free_2 = load64(map + INT_MAP_FREE);
-                        char *node_3 = load_address(map + INT_MAP_NODES) + (free_2 * NODE_SIZE);
-                        if (load8(node_3 + NODE_HAS_PAIR) != 0) {
-                            abort(); // The proof excludes this.
-                        }
-                        store64(map + INT_MAP_FREE, link_of(load16(node_3 + NODE_HIGH), load32(node_3 + NODE_LOW)));
-                        store64(map + INT_MAP_SPARE, spare_2 - 1);
-                        uint8_t has_pair_3 = load8(node_3 + NODE_HAS_PAIR);
-                        store16(node_3 + NODE_HAS_PAIR, 1);
-                        store16(node_3 + NODE_HIGH, NOWHERE_HIGH);
-                        store32(node_3 + NODE_LOW, NOWHERE_LOW);
-                        store64(node_3 + NODE_KEY, key);
-                        store64(node_3 + NODE_VALUE, value);
-                        if (has_pair_3 != 0) {
-                            abort(); // The proof excludes this.
-                        }
-                        r21 = free_2;
-                    }
-                    char *node_4 = load_address(map + INT_MAP_NODES) + (at_2 * NODE_SIZE);
-                    if (load8(node_4 + NODE_HAS_PAIR) != 1) {
-                        abort(); // The proof excludes this.
-                    }
-                    store16(node_4 + NODE_HIGH, (uint16_t)(r21 >> 32));
-                    store32(node_4 + NODE_LOW, (uint32_t)r21);
-                    r4_0_2 = link_3;
-                    goto arm_5_3;
-                }
-                spare = load64(map + INT_MAP_SPARE);
-                if (spare != 0) {
-                    uint64_t free = load64(map + INT_MAP_FREE);
-                    char *node_2 = load_address(map + INT_MAP_NODES) + (free * NODE_SIZE);
-                    if (load8(node_2 + NODE_HAS_PAIR) != 0) {
-                        abort(); // The proof excludes this.
-                    }
-                    store64(map + INT_MAP_FREE, link_of(load16(node_2 + NODE_HIGH), load32(node_2 + NODE_LOW)));
-                    store64(map + INT_MAP_SPARE, spare - 1);
-                    uint8_t has_pair_2 = load8(node_2 + NODE_HAS_PAIR);
-                    store16(node_2 + NODE_HAS_PAIR, 1);
-                    store16(node_2 + NODE_HIGH, NOWHERE_HIGH);
-                    store32(node_2 + NODE_LOW, NOWHERE_LOW);
-                    store64(node_2 + NODE_KEY, key);
-                    store64(node_2 + NODE_VALUE, value);
-                    if (has_pair_2 != 0) {
-                        abort(); // The proof excludes this.
-                    }
-                    r4_0_2 = free;
-                    goto arm_5_3;
-                }
-                pool_add_new(r0, map + INT_MAP_NODES, NOWHERE, key, value);
-                if (load8(r0) == 0) {
-                    r4_0_2 = load64(r0 + 8);
-                    goto arm_5_3;
-                }
-            arm_2_thread:;
-                goto x18;
-            arm_5_3:;
-                if (load8(slot + SLOT_HAS_PAIR) != 1) {
-                    abort(); // The proof excludes this.
-                }
-                store16(slot + SLOT_HIGH, (uint16_t)(r4_0_2 >> 32));
-                store32(slot + SLOT_LOW, (uint32_t)r4_0_2);
-            } else {
-                store16(slot + SLOT_HAS_PAIR, 1);
-                store16(slot + SLOT_HIGH, NOWHERE_HIGH);
-                store32(slot + SLOT_LOW, NOWHERE_LOW);
-                store64(slot + SLOT_KEY, key);
-                store64(slot + SLOT_VALUE, value);
-                if (has_pair != 0) {
-                    abort(); // The proof excludes this.
-                }
+    if (len >= load64(map + INT_MAP_THRESHOLD)) {
+        if (!((len != UINT64_MAX) ? (((len + 1) & 4) == 0) : false)) {
+            intmap_add_growing(r8, map, index, key, value);
+            if (load8(r8) == 0) {
+                r4_0 = 0;
+                goto after_pairs_find_or_insert;
             }
-            char *r9 = load_address(map + INT_MAP_WORDS) + ((index >> 3) & UINT64_C(0x1FFFFFFFFFFFFFF8));
-            store64(r9, load64(r9) | ((uint64_t)1 << (index & 63)));
-            store64(map + INT_MAP_LEN, r44);
-            r4_0 = 0;
-            goto after_pairs_find_or_insert;
-        }
-        intmap_add_growing(r12, map, r44, index, key, value);
-        if (load8(r12) == 0) {
-            r4_0 = 0;
-            goto after_pairs_find_or_insert;
-        }
-        if (load8(r12 + 16) != 0) {
+            if (load8(r8 + 16) == 0) {
+                goto x11;
+            }
             r4_0 = TOO_LARGE;
             goto after_pairs_find_or_insert;
         }
-    x18:;
-        r4_0 = NO_MEMORY;
     }
+    memset(r11, 0, 24);
+    if (has_pair == 0) {
+        uint64_t r8_2 = (index >> 3) & UINT64_C(0x1FFFFFFFFFFFFFF8);
+        uint64_t bits = load64(load_address(map + INT_MAP_WORDS) + r8_2);
+        store16(slot + SLOT_HAS_PAIR, 1);
+        store16(slot + SLOT_HIGH, NOWHERE_HIGH);
+        store32(slot + SLOT_LOW, NOWHERE_LOW);
+        store64(slot + SLOT_KEY, key);
+        store64(slot + SLOT_VALUE, value);
+        store64(load_address(map + INT_MAP_WORDS) + r8_2, bits | ((uint64_t)1 << (index & 63)));
+    } else {
+        insertion_push_further(r11, slot, map + INT_MAP_NODES, key, value);
+        if (load8(r11) != 0) {
+            goto x11;
+        }
+    }
+    store64(map + INT_MAP_LEN, load64(map + INT_MAP_LEN) + 1);
+    r4_0 = 0;
+    goto after_pairs_find_or_insert;
+x11:;
+    r4_0 = NO_MEMORY;
 after_pairs_find_or_insert:;
     store64(handle, map_address_2);
     return r4_0;
@@ -3424,13 +3581,11 @@ after_pairs_find_or_insert:;
 // intmap_insert, in crates/intmap_c/src/pairs.rt
 static ALWAYS_INLINE struct word_word do_intmap_insert(char *handle, uint64_t key, uint64_t value) {
     char *map;
-    uint64_t r5, spec_select1, len, x20;
-    uint64_t r0_room[3];
-    char *r0 = (char *)r0_room;
-    uint64_t r0_2_room[3];
-    char *r0_2 = (char *)r0_2_room;
-    uint64_t r12_room[4];
-    char *r12 = (char *)r12_room;
+    uint64_t len, r8, bits, r0, r0_3_6_0_copyload116, r0_3, r5, spec_select1;
+    bool r0_2, r0_3_0_0_copyload117;
+    uint16_t high;
+    uint64_t r6_room[3];
+    char *r6 = (char *)r6_room;
     uint64_t map_address = load64(handle);
     store64(handle, 0);
     if (map_address == 0) {
@@ -3443,193 +3598,65 @@ static ALWAYS_INLINE struct word_word do_intmap_insert(char *handle, uint64_t ke
         map = (char *)(uintptr_t)map_address;
     }
     uint64_t map_address_2 = (uint64_t)(uintptr_t)map;
+    memset(r6, 0, 24);
     uint64_t index = load64(map + INT_MAP_MASK) & (key * MULTIPLIER);
     char *slot = load_address(map + INT_MAP_SLOTS) + (index * SLOT_SIZE);
-    uint8_t has_pair = load8(slot + SLOT_HAS_PAIR);
-    bool x4 = has_pair == 1;
-    if (x4) {
-        uint64_t r0_3;
-        uint16_t high = load16(slot + SLOT_HIGH);
-        uint64_t link = link_of(high, load32(slot + SLOT_LOW));
-        if (load64(slot + SLOT_KEY) == key) {
-            r0_3 = 0;
-        } else {
-            uint64_t nodes_len = load64(map + INT_MAP_NODES_LEN);
-            if (nodes_len <= link) {
-                goto arm_2_2;
-            }
-            char *nodes = load_address(map + INT_MAP_NODES);
-            uint64_t at = link;
-            uint64_t r2_0 = 0;
-            for (;;) {
-                char *node = nodes + (at * NODE_SIZE);
-                if (load8(node + NODE_HAS_PAIR) != 1) {
-                    goto arm_2_2;
-                }
-                if (load64(node + NODE_KEY) == key) {
-                    r0_3 = r2_0 + 1;
-                    break;
-                }
-                uint64_t link_2 = link_of(load16(node + NODE_HIGH), load32(node + NODE_LOW));
-                if (nodes_len <= link_2) {
-                    goto arm_2_2;
-                }
-                at = link_2;
-                r2_0 = r2_0 + 1;
+    switch (load8(slot + SLOT_HAS_PAIR)) {
+    case 0:
+        len = load64(map + INT_MAP_LEN);
+        if (len >= load64(map + INT_MAP_THRESHOLD)) {
+            if (!((len != UINT64_MAX) ? (((len + 1) & 4) == 0) : false)) {
+                goto after_IntMap_insert_2;
             }
         }
+        r8 = (index >> 3) & UINT64_C(0x1FFFFFFFFFFFFFF8);
+        bits = load64(load_address(map + INT_MAP_WORDS) + r8);
+        store16(slot + SLOT_HAS_PAIR, 1);
+        store16(slot + SLOT_HIGH, NOWHERE_HIGH);
+        store32(slot + SLOT_LOW, NOWHERE_LOW);
+        store64(slot + SLOT_KEY, key);
+        store64(slot + SLOT_VALUE, value);
+        store64(load_address(map + INT_MAP_WORDS) + r8, bits | ((uint64_t)1 << (index & 63)));
+        store64(map + INT_MAP_LEN, load64(map + INT_MAP_LEN) + 1);
+        r0 = 0;
+        r0_2 = false;
+        break;
+    case 1:
+        if (load64(slot + SLOT_KEY) != key) {
+            goto after_IntMap_insert_2;
+        }
+        high = load16(slot + SLOT_HIGH);
         if (high == NOWHERE_HIGH) {
             uint64_t value_2 = load64(slot + SLOT_VALUE);
             store64(slot + SLOT_KEY, key);
             store64(slot + SLOT_VALUE, value);
-            r5 = value_2;
-            spec_select1 = 1;
-            goto after_pairs_insert;
+            r0 = value_2;
+            r0_2 = true;
+        } else {
+            uint64_t r35 = insertion_replace_first_of_several(slot, link_of(high, load32(slot + SLOT_LOW)), map + INT_MAP_NODES, key, value);
+            r0 = r35;
+            r0_2 = true;
         }
-        struct word_word at_2 = chain_last_in_2(map + INT_MAP_NODES, link);
-        char *node_2 = load_address(map + INT_MAP_NODES) + (at_2.first * NODE_SIZE);
-        if (load8(node_2 + NODE_HAS_PAIR) != 1) {
-            abort(); // The proof excludes this.
-        }
-        uint64_t key_2 = load64(node_2 + NODE_KEY);
-        uint64_t value_3 = load64(node_2 + NODE_VALUE);
-        store64(node_2 + NODE_KEY, key);
-        store64(node_2 + NODE_VALUE, value);
-        if (r0_3 == 0) {
-            if (load8(slot + SLOT_HAS_PAIR) != 1) {
-                abort(); // The proof excludes this.
-            }
-            uint64_t value_4 = load64(slot + SLOT_VALUE);
-            store64(slot + SLOT_KEY, key_2);
-            store64(slot + SLOT_VALUE, value_3);
-            r5 = value_4;
-            spec_select1 = 1;
-            goto after_pairs_insert;
-        }
-        uint64_t r55 = r0_3 - 1;
-        if (r55 == at_2.second) {
-            r5 = value_3;
-            spec_select1 = 1;
-            goto after_pairs_insert;
-        }
-        uint64_t r69 = chain_swap_behind(link, map + INT_MAP_NODES, r55, key_2, value_3);
-        r5 = r69;
-        spec_select1 = 1;
+        break;
+    default:
+        goto after_IntMap_insert_2;
+    }
+    r0_3_0_0_copyload117 = r0_2;
+    r0_3_6_0_copyload116 = r0;
+    goto arm_1_2;
+after_IntMap_insert_2:;
+    intmap_insert_otherwise(r6, map, index, key, value);
+    r0_3 = load64(r6 + 16);
+    if (load8(r6) != 0) {
+        r5 = 0;
+        spec_select1 = ((r0_3 & 255) == 0) ? NO_MEMORY : TOO_LARGE;
         goto after_pairs_insert;
     }
-arm_2_2:;
-    memset(r12, 0, 32);
-    len = load64(map + INT_MAP_LEN);
-    if (len == UINT64_MAX) {
-        x20 = TOO_LARGE;
-    } else {
-        uint64_t r44 = len + 1;
-        if (!(((r44 & 4) != 0) & (load64(map + INT_MAP_THRESHOLD) <= len))) {
-            if (x4) {
-                uint64_t spare, r4_0;
-                uint16_t high_2 = load16(slot + SLOT_HIGH);
-                uint64_t link_3 = link_of(high_2, load32(slot + SLOT_LOW));
-                if (high_2 != NOWHERE_HIGH) {
-                    uint64_t r21;
-                    uint64_t at_3 = chain_last_in(map + INT_MAP_NODES, link_3);
-                    uint64_t spare_2 = load64(map + INT_MAP_SPARE);
-                    if (spare_2 == 0) {
-                        pool_add_new(r0_2, map + INT_MAP_NODES, NOWHERE, key, value);
-                        if (load8(r0_2) != 0) {
-                            goto after_IntMap_add;
-                        }
-                        r21 = load64(r0_2 + 8);
-                    } else {
-                        uint64_t free_2 = load64(map + INT_MAP_FREE);
-                        char *node_4 = load_address(map + INT_MAP_NODES) + (free_2 * NODE_SIZE);
-                        if (load8(node_4 + NODE_HAS_PAIR) != 0) {
-                            abort(); // The proof excludes this.
-                        }
-                        store64(map + INT_MAP_FREE, link_of(load16(node_4 + NODE_HIGH), load32(node_4 + NODE_LOW)));
-                        store64(map + INT_MAP_SPARE, spare_2 - 1);
-                        uint8_t has_pair_3 = load8(node_4 + NODE_HAS_PAIR);
-                        store16(node_4 + NODE_HAS_PAIR, 1);
-                        store16(node_4 + NODE_HIGH, NOWHERE_HIGH);
-                        store32(node_4 + NODE_LOW, NOWHERE_LOW);
-                        store64(node_4 + NODE_KEY, key);
-                        store64(node_4 + NODE_VALUE, value);
-                        if (has_pair_3 != 0) {
-                            abort(); // The proof excludes this.
-                        }
-                        r21 = free_2;
-                    }
-                    char *node_5 = load_address(map + INT_MAP_NODES) + (at_3 * NODE_SIZE);
-                    if (load8(node_5 + NODE_HAS_PAIR) != 1) {
-                        abort(); // The proof excludes this.
-                    }
-                    store16(node_5 + NODE_HIGH, (uint16_t)(r21 >> 32));
-                    store32(node_5 + NODE_LOW, (uint32_t)r21);
-                    r4_0 = link_3;
-                    goto arm_5_3;
-                }
-                spare = load64(map + INT_MAP_SPARE);
-                if (spare != 0) {
-                    uint64_t free = load64(map + INT_MAP_FREE);
-                    char *node_3 = load_address(map + INT_MAP_NODES) + (free * NODE_SIZE);
-                    if (load8(node_3 + NODE_HAS_PAIR) != 0) {
-                        abort(); // The proof excludes this.
-                    }
-                    store64(map + INT_MAP_FREE, link_of(load16(node_3 + NODE_HIGH), load32(node_3 + NODE_LOW)));
-                    store64(map + INT_MAP_SPARE, spare - 1);
-                    uint8_t has_pair_2 = load8(node_3 + NODE_HAS_PAIR);
-                    store16(node_3 + NODE_HAS_PAIR, 1);
-                    store16(node_3 + NODE_HIGH, NOWHERE_HIGH);
-                    store32(node_3 + NODE_LOW, NOWHERE_LOW);
-                    store64(node_3 + NODE_KEY, key);
-                    store64(node_3 + NODE_VALUE, value);
-                    if (has_pair_2 != 0) {
-                        abort(); // The proof excludes this.
-                    }
-                    r4_0 = free;
-                    goto arm_5_3;
-                }
-                pool_add_new(r0, map + INT_MAP_NODES, NOWHERE, key, value);
-                if (load8(r0) == 0) {
-                    r4_0 = load64(r0 + 8);
-                    goto arm_5_3;
-                }
-            after_IntMap_add:;
-                r5 = 0;
-                spec_select1 = NO_MEMORY;
-                goto after_pairs_insert;
-            arm_5_3:;
-                if (load8(slot + SLOT_HAS_PAIR) != 1) {
-                    abort(); // The proof excludes this.
-                }
-                store16(slot + SLOT_HIGH, (uint16_t)(r4_0 >> 32));
-                store32(slot + SLOT_LOW, (uint32_t)r4_0);
-            } else {
-                store16(slot + SLOT_HAS_PAIR, 1);
-                store16(slot + SLOT_HIGH, NOWHERE_HIGH);
-                store32(slot + SLOT_LOW, NOWHERE_LOW);
-                store64(slot + SLOT_KEY, key);
-                store64(slot + SLOT_VALUE, value);
-                if (has_pair != 0) {
-                    abort(); // The proof excludes this.
-                }
-            }
-            char *r9 = load_address(map + INT_MAP_WORDS) + ((index >> 3) & UINT64_C(0x1FFFFFFFFFFFFFF8));
-            store64(r9, load64(r9) | ((uint64_t)1 << (index & 63)));
-            store64(map + INT_MAP_LEN, r44);
-            r5 = 0;
-            spec_select1 = 0;
-            goto after_pairs_insert;
-        }
-        intmap_add_growing(r12, map, r44, index, key, value);
-        if (load8(r12) == 0) {
-            r5 = 0;
-            spec_select1 = 0;
-            goto after_pairs_insert;
-        }
-        x20 = (load8(r12 + 16) == 0) ? NO_MEMORY : TOO_LARGE;
-    }
-    r5 = 0;
-    spec_select1 = x20;
+    r0_3_0_0_copyload117 = load8(r6 + 8) == 1;
+    r0_3_6_0_copyload116 = r0_3;
+arm_1_2:;
+    r5 = r0_3_0_0_copyload117 ? r0_3_6_0_copyload116 : 0;
+    spec_select1 = (uint64_t)r0_3_0_0_copyload117;
 after_pairs_insert:;
     store64(handle, map_address_2);
     return made_word_word(r5, spec_select1);

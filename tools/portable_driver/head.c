@@ -173,6 +173,10 @@ static inline uint64_t greater(uint64_t one, uint64_t other) {
     return one > other ? one : other;
 }
 
+static inline uint64_t lesser(uint64_t one, uint64_t other) {
+    return one < other ? one : other;
+}
+
 static inline uint64_t sum_or_most(uint64_t one, uint64_t other) {
     return one > ~other ? UINT64_MAX : one + other;
 }
