@@ -92,9 +92,9 @@
 // bytes. The nodes of all slots lie in one block. An insertion that adds no slots requests memory
 // only if the slot holds a pair, no node is free and that block is full; it then makes the block
 // larger. A removal from a slot of several pairs frees a node, and the next pair that needs a node
-// takes it. A call that adds slots requests memory for the new slots, their bits and the nodes of
-// the pairs that share slots, before it moves a pair. It frees the old ones at the end, so both are
-// held for that time. A clone has as many slots.
+// takes it. A call that adds slots makes the block of slots larger, and requests memory for their
+// bits and for the nodes of the pairs that share slots, before it moves a pair. It frees the old
+// bits and nodes at the end, so both are held for that time. A clone has as many slots.
 //
 // A call that makes slots in advance writes each of them, which takes time in their number. Linux
 // may grant more memory than there is, so too large a number of slots may end the process. Memory
