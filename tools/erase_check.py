@@ -95,8 +95,6 @@ NOT_CALLED = {
         pub fn from_array<const N: usize>(alloc: A,""",
     "intmap_set/src/set/traits.rt": """
         impl<K: IntKey + fmt::Debug, A: Allocator + Copy> fmt::Debug for IntSet<K, A> {""",
-    "intmap_table/src/linked/chain.rt": """
-        pub(crate) fn cut_behind<P, A: Allocator>(""",
     "intmap_table/src/linked/row/removal.rt": """
         pub(crate) fn remove<P, A: Allocator>(""",
     "intmap_table/src/table.rt": """
@@ -112,8 +110,6 @@ NOT_CALLED = {
         pub fn step(&self,
         pub fn cut(&mut self,""",
 }
-# names that only those items have, by source, each with what follows it in the list that it is used by
-NOT_NAMED = {"intmap_table/src/linked/row/removal.rt": ["cut_behind, "]}
 # how the items of sources begin that are left out
 LEFT_ITEMS = re.compile(r"impl\b[^;]* (Model|Drop) for |unsafe impl (Send|Sync) for Tally \{\}")
 # what an `impl Drop` may have that is left out: it takes the value apart, lets the prover see it, and drops a field
@@ -230,8 +226,6 @@ def code_of_source(text, source):
     """The lines of code that a source has for Rust."""
     for theirs, ours in OTHERWISE:
         text = text.replace(theirs, ours)
-    for name in NOT_NAMED.get(source, []):
-        text = text.replace(name, "", 1)
     text = BOUND.sub(r"\1", text)
     lines, kept, i = without_contracts(text.split("\n")), [], 0
     while i < len(lines):

@@ -10,7 +10,7 @@
 5.  An `impl Drop` is left out if its body is one of DROPS: those drop fields, as Rust does by itself.
 6.  The modules of LEFT_OUT are left out, with the lines that name them. If the crate has a file of that
     name written by hand, that file takes the module's place and the lines stay. So are the items of UNCALLED,
-    with their doc comments, an `impl` of a type that has none left, and the names of UNNAMED in `use` lists.
+    with their doc comments, and an `impl` of a type that has none left.
 7.  The one form of `fmt` that Rattle has becomes Rust's.
 8.  A path names a module in place of a crate: `intmap_table::`, `crate::`, `pub(crate)` and `std::`.
 9.  A file that uses anything uses the names of `memory` too. It gets the lines of ADDED, each of which
@@ -56,15 +56,12 @@ UNCALLED = {
     "intmap/map/traits": ["impl<K: IntKey + fmt::Debug, V: fmt::Debug, A: Allocator + Copy> fmt::Debug for IntMap"],
     "intmap_set/set/build": ["pub fn from_array<"],
     "intmap_set/set/traits": ["impl<K: IntKey + fmt::Debug, A: Allocator + Copy> fmt::Debug for IntSet"],
-    "intmap_table/linked/chain": ["pub(crate) fn cut_behind<"],
     "intmap_table/linked/row/removal": ["pub(crate) fn remove<"],
     "intmap_table/table": ["pub fn further("],
     "intmap_table/table/slots": ["pub(crate) fn has_pair("],
     "intmap_table/table/slots/pairs": ["pub(crate) fn remove_at("],
     "intmap_table/table/walk": ["pub struct Cursor {", "impl Cursor {", "fn seek<", "pub fn step(", "pub fn cut("],
 }
-# What a source uses for items of UNCALLED alone, by the source: names in its `use` lists.
-UNNAMED = {"intmap_table/linked/row/removal": ["cut_behind"]}
 
 # Calls that run a key's `number` while pairs are on their way, by the source, each with what is written in its place.
 HELD = {
@@ -116,7 +113,6 @@ ADDED = {
     "intmap_table/linked/closures": ["pub mod written;"],
     "intmap_table/linked/node": ["mod written;"],
     "intmap_table/linked/pool": ["pub mod written;"],
-    "intmap_table/linked/slot": ["mod written;"],
     "intmap_table/table": ["mod mending;", "pub mod written;"],
     "intmap_table/table/slots": ["mod mending;", "pub mod written;"],
     "intmap/entry": ["mod mending;"],
@@ -263,15 +259,6 @@ def without_uncalled(text, where):
     return re.sub(r"^impl\b(?:(?! for )[^{;])*\{\s*\}\n", "", text, flags=re.M)
 
 
-def without_unnamed(text, where):
-    """Rule 6 for names."""
-    for name in UNNAMED.get(where, []):
-        text, count = re.subn(rf"^(use [^;]*\{{[^;]*?)\b{name}\b(?:,\s*|(?=\s*\}}))", r"\1", text, flags=re.M)
-        if count != 1 or re.search(rf"\b{name}\b", text):
-            raise Refused(f"`{name}` isn't named once, in a `use` list")
-    return text
-
-
 def with_held(text, where):
     """Rule 11."""
     if where not in HELD:
@@ -359,7 +346,7 @@ def erased(text, crate, name, by_hand):
     """The Rust text of the source `name` of a crate. `by_hand` are the modules that are written by hand."""
     text = tidied(without_ghosts(without_shown(text)))
     text = tidied(without_uncalled(without_impls(text), f"{crate}/{name}"))
-    text = with_held(without_unnamed(text, f"{crate}/{name}"), f"{crate}/{name}")
+    text = with_held(text, f"{crate}/{name}")
     text = without_attributes(text).replace(FMT, FMT_OF_RUST)
     text = without_bounds(without_markers(without_modules(text, crate, name, by_hand)))
     for token in TOKEN.findall(text):

@@ -16,6 +16,7 @@ mod vacant;
 use crate::map::IntMap;
 use crate::refusal::Refused;
 use intmap_table::IntKey;
+use intmap_table::table::stored::Sought;
 use std::alloc::{Allocator, Global};
 
 /// A map with a key that was looked up in it, made by [`IntMap::entry`].
@@ -112,7 +113,7 @@ impl<K: IntKey, V, A: Allocator + Copy> IntMap<K, V, A> {
         ensures valid { IsMap K.number_of K.is_valid self.old }
         ensures valid_after { IsMap K.number_of K.is_valid (entry_map result) }
     {
-        match self.locate(key) {
+        match self.locate(&Sought::new(key)) {
             Ok(at) => Entry::Occupied(OccupiedEntry {
                 map: self,
                 slot: at.slot,

@@ -25,6 +25,7 @@ use intmap_table::kept::Kept;
 use intmap_table::steps::Steps;
 use intmap_table::table::Table;
 use intmap_table::table::locate::Location;
+use intmap_table::table::stored::Sought;
 use std::alloc::{Allocator, Global};
 use std::marker::Model;
 
@@ -113,17 +114,17 @@ impl<K: IntKey, V, A: Allocator + Copy> IntMap<K, V, A> {
     /// Where the pair of the key is, or the slot of the key if the key is absent. The map counts
     /// the comparisons.
     #[inline(always)]
-    pub(crate) fn locate(&mut self, key: K) -> Result<Location<K>, usize>
-        ensures found { IfOk result (λ at. (at.key ≡ key)
+    pub(crate) fn locate(&mut self, key: &Sought<K>) -> Result<Location<K>, usize>
+        ensures found { IfOk result (λ at. (at.key ≡ key.now)
             × IsAt K.number_of self.new.walk self.new.capacity at) }
         ensures key { IfOk result (λ at. key_at (slot_of K.number_of self.new.walk
-            self.new.capacity at.slot) at.place ≡ Some key) }
-        ensures missing { OnErr result (value_of K.number_of self.old.walk key ≡ None) }
+            self.new.capacity at.slot) at.place ≡ Some key.now) }
+        ensures missing { OnErr result (value_of K.number_of self.old.walk key.now ≡ None) }
         ensures slot { IfErr result (λ slot. slot
-            ≡ slot_number K.number_of key self.new.capacity) }
-        ensures bound { is_ok result ≡ is_some (value_of K.number_of self.old.walk key) }
-        ensures state { self.new ≡ after_search K.number_of self.old key }
-        ensures known { K.is_valid key }
+            ≡ slot_number K.number_of key.now self.new.capacity) }
+        ensures bound { is_ok result ≡ is_some (value_of K.number_of self.old.walk key.now) }
+        ensures state { self.new ≡ after_search K.number_of self.old key.now }
+        ensures known { K.is_valid key.now }
         ensures valid { IsMap K.number_of K.is_valid self.old }
     {
         self.table.locate(key, &mut self.compared)

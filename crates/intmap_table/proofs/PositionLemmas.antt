@@ -1,5 +1,5 @@
 -- The place of the first element that passes a test, and what is found and left there.
-use Rattle.std.proofs.Common.{◌≡◌, ℕ, suc, ◌-◌, ◌<◌, ◌≤◌, Bool, cond, List, [], ◌∷◌, length, get_or, set, take, Some, None, refl, sym, ap, ◌∙◌, subst, arith}
+use Rattle.std.proofs.Common.{◌≡◌, ℕ, suc, ◌+◌, ◌-◌, ◌<◌, ◌≤◌, Bool, false, cond, List, [], ◌∷◌, length, get_or, set, take, Some, None, refl, sym, ap, ◌∙◌, subst, arith}
 use Rattle.std.specs.Prelude.{position, swap_remove, nat_lt}
 use Rattle.std.specs.List.{position_or_len, list_any}
 use Rattle.std.proofs.lemmas.Bool.{ltb-true}
@@ -54,6 +54,10 @@ module _ {X : Type 0} (test : X → Bool) where
       let l : position_or_len test xs < length xs = ltb-true (position_or_len test xs) (length xs) c.0 in
       (c.1, subst (λ n. n < length xs) c.1 l)
 
+  -- the one that was found is behind the first element
+  pub position-behind : (xs : List X) (y : X) (ys : List X) (i : ℕ) → xs ≡ y ∷ ys → test y ≡ false → position test ys ≡ Some i → position test xs ≡ Some (i + 1)
+  position-behind xs y ys i is fails found = let p = position-within ys i found in grind (arith, nat_tests, is, fails, p.0, p.1)
+
   -- the last element fills the place that was found
   pub swap_remove-position : (xs : List X) (i : ℕ) (x : X) → position test xs ≡ Some i → x ≡ get_or xs i x → swap_remove xs i x ≡ swap_out test any xs
   swap_remove-position xs i x e is =
@@ -63,6 +67,10 @@ module _ {X : Type 0} (test : X → Bool) where
   swap_out-position_or_len : (in_class : X → Bool) (xs : List X) → position_or_len test xs ≡ length xs → swap_out test in_class xs ≡ xs
   swap_out-position_or_len in_class [] e = refl
   swap_out-position_or_len in_class (y ∷ ys) e = let rest = swap_out-position_or_len in_class ys in grind (arith, e, rest)
+
+  -- none passes behind the first element, nor does that one
+  pub position-no_more : (xs : List X) (y : X) (ys : List X) → xs ≡ y ∷ ys → test y ≡ false → position test ys ≡ None → position test xs ≡ None
+  position-no_more xs y ys is fails none = let all = position_or_len-none test ys none in grind (arith, nat_tests, is, fails, all)
 
   -- if none passes, none is taken
   pub swap_out-none : (in_class : X → Bool) (xs : List X) → position test xs ≡ None → swap_out test in_class xs ≡ xs

@@ -1,4 +1,4 @@
--- What a stored value, a slot, a node, a pool of nodes and a table end as, once a value of theirs, or each, was lent and written.
+-- What a stored value, a node, a pool of nodes, slots and a table end as, once a value of theirs, or each, was lent and written.
 use denote.Struct.Tuple.{Tuple}
 use Rattle.std.specs.Prelude.{ℕ, [], ◌∷◌, Option}
 use Rattle.std.specs.List.{position_or_len}
@@ -11,11 +11,10 @@ use Rattle.intmap_table.specs.Classes.{same_key}
 use Rattle.intmap_table.specs.Locations.{write_in}
 use Rattle.intmap_table.specs.Tables.Slots.{Grid}
 use Rattle.intmap_table.specs.Tables.Rows.{Contents, row_at, write_rows}
-use Rattle.intmap_table.specs.Tables.Nodes.{Node, Slot, Pool, node_with, slot_with, write_node}
+use Rattle.intmap_table.specs.Tables.Nodes.{Node, Pool, node_with, write_node}
 use Rattle.intmap_table.specs.contracts.kept.Kept.{the_row as kept_row}
 use Rattle.intmap_table.specs.contracts.table.stored.Stored.{the_row as stored_row}
 use Rattle.intmap_table.specs.contracts.linked.node.Node.{the_row as node_row}
-use Rattle.intmap_table.specs.contracts.linked.slot.Slot.{the_row as slot_row}
 use Rattle.intmap_table.specs.contracts.linked.pool.Pool.{the_row as pool_row}
 use Rattle.intmap_table.specs.contracts.table.slots.Slots.{the_row as slots_row}
 use Rattle.intmap_table.specs.contracts.table.Table.{the_row as table_row}
@@ -31,10 +30,6 @@ pair_row K X g e = Tuple (stored_row K g e ∷ X ∷ [])
 -- once the loan named r ends, the node behind n has that value in its pair
 abbrev pub node_lends : (K X : RattleType) → key.Ghosts K.Denot → eq.Ghosts K.Denot → MutBor (Node (K.Denot × X.Denot)) → MutBor X.Denot → Fml
 node_lends K X g e n r = Lends (node_row (pair_row K X g e)) X n r (λ v. node_with n.now v)
-
--- once the loan named r ends, the slot behind s has that value in its first pair
-abbrev pub slot_lends : (K X : RattleType) → key.Ghosts K.Denot → eq.Ghosts K.Denot → MutBor (Slot (K.Denot × X.Denot)) → MutBor X.Denot → Fml
-slot_lends K X g e s r = Lends (slot_row (pair_row K X g e)) X s r (λ v. slot_with s.now v)
 
 -- once the loan named r ends, the pool behind p has that value in the pair of node i
 abbrev pub pool_lends : (K X A : RattleType) → key.Ghosts K.Denot → eq.Ghosts K.Denot → allocator.Ghosts A.Denot

@@ -5,5 +5,4 @@ pub(crate) mod closures;
 pub(crate) mod node;
 pub(crate) mod pool;
 pub(crate) mod row;
-pub(crate) mod slot;
 pub(crate) mod turn;

@@ -14,11 +14,11 @@ pub mod locate;
 pub mod owned;
 mod put;
 mod slots;
-pub(crate) mod stored;
+pub mod stored;
 pub mod walk;
 
-ghost use Rattle.std.specs.Prelude.{◌≡◌, ◌+◌, ◌<◌, ◌≤◌, [], OnOk, OnErr, IfOk, IfErr, IsOk, None, length};
-ghost use Rattle.intmap_table.specs.Classes.{IsCapacity, slot_number};
+ghost use Rattle.std.specs.Prelude.{◌≡◌, ◌+◌, ◌*◌, ◌%◌, ◌<◌, ◌≤◌, [], OnOk, OnErr, IfOk, IfErr, IsOk, None, length};
+ghost use Rattle.intmap_table.specs.Classes.{multiplier, slot_number, IsCapacity};
 ghost use Rattle.intmap_table.specs.Bindings.{value_of, put_pair};
 ghost use Rattle.intmap_table.specs.Locations.{IsAt};
 ghost use Rattle.intmap_table.specs.Walk.{slot_of, walk_of};
@@ -28,7 +28,7 @@ ghost use Rattle.std.specs.List.{AllZip};
 ghost use Rattle.intmap_table.specs.Cloning.{IsPairClone};
 
 use crate::key::IntKey;
-use crate::table::stored::Stored;
+use crate::table::stored::{Sought, Stored};
 pub use closures::Progress;
 use locate::Location;
 use slots::Slots;
@@ -42,25 +42,33 @@ use std::marker::Model;
 /// keys share one.
 const MULTIPLIER: u64 = 11400714819323198549;
 
-/// The slot of a key in a table of `mask + 1` slots.
+/// The slot of a key with this number in a table of `mask + 1` slots.
 #[inline(always)]
-fn masked_index_of<K: IntKey>(key: &K, mask: usize) -> usize
+fn index_of_number(number: u64, mask: usize) -> usize
+    requires { IsCapacity (mask + 1) }
+    ensures slot { result ≡ (number * multiplier) % (mask + 1) }
+    ensures within { result ≤ mask }
+{
+    (number.wrapping_mul(MULTIPLIER) & mask as u64) as usize
+}
+
+/// The slot of a stored key in a table of `mask + 1` slots.
+#[inline(always)]
+fn masked_index_of<K: IntKey>(key: &Stored<K>, mask: usize) -> usize
     requires { IsCapacity (mask + 1) }
     ensures slot { result ≡ slot_number K.number_of key.now (mask + 1) }
     ensures within { result ≤ mask }
-    ensures known { K.is_valid key.now }
 {
-    (key.number().wrapping_mul(MULTIPLIER) & mask as u64) as usize
+    index_of_number(key.key().number(), mask)
 }
 
 /// The slot of a key in a table of `slots` slots.
-fn index_of<K: IntKey>(key: &K, slots: usize) -> usize
+fn index_of<K: IntKey>(key: &Sought<K>, slots: usize) -> usize
     requires { IsCapacity slots }
     ensures slot { result ≡ slot_number K.number_of key.now slots }
     ensures within { result < slots }
-    ensures known { K.is_valid key.now }
 {
-    masked_index_of(key, slots - 1)
+    index_of_number(key.number(), slots - 1)
 }
 
 /// Slots, whose number is a power of two. Each pair lies in the slot of its key.
@@ -127,12 +135,12 @@ impl<K: IntKey, X, A: Allocator> Table<K, X, A> {
     }
 
     /// The slot of a key.
-    fn index_of(&self, key: &K) -> usize
+    fn index_of(&self, key: &Sought<K>) -> usize
         ensures slot { result ≡ slot_number K.number_of key.now self.now.capacity }
         ensures within { result < self.now.capacity }
         ensures known { K.is_valid key.now }
     {
-        masked_index_of(key, self.slots.mask())
+        index_of_number(key.number(), self.slots.mask())
     }
 }
 
@@ -151,7 +159,7 @@ impl<K: IntKey, X: Drop, A: Allocator + Copy> Table<K, X, A> {
     /// Puts the pair of an absent key last in its slot, and returns where it is. If an allocation
     /// fails, it returns the value and changes nothing. A slot without a pair needs no allocation.
     #[inline(always)]
-    pub fn add(&mut self, slot: usize, key: K, value: X) -> Result<Location<K>, X>
+    pub fn add(&mut self, slot: usize, key: Sought<K>, value: X) -> Result<Location<K>, X>
         requires missing { value_of K.number_of self.old.walk key ≡ None }
         requires slot { slot ≡ slot_number K.number_of key self.old.capacity }
         ensures key { IfOk result (λ at. at.key ≡ key) }
@@ -168,11 +176,15 @@ impl<K: IntKey, X: Drop, A: Allocator + Copy> Table<K, X, A> {
             (0 < class_size K.number_of self.old.walk self.old.capacity key) }
         ensures known { K.is_valid key }
     {
-        let place = match self.slots.push(slot, (Stored::new(key), value)) {
+        let place = match self.slots.push(slot, (Stored::new(key.copied()), value)) {
             Ok(place) => place,
             Err((_, value)) => return Err(value),
         };
-        Ok(Location { key, slot, place })
+        Ok(Location {
+            key: key.key(),
+            slot,
+            place,
+        })
     }
 
     /// The allocator of the slots.

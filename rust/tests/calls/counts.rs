@@ -1,5 +1,5 @@
-//! How many numbers of keys each call reads. A search reads that of the sought key once for its
-//! slot, and a comparison of two keys reads both. So a call that searches or compares more than it
+//! How many numbers of keys each call reads. A search reads that of the sought key once, and a
+//! comparison that of the stored key. So a call that searches or compares more than it
 //! says, by whatever method, reads more numbers than the same call on a plain list is due to. What
 //! the call returns and leaves is compared with the list too: pairs, order, capacity, load factor.
 use crate::list::List;

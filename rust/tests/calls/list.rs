@@ -1,6 +1,6 @@
 //! A plain list of pairs that stands for a map or a set. A call on it returns and leaves what the
 //! same call on the map does, and counts the numbers of keys that the map is due to read: a search
-//! reads that of the sought key once for its slot, and a comparison of two keys reads both.
+//! reads that of the sought key once, and a comparison that of the stored key.
 use crate::told::{Key, Shows};
 use std::cell::Cell;
 use std::collections::BTreeMap;
@@ -91,14 +91,13 @@ impl List {
         self.pairs.iter().position(|it| it.0 == key.0)
     }
 
-    /// A search: for the slot the sought number, and for each key there, up to the sought one, both
-    /// numbers.
+    /// A search: the sought number, and that of each key of its slot, up to the sought one.
     pub fn look(&self, key: Key) {
         let place = self.place(key);
         let up_to = place.map_or(self.pairs.len(), |it| it + 1);
         let slot = self.slot(key.0);
         let met = self.pairs[..up_to].iter().filter(|it| self.slot(it.0) == slot);
-        self.read(1 + 2 * met.count() as u64);
+        self.read(1 + met.count() as u64);
     }
 
     /// The value of a key, by a search.
@@ -151,9 +150,12 @@ impl List {
         is_new
     }
 
-    /// The same, and the value that the key then has.
+    /// The same by an entry, which reads the number of an absent key again to insert it. Returns the
+    /// value that the key then has.
     pub fn or(&mut self, key: Key, value: u64) -> &mut u64 {
-        self.add(key, value);
+        if self.add(key, value) {
+            self.read(1);
+        }
         self.at(key)
     }
 
@@ -165,13 +167,14 @@ impl List {
 
     /// Stores an absent key, and returns its value.
     pub fn fill(&mut self, key: Key, value: u64) -> Option<&mut u64> {
-        self.add(key, value).then(|| self.at(key))
+        let is_new = self.place(key).is_none();
+        let stored = self.or(key, value);
+        is_new.then_some(stored)
     }
 
     /// Stores a key as the last one of its slot. A present one is removed first.
     pub fn store(&mut self, key: Key, value: u64) -> Option<u64> {
         self.look(key);
-        self.read(1);
         let old = self.place(key).map(|place| self.remove_at(place));
         let slots = if old.is_some() { self.slots } else { self.due_slots() };
         if slots > self.slots {
@@ -186,7 +189,10 @@ impl List {
     /// Stores a value under a present key again, changed, as the last pair of its slot.
     pub fn hand_back(&mut self, key: Key, change: fn(u64) -> u64) -> Option<u64> {
         match self.place(key) {
-            Some(place) => _ = self.store(key, change(self.pairs[place].1)),
+            Some(place) => {
+                self.store(key, change(self.pairs[place].1));
+                self.read(1);
+            }
             None => self.look(key),
         }
         None

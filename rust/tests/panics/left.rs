@@ -266,5 +266,5 @@ fn a_panic_of_a_key_in_growth_loses_no_pair() {
             }
         }
     }
-    assert!(panics > 1000 && moved > 0, "{panics} panics, {moved} with another order");
+    assert!(panics > 900 && moved > 0, "{panics} panics, {moved} with another order");
 }

@@ -11,6 +11,7 @@ ghost use Rattle.intmap.specs.PlainLists.{RefusalIsDue};
 use crate::entry::{Entry, OccupiedEntry, VacantEntry};
 use crate::refusal::Refused;
 use intmap_table::IntKey;
+use intmap_table::table::stored::Sought;
 use std::alloc::Allocator;
 use std::default::MadeWith;
 
@@ -48,7 +49,7 @@ impl<'a, K: IntKey, V: Drop, A: Allocator + Copy> VacantEntry<'a, K, V, A> {
             (entry_key (Vacant self.entry)) → IsOk result }
     {
         let VacantEntry { map, key, slot } = self;
-        let at = match map.add(slot, key, value) {
+        let at = match map.add(slot, Sought::new(key), value) {
             Ok(at) => at,
             Err(refused) => return Err(refused),
         };
@@ -84,7 +85,7 @@ impl<'a, K: IntKey, V: Drop, A: Allocator + Copy> VacantEntry<'a, K, V, A> {
             Ok(value) => value,
             Err(error) => return Err(error),
         };
-        let at = match map.add(slot, key, value) {
+        let at = match map.add(slot, Sought::new(key), value) {
             Ok(at) => at,
             Err(refused) => return Err(E::from(refused)),
         };

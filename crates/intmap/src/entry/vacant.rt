@@ -10,6 +10,7 @@ use crate::entry::VacantEntry;
 use crate::map::IntMap;
 use crate::refusal::Refused;
 use intmap_table::IntKey;
+use intmap_table::table::stored::Sought;
 use std::alloc::Allocator;
 
 impl<'a, K: IntKey, V, A: Allocator + Copy> VacantEntry<'a, K, V, A> {
@@ -78,7 +79,7 @@ impl<'a, K: IntKey, V: Drop, A: Allocator + Copy> VacantEntry<'a, K, V, A> {
             (entry_key (Vacant self.entry)) → IsOk result }
     {
         let VacantEntry { map, key, slot } = self;
-        let at = match map.add(slot, key, value) {
+        let at = match map.add(slot, Sought::new(key), value) {
             Ok(at) => at,
             Err(refused) => return Err(refused),
         };

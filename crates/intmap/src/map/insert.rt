@@ -15,6 +15,7 @@ use crate::refusal::{Cause, Refused};
 use intmap_table::IntKey;
 use intmap_table::kept::Kept;
 use intmap_table::table::locate::Location;
+use intmap_table::table::stored::Sought;
 use std::alloc::Allocator;
 
 /// Where the pair of a key can be put at once: into its slot, which holds no pair, or into the place
@@ -73,7 +74,8 @@ impl<K: IntKey, V: Drop, A: Allocator + Copy> IntMap<K, V, A> {
         ensures valid { IsMap K.number_of K.is_valid self.old }
         ensures valid_after { IsMap K.number_of K.is_valid self.new }
     {
-        match self.spot_for(key) {
+        let key = Sought::new(key);
+        match self.spot_for(&key) {
             Spot::Vacant(slot) => {
                 self.add_first(slot, key, value);
                 Ok(None)
@@ -86,17 +88,17 @@ impl<K: IntKey, V: Drop, A: Allocator + Copy> IntMap<K, V, A> {
     /// Where the pair of a key can be put at once. If the slot of the key holds a pair, the first
     /// one there is compared.
     #[inline(always)]
-    pub(crate) fn spot_for(&mut self, key: K) -> Spot
-        ensures slot { slot_in result ≡ slot_number K.number_of key self.old.capacity }
-        ensures spot { IsSpot K.number_of self.old key result }
+    pub(crate) fn spot_for(&mut self, key: &Sought<K>) -> Spot
+        ensures slot { slot_in result ≡ slot_number K.number_of key.now self.old.capacity }
+        ensures spot { IsSpot K.number_of self.old key.now result }
         ensures state { self.new ≡ after_first K.number_of self.old (slot_in result) }
         ensures valid { IsMap K.number_of K.is_valid self.old }
     {
-        let slot = self.table.slot_of(&key);
+        let slot = self.table.slot_of(key);
         if self.takes_first(slot) {
             return Spot::Vacant(slot);
         }
-        if self.table.first_is(slot, &key, &mut self.compared) {
+        if self.table.first_is(slot, key, &mut self.compared) {
             return Spot::First(slot);
         }
         Spot::Other(slot)
@@ -125,7 +127,7 @@ impl<K: IntKey, V: Drop, A: Allocator + Copy> IntMap<K, V, A> {
 
     /// Adds the pair of a key to its slot, which holds none. The map needn't grow.
     #[inline(always)]
-    pub(crate) fn add_first(&mut self, slot: usize, key: K, value: V)
+    pub(crate) fn add_first(&mut self, slot: usize, key: Sought<K>, value: V)
         requires slot { slot ≡ slot_number K.number_of key self.old.capacity }
         requires free { TakesFirst K.number_of self.old.walk self.old.capacity self.old.factor
             slot }
@@ -146,7 +148,7 @@ impl<K: IntKey, V: Drop, A: Allocator + Copy> IntMap<K, V, A> {
     /// The last pair of the slot takes its place, and the pair of the key and this value is put
     /// last. It allocates nothing.
     #[inline(always)]
-    pub(crate) fn replace_first(&mut self, slot: usize, key: K, value: V) -> V
+    pub(crate) fn replace_first(&mut self, slot: usize, key: Sought<K>, value: V) -> V
         requires { IsFirst K.number_of self.old.walk self.old.capacity slot key }
         ensures value { value_of K.number_of self.old.walk key ≡ Some result }
         ensures state { self.new ≡ with_pair K.number_of self.old key value self.old.capacity }
@@ -163,7 +165,7 @@ impl<K: IntKey, V: Drop, A: Allocator + Copy> IntMap<K, V, A> {
     pub(crate) fn insert_otherwise(
         &mut self,
         slot: usize,
-        key: K,
+        key: Sought<K>,
         value: V,
     ) -> Result<Option<V>, Refused<V>>
         requires slot { slot ≡ slot_number K.number_of key self.old.capacity }
@@ -183,78 +185,31 @@ impl<K: IntKey, V: Drop, A: Allocator + Copy> IntMap<K, V, A> {
         ensures valid { IsMap K.number_of K.is_valid self.old }
         ensures valid_after { IsMap K.number_of K.is_valid self.new }
     {
-        if !self.takes_one_more() {
-            return self.insert_growing(slot, key, value);
-        }
+        let adds = self.takes_one_more();
+        let again = key.copied();
         match self
             .table
-            .put(slot, key, Kept::new(value), &mut self.compared)
+            .put(slot, key, Kept::new(value), adds, &mut self.compared)
         {
             Ok(Some(old)) => Ok(Some(old.into_value())),
             Ok(None) => {
                 self.len += 1;
                 Ok(None)
             }
-            Err(kept) => Err(Refused {
-                value: kept.into_value(),
-                cause: Cause::Memory,
-            }),
+            Err(kept) => {
+                let value = kept.into_value();
+                if adds {
+                    return Err(Refused {
+                        value,
+                        cause: Cause::Memory,
+                    });
+                }
+                match self.add_growing(slot, again, value) {
+                    Ok(_) => Ok(None),
+                    Err(refused) => Err(refused),
+                }
+            }
         }
-    }
-
-    /// Inserts the pair of a key and a value as `insert_otherwise` does, if a new key makes the map
-    /// grow.
-    fn insert_growing(&mut self, slot: usize, key: K, value: V) -> Result<Option<V>, Refused<V>>
-        requires slot { slot ≡ slot_number K.number_of key self.old.capacity }
-        requires full { TakesOneMore self.old.walk self.old.capacity self.old.factor → ⊥ }
-        requires other { value_of K.number_of
-            (first_of K.number_of self.old.walk self.old.capacity slot) key ≡ None }
-        ensures old { IfOk result (λ old. old ≡ value_of K.number_of self.old.walk key) }
-        ensures inserted { OnOk result
-            (IsInsertion K.number_of K.is_valid self.old key value self.new) }
-        ensures state { OnOk result (self.new ≡ with_pair K.number_of
-            (after_rest K.number_of self.old slot key) key value self.new.capacity) }
-        ensures err { OnErr result (self.new ≡ after_rest K.number_of self.old slot key) }
-        ensures value_returned { IfErr result (λ refused. refused.value ≡ value) }
-        ensures refused { IfErr result (λ refused. RefusalIsDue K.number_of (list_of self.old) key
-            refused.cause) }
-        ensures valid { IsMap K.number_of K.is_valid self.old }
-        ensures valid_after { IsMap K.number_of K.is_valid self.new }
-    {
-        let value = match self.replace_further(slot, key, value) {
-            Ok(old) => return Ok(Some(old)),
-            Err(value) => value,
-        };
-        if let Err(refused) = self.add_growing(slot, key, value) {
-            return Err(refused);
-        }
-        Ok(None)
-    }
-
-    /// Replaces the pair of a key, if it is behind the first one of its slot, and returns the old
-    /// value. If the key is absent, it returns the new value, and only the count of compared keys
-    /// changes.
-    fn replace_further(&mut self, slot: usize, key: K, value: V) -> Result<V, V>
-        requires slot { slot ≡ slot_number K.number_of key self.old.capacity }
-        requires other { value_of K.number_of
-            (first_of K.number_of self.old.walk self.old.capacity slot) key ≡ None }
-        ensures value { IfOk result (λ old. value_of K.number_of self.old.walk key ≡ Some old) }
-        ensures state { OnOk result (self.new ≡ with_pair K.number_of
-            (after_rest K.number_of self.old slot key) key value self.old.capacity) }
-        ensures missing { OnErr result (value_of K.number_of self.old.walk key ≡ None) }
-        ensures err { OnErr result (self.new ≡ after_rest K.number_of self.old slot key) }
-        ensures value_returned { IfErr result (λ returned. returned ≡ value) }
-        ensures valid { IsMap K.number_of K.is_valid self.old }
-        ensures valid_after { IsMap K.number_of K.is_valid self.new }
-    {
-        let kept = match self
-            .table
-            .replace_further(slot, key, Kept::new(value), &mut self.compared)
-        {
-            Ok(old) => return Ok(old.into_value()),
-            Err(kept) => kept,
-        };
-        Err(kept.into_value())
     }
 
     /// Inserts the pair if the key is absent, and returns whether it inserted it. If the key is
@@ -290,7 +245,8 @@ impl<K: IntKey, V: Drop, A: Allocator + Copy> IntMap<K, V, A> {
         ensures valid { IsMap K.number_of K.is_valid self.old }
         ensures valid_after { IsMap K.number_of K.is_valid self.new }
     {
-        let Err(slot) = self.locate(key) else {
+        let key = Sought::new(key);
+        let Err(slot) = self.locate(&key) else {
             return Ok(false);
         };
         if let Err(refused) = self.add(slot, key, value) {
@@ -301,7 +257,12 @@ impl<K: IntKey, V: Drop, A: Allocator + Copy> IntMap<K, V, A> {
 
     /// Adds the pair of an absent key in its slot, and returns where it is. It compares no key.
     #[inline(always)]
-    pub(crate) fn add(&mut self, slot: usize, key: K, value: V) -> Result<Location<K>, Refused<V>>
+    pub(crate) fn add(
+        &mut self,
+        slot: usize,
+        key: Sought<K>,
+        value: V,
+    ) -> Result<Location<K>, Refused<V>>
         requires missing { value_of K.number_of self.old.walk key ≡ None }
         requires slot { slot ≡ slot_number K.number_of key self.old.capacity }
         ensures key { IfOk result (λ at. at.key ≡ key) }
@@ -340,7 +301,12 @@ impl<K: IntKey, V: Drop, A: Allocator + Copy> IntMap<K, V, A> {
     /// Adds the pair of an absent key, if the slots don't take one more, and returns where it is.
     /// All memory is allocated before a pair moves.
     #[inline(never)]
-    fn add_growing(&mut self, slot: usize, key: K, value: V) -> Result<Location<K>, Refused<V>>
+    fn add_growing(
+        &mut self,
+        slot: usize,
+        key: Sought<K>,
+        value: V,
+    ) -> Result<Location<K>, Refused<V>>
         requires missing { value_of K.number_of self.old.walk key ≡ None }
         requires slot { slot ≡ slot_number K.number_of key self.old.capacity }
         requires full { TakesOneMore self.old.walk self.old.capacity self.old.factor → ⊥ }

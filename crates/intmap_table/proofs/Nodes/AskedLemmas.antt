@@ -7,7 +7,7 @@ use Rattle.std.proofs.lemmas.List.{length-map}
 use Rattle.intmap_table.specs.Classes.{slot_number}
 use Rattle.intmap_table.specs.Retaining.{Retains}
 use Rattle.intmap_table.specs.Taking.{TakesEach}
-use Rattle.intmap_table.specs.Tables.Nodes.{Node, Slot, Empty, Filled, Pool, is_empty, row_in, rows_in, AreLinked, IsSlotSet}
+use Rattle.intmap_table.specs.Tables.Nodes.{Node, Free, Held, Pool, is_empty, row_in, rows_in, AreLinked, IsSlotSet}
 use Rattle.intmap_table.specs.Tables.Slots.{IsNextRow}
 use Rattle.intmap_table.specs.Tables.WordRows.{word_rows, IsFilledWord, IsWordChanged}
 use Rattle.intmap_table.proofs.Nodes.HomeLemmas.{Home-retained}
@@ -18,23 +18,23 @@ use Rattle.intmap_table.proofs.Tables.WordRowsLemmas.{AreAsked, AreAsked-next, a
 
 module _ {P : Type 0} (nodes : List (Node P)) where
   -- an empty slot has no pair, and another one has some
-  row-empty : (t : Slot P) → is_empty t ≡ true → row_in nodes t ≡ []
-  row-empty Empty none = refl
-  row-empty (Filled l p) none = absurd (false≢true none)
+  row-empty : (t : Node P) → is_empty t ≡ true → row_in nodes t ≡ []
+  row-empty (Free n) none = refl
+  row-empty (Held l p) none = absurd (false≢true none)
 
-  row-filled : (t : Slot P) → is_empty t ≡ false → 0 < length (row_in nodes t)
-  row-filled Empty some = absurd (false≢true (sym some))
-  row-filled (Filled l p) some = omega arith
+  row-filled : (t : Node P) → is_empty t ≡ false → 0 < length (row_in nodes t)
+  row-filled (Free n) some = absurd (false≢true (sym some))
+  row-filled (Held l p) some = omega arith
 
 module _ {K X F : Type 0} (number : K → ℕ) (R : F → K × X → Bool → F → Type 0) (Q : F → K × X → Type 0) (old : List (List (K × X))) (from : ℕ) (f₀ : F) where
   -- of these rows the slots have what the closure left, which was asked about those whose bits aren't left; the word `kept` says which hold a pair
-  pub record AreRetained (slots : List (Slot (K × X))) (a : Pool (K × X)) (f : F) (kept left : ℕ) : Type 0 where
+  pub record AreRetained (slots : List (Node (K × X))) (a : Pool (K × X)) (f : F) (kept left : ℕ) : Type 0 where
     pub linked : AreLinked (λ p. slot_number number p.0 (length slots)) slots a
     pub rows : IsWordChanged from old (rows_in slots a.nodes)
     pub word : IsFilledWord (word_rows from (rows_in slots a.nodes)) kept
     pub asked : AreAsked R Q (word_rows from old) f₀ (word_rows from (rows_in slots a.nodes)) f left
 
-  module _ (slots : List (Slot (K × X))) (a : Pool (K × X)) (f : F) (kept left : ℕ) (are : AreRetained slots a f kept left) (some : 0 < left) where
+  module _ (slots : List (Node (K × X))) (a : Pool (K × X)) (f : F) (kept left : ℕ) (are : AreRetained slots a f kept left) (some : 0 < left) where
     abbrev rows : List (List (K × X))
     rows = rows_in slots a.nodes
 
@@ -55,7 +55,7 @@ module _ {K X F : Type 0} (number : K → ℕ) (R : F → K × X → Bool → F 
     pub Asked-within : from + low < length slots
     Asked-within = let n = length-map slots (row_in a.nodes) in omega (arith, within, n)
 
-    module _ (s : Slot (K × X)) (read : s ≡ get_or slots (from + low) s) where
+    module _ (s : Node (K × X)) (read : s ≡ get_or slots (from + low) s) where
       pub Asked-row : IsRow number slots a rows (from + low) s
       Asked-row = Row-in number slots a (from + low) s are.linked within read
 
@@ -67,7 +67,7 @@ module _ {K X F : Type 0} (number : K → ℕ) (R : F → K × X → Bool → F 
       Asked-takes = rw is (asks R Q (word_rows from old) f₀ (word_rows from rows) f left are.asked some)
 
       -- it was asked about them
-      module _ (row : List (K × X)) (b : Pool (K × X)) (t : Slot (K × X)) (h : F) (changed : IsSlotSet a s row b t) (run : Retains R f (row_in a.nodes s) row h) where
+      module _ (row : List (K × X)) (b : Pool (K × X)) (t : Node (K × X)) (h : F) (changed : IsSlotSet a s row b t) (run : Retains R f (row_in a.nodes s) row h) where
         pub Asked-next : (new : ℕ) → IsFilledWord (set (word_rows from rows) low row) new → AreRetained (set slots (from + low) t) b h new (bit_and left (left - 1))
         Asked-next new is_kept =
             let home : K × X → ℕ = λ p. slot_number number p.0 (length slots) in

@@ -6,13 +6,13 @@ use Rattle.std.proofs.lemmas.List.{append_assoc, append-nil, length-map, length_
 use Rattle.std.proofs.lemmas.List.Sums.{sum_by-append, sum_by-cons}
 use Rattle.intmap_table.specs.Classes.{slot_number}
 use Rattle.intmap_table.specs.Cloning.{IsPairClone}
-use Rattle.intmap_table.specs.Tables.Nodes.{Node, Held, Slot, Empty, Filled, Pool, node_limit, nowhere, node_at, Path, chain_of, IsChain, IsAdded, row_in, rows_in, IsSlot, IsSlotSet, Misses, AreHome, further, AreLinked}
+use Rattle.intmap_table.specs.Tables.Nodes.{node_limit, nowhere, Node, Held, empty, Pool, node_at, Path, chain_of, IsChain, IsAdded, row_in, rows_in, IsSlot, IsSlotSet, Misses, AreHome, further, AreLinked}
 use Rattle.intmap_table.specs.Tables.Rows.{AreRows, IsChainClone, IsRowClone}
-use Rattle.intmap_table.proofs.Nodes.NodeLemmas.{below_or_not, Stop, held_limit}
+use Rattle.intmap_table.proofs.Nodes.NodeLemmas.{same_or_not, below_or_not, Stop, held_limit}
 use Rattle.intmap_table.proofs.Nodes.PathLemmas.{Path-append, Chain-next, Chain-end, Chain-none, Chain-nowhere, Chain-beyond}
 use Rattle.intmap_table.proofs.Nodes.ChainLemmas.{set_of_leads}
-use Rattle.intmap_table.proofs.Nodes.SlotLemmas.{Slot-first, Slot-none}
-use Rattle.intmap_table.proofs.Nodes.LinkedLemmas.{same_or_not, Stays, slot_stays, Linked-set, IsRow}
+use Rattle.intmap_table.proofs.Nodes.SlotLemmas.{Slot-first, Slot-free, Slot-none}
+use Rattle.intmap_table.proofs.Nodes.LinkedLemmas.{Stays, slot_stays, Linked-set, IsRow}
 use Rattle.intmap_table.proofs.Tables.CloneLemmas.{AreClones, AllZip-append}
 
 module _ {P : Type 0} where
@@ -27,36 +27,36 @@ module _ {P : Type 0} where
 
 module _ {P : Type 0} (home : P → ℕ) where
   -- one more slot, with this row
-  pub record ArePushed (T : List (Slot P)) (a : Pool P) (row : List P) (T' : List (Slot P)) (b : Pool P) : Type 0 where
+  pub record ArePushed (T : List (Node P)) (a : Pool P) (row : List P) (T' : List (Node P)) (b : Pool P) : Type 0 where
     pub linked : AreLinked home T' b
     pub rows : rows_in T' b.nodes ≡ rows_in T a.nodes ++ row ∷ []
 
   -- slot j leads through its own pairs
-  record IsThere (T' : List (Slot P)) (ds : List (Node P)) (j : ℕ) : Type 0 where
-    chain : IsSlot ds (get_or T' j Empty)
-    own : AreHome home j (row_in ds (get_or T' j Empty))
+  record IsThere (T' : List (Node P)) (ds : List (Node P)) (j : ℕ) : Type 0 where
+    chain : IsSlot ds (get_or T' j empty)
+    own : AreHome home j (row_in ds (get_or T' j empty))
 
   -- so does a slot that is read there
-  there : (T' : List (Slot P)) (ds : List (Node P)) (j : ℕ) (s : Slot P) → get_or T' j Empty ≡ s → IsSlot ds s → AreHome home j (row_in ds s) → IsThere T' ds j
+  there : (T' : List (Node P)) (ds : List (Node P)) (j : ℕ) (s : Node P) → get_or T' j empty ≡ s → IsSlot ds s → AreHome home j (row_in ds s) → IsThere T' ds j
   there T' ds j s e chain own = record { chain = subst (λ t. IsSlot ds t) (sym e) chain; own = subst (λ t. AreHome home j (row_in ds t)) (sym e) own }
 
   -- a slot came behind the others, and its pairs behind the first one are in nodes that were free
-  pub Linked-push : (T : List (Slot P)) (a : Pool P) (row : List P) (b : Pool P) (t : Slot P) → AreLinked home T a → IsSlotSet a Empty row b t → AreHome home (length T) row → ArePushed T a row (T ++ t ∷ []) b
+  pub Linked-push : (T : List (Node P)) (a : Pool P) (row : List P) (b : Pool P) (t : Node P) → AreLinked home T a → IsSlotSet a empty row b t → AreHome home (length T) row → ArePushed T a row (T ++ t ∷ []) b
   Linked-push T a row b t linked h own =
-      let stays : (j : ℕ) → j < length T → Stays home j a.nodes b.nodes (get_or T j Empty) = λ j below.
-      slot_stays home (length T) j a.nodes b.nodes [] (get_or T j Empty) (λ e. absurd (omega (arith, e, below))) tt h.spares (linked.chains j below) (linked.own j below) in
+      let stays : (j : ℕ) → j < length T → Stays home j a.nodes b.nodes (get_or T j empty) = λ j below.
+      slot_stays home (length T) j a.nodes b.nodes [] (get_or T j empty) (λ e. absurd (omega (arith, e, below))) tt h.spares (linked.chains j below) (linked.own j below) in
       let at : (j : ℕ) → j < length (T ++ t ∷ []) → IsThere (T ++ t ∷ []) b.nodes j = λ j below.
       ⊎_elim
-      (λ less. there (T ++ t ∷ []) b.nodes j (get_or T j Empty) (get_or_append_left T (t ∷ []) Empty j less) (stays j less).chain (subst (λ ps. AreHome home j ps) (sym (stays j less).row) (linked.own j less)))
+      (λ less. there (T ++ t ∷ []) b.nodes j (get_or T j empty) (get_or_append_left T (t ∷ []) empty j less) (stays j less).chain (subst (λ ps. AreHome home j ps) (sym (stays j less).row) (linked.own j less)))
       (λ le. let n = length_push T t in
       let e : length T ≡ j = omega (arith, n, below, le) in
-      there (T ++ t ∷ []) b.nodes j t (get_or_push T t Empty j e) h.is (subst (λ ps. AreHome home j ps) (sym h.pairs) (subst (λ k. AreHome home k row) e own)))
+      there (T ++ t ∷ []) b.nodes j t (get_or_push T t empty j e) h.is (subst (λ ps. AreHome home j ps) (sym h.pairs) (subst (λ k. AreHome home k row) e own)))
       (below_or_not j (length T)) in
       let same : rows_in T b.nodes ≡ rows_in T a.nodes =
       ext_get_or [] (rows_in T b.nodes) (rows_in T a.nodes) (length-map T (row_in b.nodes) ∙ sym (length-map T (row_in a.nodes)))
       (λ j below. let x = length-map T (row_in b.nodes) in
       let less : j < length T = omega (arith, x, below) in
-      get_or-map (row_in b.nodes) T j Empty [] less ∙ (stays j less).row ∙ sym (get_or-map (row_in a.nodes) T j Empty [] less)) in
+      get_or-map (row_in b.nodes) T j empty [] less ∙ (stays j less).row ∙ sym (get_or-map (row_in a.nodes) T j empty [] less)) in
       let rows : rows_in (T ++ t ∷ []) b.nodes ≡ rows_in T a.nodes ++ row ∷ [] = map-append (row_in b.nodes) T (t ∷ []) ∙ ap (λ R. R ++ row_in b.nodes t ∷ []) same ∙ ap (λ ps. rows_in T a.nodes ++ ps ∷ []) h.pairs in
       let sum = ap further rows ∙ sum_by-append (λ (ps : List P). length ps - 1) (rows_in T a.nodes) (row ∷ []) in
       let one = sum_by-cons (λ (ps : List P). length ps - 1) row [] in
@@ -73,11 +73,6 @@ module _ {P : Type 0} where
   get_or-none [] (suc j) = refl
   get_or-none (s ∷ S) zero = refl
   get_or-none (s ∷ S) (suc j) = get_or-none S j
-
-  -- a slot whose row has no pair is empty
-  empty_row : (cs : List (Node P)) (s : Slot P) → row_in cs s ≡ [] → s ≡ Empty
-  empty_row cs Empty none = refl
-  empty_row cs (Filled l p) none = cc
 
 module _ {K X : Type 0} (clones : X → X → Type 0) where
   -- the pairs before link `link` of a chain have clones, and node `first` leads through them, to node m: it comes next, if there are further pairs
@@ -163,7 +158,7 @@ module _ {K X : Type 0} (clones : X → X → Type 0) where
       }
 
   -- the clone of a slot with a pair
-  pub Slot-cloned : (cs : List (Node (K × X))) (l : ℕ) (p q : K × X) (a b : Pool (K × X)) (m : ℕ) → IsPairClone clones p q → IsChainClone clones (chain_of cs l) a b m → IsRowClone clones (row_in cs (Filled l p)) a b (Filled m q)
+  pub Slot-cloned : (cs : List (Node (K × X))) (l : ℕ) (p q : K × X) (a b : Pool (K × X)) (m : ℕ) → IsPairClone clones p q → IsChainClone clones (chain_of cs l) a b m → IsRowClone clones (row_in cs (Held l p)) a b (Held m q)
   Slot-cloned cs l p q a b m is h =
       let first = Slot-first a nowhere q q h.copies b m h.chain in
       let empty = ap length (Chain-none a.nodes) in
@@ -216,29 +211,29 @@ module _ {K X : Type 0} (clones : X → X → Type 0) where
   home_cloned C number i (p ∷ r) (q ∷ s) all own = (ap (λ k. slot_number number k C) all.0.0 ∙ own.0, home_cloned C number i r s all.1 own.1)
 
   -- slots T with nodes b have clones of the rows before row k, and no other pairs
-  pub record AreClonedBelow (number : K → ℕ) (R : List (List (K × X))) (C k : ℕ) (T : List (Slot (K × X))) (b : Pool (K × X)) : Type 0 where
+  pub record AreClonedBelow (number : K → ℕ) (R : List (List (K × X))) (C k : ℕ) (T : List (Node (K × X))) (b : Pool (K × X)) : Type 0 where
     pub linked : AreLinked (λ p. slot_number number p.0 C) T b
     pub are : (j : ℕ) → j < k → AreClones clones (get_or R j []) (get_or (rows_in T b.nodes) j [])
     pub none : (j : ℕ) → k ≤ j → get_or (rows_in T b.nodes) j [] ≡ []
 
   -- slots without a pair are added
-  Below-added : (number : K → ℕ) (R : List (List (K × X))) (C k : ℕ) (T : List (Slot (K × X))) (a : Pool (K × X)) (n : ℕ) → AreClonedBelow number R C k T a → AreClonedBelow number R C k (T ++ replicate n Empty) a
+  Below-added : (number : K → ℕ) (R : List (List (K × X))) (C k : ℕ) (T : List (Node (K × X))) (a : Pool (K × X)) (n : ℕ) → AreClonedBelow number R C k T a → AreClonedBelow number R C k (T ++ replicate n empty) a
   Below-added number R C k T a zero h = subst (λ S. AreClonedBelow number R C k S a) (sym (append-nil T)) h
   Below-added number R C k T a (suc n) h =
-      let more = Linked-push (λ (p : K × X). slot_number number p.0 C) T a [] a Empty h.linked (Slot-none a) tt in
-      let same : (j : ℕ) → get_or (rows_in (T ++ Empty ∷ []) a.nodes) j [] ≡ get_or (rows_in T a.nodes) j [] = λ j. ap (λ S. get_or S j []) more.rows ∙ get_or-none (rows_in T a.nodes) j in
-      let one : AreClonedBelow number R C k (T ++ Empty ∷ []) a = record {
+      let more = Linked-push (λ (p : K × X). slot_number number p.0 C) T a [] a empty h.linked (Slot-none a) tt in
+      let same : (j : ℕ) → get_or (rows_in (T ++ empty ∷ []) a.nodes) j [] ≡ get_or (rows_in T a.nodes) j [] = λ j. ap (λ S. get_or S j []) more.rows ∙ get_or-none (rows_in T a.nodes) j in
+      let one : AreClonedBelow number R C k (T ++ empty ∷ []) a = record {
         linked = more.linked;
         are = λ j below. subst (λ row. AreClones clones (get_or R j []) row) (sym (same j)) (h.are j below);
         none = λ j le. same j ∙ h.none j le;
       } in
-      subst (λ S. AreClonedBelow number R C k S a) (append_assoc T (Empty ∷ []) (replicate n Empty)) (Below-added number R C k (T ++ Empty ∷ []) a n one)
+      subst (λ S. AreClonedBelow number R C k S a) (append_assoc T (empty ∷ []) (replicate n empty)) (Below-added number R C k (T ++ empty ∷ []) a n one)
 
-  pub Below-more : (number : K → ℕ) (R : List (List (K × X))) (C k : ℕ) (T S : List (Slot (K × X))) (a : Pool (K × X)) (n : ℕ) → AreClonedBelow number R C k T a → S ≡ T ++ replicate n Empty → AreClonedBelow number R C k S a
+  pub Below-more : (number : K → ℕ) (R : List (List (K × X))) (C k : ℕ) (T S : List (Node (K × X))) (a : Pool (K × X)) (n : ℕ) → AreClonedBelow number R C k T a → S ≡ T ++ replicate n empty → AreClonedBelow number R C k S a
   Below-more number R C k T S a n h is = subst (λ U. AreClonedBelow number R C k U a) (sym is) (Below-added number R C k T a n h)
 
   -- rows without pairs are passed
-  pub Below-passed : (number : K → ℕ) (R : List (List (K × X))) (C k m : ℕ) (T : List (Slot (K × X))) (a : Pool (K × X)) → k ≤ m → ((j : ℕ) → k ≤ j → j < m → get_or R j [] ≡ []) → AreClonedBelow number R C k T a → AreClonedBelow number R C m T a
+  pub Below-passed : (number : K → ℕ) (R : List (List (K × X))) (C k m : ℕ) (T : List (Node (K × X))) (a : Pool (K × X)) → k ≤ m → ((j : ℕ) → k ≤ j → j < m → get_or R j [] ≡ []) → AreClonedBelow number R C k T a → AreClonedBelow number R C m T a
   Below-passed number R C k m T a up empty h = record {
     linked = h.linked;
     are = λ j below. ⊎_elim (λ less. h.are j less)
@@ -248,15 +243,15 @@ module _ {K X : Type 0} (clones : X → X → Type 0) where
   }
 
   -- the next slot is cloned
-  pub Below-next : (number : K → ℕ) (slots : List (Slot (K × X))) (pool : Pool (K × X)) (k : ℕ) (s : Slot (K × X)) (T : List (Slot (K × X))) (a : Pool (K × X)) (t : Slot (K × X)) (b : Pool (K × X))
+  pub Below-next : (number : K → ℕ) (slots : List (Node (K × X))) (pool : Pool (K × X)) (k : ℕ) (s : Node (K × X)) (T : List (Node (K × X))) (a : Pool (K × X)) (t : Node (K × X)) (b : Pool (K × X))
       → IsRow number slots pool (rows_in slots pool.nodes) k s → IsRowClone clones (row_in pool.nodes s) a b t → AreClonedBelow number (rows_in slots pool.nodes) (length slots) k T a → k < length T
       → AreClonedBelow number (rows_in slots pool.nodes) (length slots) (k + 1) (set T k t) b
   Below-next number slots pool k s T a t b row h below within =
       let R = rows_in slots pool.nodes in
       let len = length-map T (row_in a.nodes) in
-      let was : get_or T k Empty ≡ Empty = empty_row a.nodes (get_or T k Empty) (sym (get_or-map (row_in a.nodes) T k Empty [] within) ∙ below.none k (omega arith)) in
+      let was : row_in a.nodes (get_or T k empty) ≡ [] = sym (get_or-map (row_in a.nodes) T k empty [] within) ∙ below.none k (omega arith) in
       let own = home_cloned (length slots) number k (row_in pool.nodes s) h.copies h.are row.own in
-      let next = Linked-set (λ (p : K × X). slot_number number p.0 (length slots)) T a k h.copies b t within below.linked (subst (λ u. IsSlotSet a u h.copies b t) (sym was) h.slot) own in
+      let next = Linked-set (λ (p : K × X). slot_number number p.0 (length slots)) T a k h.copies b t within below.linked (Slot-free a (get_or T k empty) h.copies b t was h.slot) own in
       let here : get_or (rows_in (set T k t) b.nodes) k [] ≡ h.copies = ap (λ S. get_or S k []) next.rows ∙ get_or-set_same (rows_in T a.nodes) k h.copies [] (omega (arith, len, within)) in
       let other : (j : ℕ) → j ≢ k → get_or (rows_in (set T k t) b.nodes) j [] ≡ get_or (rows_in T a.nodes) j [] = λ j apart. ap (λ S. get_or S j []) next.rows ∙ get_or-set_other (rows_in T a.nodes) k j h.copies [] apart in
       let mine : AreClones clones (get_or R k []) (get_or (rows_in (set T k t) b.nodes) k []) = subst (λ ps. AreClones clones ps (get_or (rows_in (set T k t) b.nodes) k [])) row.is (subst (λ ps. AreClones clones (row_in pool.nodes s) ps) (sym here) h.are) in
@@ -270,14 +265,14 @@ module _ {K X : Type 0} (clones : X → X → Type 0) where
       }
 
   -- all rows are cloned
-  pub Below-all : (number : K → ℕ) (R : List (List (K × X))) (C k : ℕ) (T : List (Slot (K × X))) (b : Pool (K × X)) → AreClonedBelow number R C k T b → ((j : ℕ) → k ≤ j → get_or R j [] ≡ []) → length T ≡ length R
+  pub Below-all : (number : K → ℕ) (R : List (List (K × X))) (C k : ℕ) (T : List (Node (K × X))) (b : Pool (K × X)) → AreClonedBelow number R C k T b → ((j : ℕ) → k ≤ j → get_or R j [] ≡ []) → length T ≡ length R
       → AllZip (AreClones clones) R (rows_in T b.nodes)
   Below-all number R C k T b h empty len =
       let all = Below-passed number R C k (k + length R) T b (omega arith) (λ j le less. empty j le) h in
       zip_rows R (rows_in T b.nodes) (sym len ∙ sym (length-map T (row_in b.nodes))) (λ j less. all.are j (omega (arith, less)))
 
   -- clones of all rows are the rows of slots with the same marks
-  pub Rows-cloned : (number : K → ℕ) (slots : List (Slot (K × X))) (pool : Pool (K × X)) (marks : List Bool) (mask : ℕ) (T : List (Slot (K × X))) (b : Pool (K × X)) → AreRows number slots pool marks mask
+  pub Rows-cloned : (number : K → ℕ) (slots : List (Node (K × X))) (pool : Pool (K × X)) (marks : List Bool) (mask : ℕ) (T : List (Node (K × X))) (b : Pool (K × X)) → AreRows number slots pool marks mask
       → AreLinked (λ p. slot_number number p.0 (length slots)) T b → AllZip (AreClones clones) (rows_in slots pool.nodes) (rows_in T b.nodes) → AreRows number T b marks mask
   Rows-cloned number slots pool marks mask T b are linked all =
       let R = rows_in slots pool.nodes in

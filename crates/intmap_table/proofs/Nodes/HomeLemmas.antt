@@ -10,7 +10,7 @@ use Rattle.intmap_table.specs.Classes.{slot_number, IsCapacity}
 use Rattle.intmap_table.specs.Picking.{ExtractsBehind, PicksAt}
 use Rattle.intmap_table.specs.Retaining.{Retains}
 use Rattle.intmap_table.specs.Writes.{Writes}
-use Rattle.intmap_table.specs.Tables.Nodes.{Slot, Empty, Pool, AreHome, AreLinked, row_in, rows_in}
+use Rattle.intmap_table.specs.Tables.Nodes.{Node, empty, Pool, AreHome, AreLinked, row_in, rows_in}
 use Rattle.intmap_table.specs.Tables.Rows.{AreRows, IsTable}
 use Rattle.intmap_table.proofs.ExtractLemmas.{ExtractsNext-induct}
 use Rattle.intmap_table.proofs.Nodes.LinkedLemmas.{home_take, home_drop, home-join}
@@ -21,12 +21,12 @@ module _ {P : Type 0} (home : P → ℕ) where
   All-home i (p ∷ ps) own = All-cons (λ p. home p ≡ i) p ps own.0 (All-home i ps own.1)
 
   -- each row has pairs that are at home there
-  pub Linked-own : (slots : List (Slot P)) (a : Pool P) → AreLinked home slots a → (i : ℕ) → i < length slots → All (λ p. home p ≡ i) (get_or (rows_in slots a.nodes) i [])
+  pub Linked-own : (slots : List (Node P)) (a : Pool P) → AreLinked home slots a → (i : ℕ) → i < length slots → All (λ p. home p ≡ i) (get_or (rows_in slots a.nodes) i [])
   Linked-own slots a linked i below =
-      subst (λ row. All (λ p. home p ≡ i) row) (sym (get_or-map (row_in a.nodes) slots i Empty [] below)) (All-home i (row_in a.nodes (get_or slots i Empty)) (linked.own i below))
+      subst (λ row. All (λ p. home p ≡ i) row) (sym (get_or-map (row_in a.nodes) slots i empty [] below)) (All-home i (row_in a.nodes (get_or slots i empty)) (linked.own i below))
 
 -- as contracts see the rows
-pub Rows-own : {K X : Type 0} (number : K → ℕ) (slots : List (Slot (K × X))) (a : Pool (K × X)) (marks : List Bool) (mask : ℕ) → AreRows number slots a marks mask
+pub Rows-own : {K X : Type 0} (number : K → ℕ) (slots : List (Node (K × X))) (a : Pool (K × X)) (marks : List Bool) (mask : ℕ) → AreRows number slots a marks mask
     → (i : ℕ) → i < length (rows_in slots a.nodes) → All (λ p. slot_number number p.0 (length (rows_in slots a.nodes)) ≡ i) (get_or (rows_in slots a.nodes) i [])
 Rows-own number slots a marks mask are i below =
     let long = length-map slots (row_in a.nodes) in
@@ -34,7 +34,7 @@ Rows-own number slots a marks mask are i below =
     (Linked-own (λ p. slot_number number p.0 (length slots)) slots a are.linked i (omega (arith, long, below)))
 
 -- they are a table
-pub Rows-table : {K X : Type 0} (number : K → ℕ) (slots : List (Slot (K × X))) (a : Pool (K × X)) (marks : List Bool) (mask : ℕ) → AreRows number slots a marks mask → IsTable number (rows_in slots a.nodes)
+pub Rows-table : {K X : Type 0} (number : K → ℕ) (slots : List (Node (K × X))) (a : Pool (K × X)) (marks : List Bool) (mask : ℕ) → AreRows number slots a marks mask → IsTable number (rows_in slots a.nodes)
 Rows-table number slots a marks mask are = record {
   capacity = subst IsCapacity (sym (length-map slots (row_in a.nodes))) are.capacity;
   in_place = Rows-own number slots a marks mask are;

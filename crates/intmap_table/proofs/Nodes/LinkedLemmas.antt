@@ -1,19 +1,16 @@
 -- Slots that share one pool of nodes.
-use Rattle.std.proofs.Common.{◌⊎◌, ⊎_elim, inl, inr, take, ◌≡◌, ◌≢◌, ℕ, zero, suc, ◌+◌, ◌-◌, ◌<◌, ◌==◌, Bool, true, false, cond, List, [], ◌∷◌, ◌++◌, length, get_or, set, refl, sym, ap, ◌∙◌, subst, arith}
+use Rattle.std.proofs.Common.{⊎_elim, take, ◌≡◌, ◌≢◌, ℕ, zero, suc, ◌+◌, ◌-◌, ◌<◌, ◌==◌, Bool, true, false, cond, List, [], ◌∷◌, ◌++◌, length, get_or, set, refl, sym, ap, ◌∙◌, subst, arith}
 use Rattle.std.specs.Prelude.{swap_remove, drop, nat_lt, replicate, ◌*◌, ◌/◌}
 use Rattle.std.proofs.lemmas.Bool.{lt-ltb}
-use Rattle.std.proofs.lemmas.Bool.Decides.{eqb_tells}
 use Rattle.std.proofs.lemmas.List.{length-replicate, get_or_default, ext_get_or, get_or-map, length-map, length-set, get_or-set_same, get_or-set_other}
 use Rattle.std.proofs.lemmas.List.Sums.{sum_by-set, sum_by-cons}
 use Rattle.intmap_table.specs.Classes.{slot_number, IsCapacity}
-use Rattle.intmap_table.specs.Tables.Nodes.{Node, Held, Slot, Empty, Filled, is_empty, Pool, nowhere, node_at, Path, Leads, chain_of, Misses, Spares, row_in, IsSlot, IsSlotSet, AreHome, rows_in, further, AreLinked}
+use Rattle.intmap_table.specs.Tables.Nodes.{nowhere, Node, Free, Held, empty, freed, is_empty, Pool, node_at, Path, Leads, chain_of, Misses, Spares, row_in, IsSlot, IsSlotSet, AreHome, rows_in, further, AreLinked}
 use Rattle.intmap_table.specs.Tables.Rows.{AreRows}
 use Rattle.intmap_table.specs.Tables.Slots.{AreMarked}
+use Rattle.intmap_table.proofs.Nodes.NodeLemmas.{same_or_not}
 use Rattle.intmap_table.proofs.Nodes.PathLemmas.{chain_is, IsChain-leads}
 use Rattle.intmap_table.proofs.Tables.FilledLemmas.{row-within, filled-pushed, AreMarked-set, AreMarked-kept, AreMarked-none}
-
-pub same_or_not : (j i : ℕ) → (j ≡ i) ⊎ (j ≢ i)
-same_or_not j i = elim (eqb_tells j i) [ inl h ↦ inl h.1 | inr h ↦ inr h.1 ]
 
 module _ {P : Type 0} where
   -- with another row of slot i
@@ -23,6 +20,10 @@ module _ {P : Type 0} where
 further-none : (P : Type 0) (n : ℕ) → further {P = P} (replicate n []) ≡ 0
 further-none P zero = refl
 further-none P (suc n) = let e = sum_by-cons (λ (ps : List P). length ps - 1) [] (replicate n []) in let rest = further-none P n in omega (arith, e, rest)
+
+-- no slot holds a pair
+abbrev pub AreFree : {P : Type 0} → List (Node P) → Type 0
+AreFree slots = (i : ℕ) → freed (get_or slots i empty) ≡ get_or slots i empty
 
 module _ {P : Type 0} (home : P → ℕ) where
   -- the pairs of slot i aren't those of slot j
@@ -42,30 +43,30 @@ module _ {P : Type 0} (home : P → ℕ) where
       (path.0, same l path.0 p yes path.1, path_stays j cs ds path.0 ps m same own.1 path.2)
 
   -- another slot is as it was
-  pub record Stays (j : ℕ) (cs ds : List (Node P)) (s : Slot P) : Type 0 where
+  pub record Stays (j : ℕ) (cs ds : List (Node P)) (s : Node P) : Type 0 where
     pub chain : IsSlot ds s
     pub row : row_in ds s ≡ row_in cs s
 
-  pub slot_stays : (i j : ℕ) (cs ds : List (Node P)) (row : List P) (s : Slot P) → i ≢ j → AreHome home i row → Spares cs ds row → IsSlot cs s → AreHome home j (row_in cs s) → Stays j cs ds s
-  slot_stays i j cs ds row Empty apart own spares is home_s = record { chain = tt; row = refl }
-  slot_stays i j cs ds row (Filled l p) apart own spares is home_s =
+  pub slot_stays : (i j : ℕ) (cs ds : List (Node P)) (row : List P) (s : Node P) → i ≢ j → AreHome home i row → Spares cs ds row → IsSlot cs s → AreHome home j (row_in cs s) → Stays j cs ds s
+  slot_stays i j cs ds row (Free n) apart own spares is home_s = record { chain = tt; row = refl }
+  slot_stays i j cs ds row (Held l p) apart own spares is home_s =
       let leads : Leads ds l (chain_of cs l) = path_stays j cs ds l (chain_of cs l) nowhere (spares (λ q. home q == j) (home_misses i j row apart own)) home_s.1 is in
       record { chain = IsChain-leads ds l (chain_of cs l) leads; row = ap (λ ps. p ∷ ps) (chain_is ds l (chain_of cs l) leads) }
 
   -- slot i has another row, and the others have theirs
-  pub record AreSet (slots : List (Slot P)) (a : Pool P) (i : ℕ) (row : List P) (slots' : List (Slot P)) (b : Pool P) : Type 0 where
+  pub record AreSet (slots : List (Node P)) (a : Pool P) (i : ℕ) (row : List P) (slots' : List (Node P)) (b : Pool P) : Type 0 where
     pub linked : AreLinked home slots' b
     pub rows : rows_in slots' b.nodes ≡ set (rows_in slots a.nodes) i row
 
-  record IsAt (slots : List (Slot P)) (cs : List (Node P)) (i : ℕ) (row : List P) (slots' : List (Slot P)) (ds : List (Node P)) (j : ℕ) : Type 0 where
-    chain : IsSlot ds (get_or slots' j Empty)
-    own : AreHome home j (row_in ds (get_or slots' j Empty))
-    read : row_in ds (get_or slots' j Empty) ≡ get_or (set (rows_in slots cs) i row) j []
+  record IsAt (slots : List (Node P)) (cs : List (Node P)) (i : ℕ) (row : List P) (slots' : List (Node P)) (ds : List (Node P)) (j : ℕ) : Type 0 where
+    chain : IsSlot ds (get_or slots' j empty)
+    own : AreHome home j (row_in ds (get_or slots' j empty))
+    read : row_in ds (get_or slots' j empty) ≡ get_or (set (rows_in slots cs) i row) j []
 
-  at_place : (slots : List (Slot P)) (a : Pool P) (i : ℕ) (row : List P) (b : Pool P) (t : Slot P) (j : ℕ) → i < length slots → IsSlotSet a (get_or slots i Empty) row b t → AreHome home i row
+  at_place : (slots : List (Node P)) (a : Pool P) (i : ℕ) (row : List P) (b : Pool P) (t : Node P) (j : ℕ) → i < length slots → IsSlotSet a (get_or slots i empty) row b t → AreHome home i row
       → j ≡ i → IsAt slots a.nodes i row (set slots i t) b.nodes j
   at_place slots a i row b t j within h own here =
-      let there : get_or (set slots i t) j Empty ≡ t = ap (λ k. get_or (set slots i t) k Empty) here ∙ get_or-set_same slots i t Empty within in
+      let there : get_or (set slots i t) j empty ≡ t = ap (λ k. get_or (set slots i t) k empty) here ∙ get_or-set_same slots i t empty within in
       let len = length-map slots (row_in a.nodes) in
       let read_is : get_or (set (rows_in slots a.nodes) i row) j [] ≡ row = ap (λ k. get_or (set (rows_in slots a.nodes) i row) k []) here ∙ get_or-set_same (rows_in slots a.nodes) i row [] (omega (arith, len, within)) in
       record {
@@ -74,23 +75,23 @@ module _ {P : Type 0} (home : P → ℕ) where
         read = ap (row_in b.nodes) there ∙ h.pairs ∙ sym read_is;
       }
 
-  at_other : (slots : List (Slot P)) (a : Pool P) (i : ℕ) (row : List P) (b : Pool P) (t : Slot P) (j : ℕ) → j < length slots → AreLinked home slots a → Stays j a.nodes b.nodes (get_or slots j Empty)
+  at_other : (slots : List (Node P)) (a : Pool P) (i : ℕ) (row : List P) (b : Pool P) (t : Node P) (j : ℕ) → j < length slots → AreLinked home slots a → Stays j a.nodes b.nodes (get_or slots j empty)
       → j ≢ i → IsAt slots a.nodes i row (set slots i t) b.nodes j
   at_other slots a i row b t j below linked stays apart =
-      let there : get_or (set slots i t) j Empty ≡ get_or slots j Empty = get_or-set_other slots i j t Empty apart in
-      let read_is : get_or (set (rows_in slots a.nodes) i row) j [] ≡ row_in a.nodes (get_or slots j Empty) = get_or-set_other (rows_in slots a.nodes) i j row [] apart ∙ get_or-map (row_in a.nodes) slots j Empty [] below in
+      let there : get_or (set slots i t) j empty ≡ get_or slots j empty = get_or-set_other slots i j t empty apart in
+      let read_is : get_or (set (rows_in slots a.nodes) i row) j [] ≡ row_in a.nodes (get_or slots j empty) = get_or-set_other (rows_in slots a.nodes) i j row [] apart ∙ get_or-map (row_in a.nodes) slots j empty [] below in
       record {
         chain = subst (λ s. IsSlot b.nodes s) (sym there) stays.chain;
         own = subst (λ s. AreHome home j (row_in b.nodes s)) (sym there) (subst (λ ps. AreHome home j ps) (sym stays.row) (linked.own j below));
         read = ap (row_in b.nodes) there ∙ stays.row ∙ sym read_is;
       }
 
-  pub Linked-set : (slots : List (Slot P)) (a : Pool P) (i : ℕ) (row : List P) (b : Pool P) (t : Slot P) → i < length slots → AreLinked home slots a
-      → IsSlotSet a (get_or slots i Empty) row b t → AreHome home i row → AreSet slots a i row (set slots i t) b
+  pub Linked-set : (slots : List (Node P)) (a : Pool P) (i : ℕ) (row : List P) (b : Pool P) (t : Node P) → i < length slots → AreLinked home slots a
+      → IsSlotSet a (get_or slots i empty) row b t → AreHome home i row → AreSet slots a i row (set slots i t) b
   Linked-set slots a i row b t within linked h own =
       let len = length-set slots i t in
-      let others : (j : ℕ) → j ≢ i → j < length slots → Stays j a.nodes b.nodes (get_or slots j Empty) = λ j apart below.
-      slot_stays i j a.nodes b.nodes (row_in a.nodes (get_or slots i Empty)) (get_or slots j Empty) (λ e. apart (sym e)) (linked.own i within) h.spares (linked.chains j below) (linked.own j below) in
+      let others : (j : ℕ) → j ≢ i → j < length slots → Stays j a.nodes b.nodes (get_or slots j empty) = λ j apart below.
+      slot_stays i j a.nodes b.nodes (row_in a.nodes (get_or slots i empty)) (get_or slots j empty) (λ e. apart (sym e)) (linked.own i within) h.spares (linked.chains j below) (linked.own j below) in
       let at : (j : ℕ) → j < length slots → IsAt slots a.nodes i row (set slots i t) b.nodes j = λ j below.
       ⊎_elim (at_place slots a i row b t j within h own) (λ apart. at_other slots a i row b t j below linked (others j apart below) apart) (same_or_not j i) in
       let rows : rows_in (set slots i t) b.nodes ≡ set (rows_in slots a.nodes) i row =
@@ -98,10 +99,10 @@ module _ {P : Type 0} (home : P → ℕ) where
       (let x = length-map (set slots i t) (row_in b.nodes) in let y = length-set (rows_in slots a.nodes) i row in let z = length-map slots (row_in a.nodes) in omega (arith, x, y, z, len))
       (λ j below. let x = length-map (set slots i t) (row_in b.nodes) in
       let less : j < length (set slots i t) = omega (arith, x, below) in
-      get_or-map (row_in b.nodes) (set slots i t) j Empty [] less ∙ (at j (omega (arith, len, less))).read) in
+      get_or-map (row_in b.nodes) (set slots i t) j empty [] less ∙ (at j (omega (arith, len, less))).read) in
       let all = length-map slots (row_in a.nodes) in
       let more = further-set (rows_in slots a.nodes) i row (omega (arith, all, within)) in
-      let was = ap length (get_or-map (row_in a.nodes) slots i Empty [] within) in
+      let was = ap length (get_or-map (row_in a.nodes) slots i empty [] within) in
       let now = ap further rows in
       let held = h.held in let before = linked.held in
       record {
@@ -149,38 +150,38 @@ module _ {P : Type 0} (home : P → ℕ) where
 
 module _ {K X : Type 0} (number : K → ℕ) where
   -- slots with these rows
-  pub record HaveRows (slots : List (Slot (K × X))) (pool : Pool (K × X)) (marks : List Bool) (mask : ℕ) (R : List (List (K × X))) : Type 0 where
+  pub record HaveRows (slots : List (Node (K × X))) (pool : Pool (K × X)) (marks : List Bool) (mask : ℕ) (R : List (List (K × X))) : Type 0 where
     pub are : AreRows number slots pool marks mask
     pub rows : rows_in slots pool.nodes ≡ R
 
   -- the row of one slot
-  pub record IsRow (slots : List (Slot (K × X))) (pool : Pool (K × X)) (R : List (List (K × X))) (i : ℕ) (s : Slot (K × X)) : Type 0 where
+  pub record IsRow (slots : List (Node (K × X))) (pool : Pool (K × X)) (R : List (List (K × X))) (i : ℕ) (s : Node (K × X)) : Type 0 where
     pub within : i < length slots
-    pub slot : s ≡ get_or slots i Empty
+    pub slot : s ≡ get_or slots i empty
     pub chain : IsSlot pool.nodes s
     pub is : row_in pool.nodes s ≡ get_or R i []
     pub own : AreHome (λ p. slot_number number p.0 (length slots)) i (row_in pool.nodes s)
 
-  pub Row-in : (slots : List (Slot (K × X))) (pool : Pool (K × X)) (i : ℕ) (s : Slot (K × X))
+  pub Row-in : (slots : List (Node (K × X))) (pool : Pool (K × X)) (i : ℕ) (s : Node (K × X))
       → AreLinked (λ p. slot_number number p.0 (length slots)) slots pool → i < length (rows_in slots pool.nodes) → s ≡ get_or slots i s → IsRow slots pool (rows_in slots pool.nodes) i s
   Row-in slots pool i s linked within read =
       let len = length-map slots (row_in pool.nodes) in
       let less : i < length slots = omega (arith, len, within) in
-      let slot : s ≡ get_or slots i Empty = read ∙ get_or_default slots i s Empty less in
+      let slot : s ≡ get_or slots i empty = read ∙ get_or_default slots i s empty less in
       record {
         within = less;
         slot = slot;
         chain = subst (λ t. IsSlot pool.nodes t) (sym slot) (linked.chains i less);
-        is = ap (row_in pool.nodes) slot ∙ sym (get_or-map (row_in pool.nodes) slots i Empty [] less);
+        is = ap (row_in pool.nodes) slot ∙ sym (get_or-map (row_in pool.nodes) slots i empty [] less);
         own = subst (λ t. AreHome (λ p. slot_number number p.0 (length slots)) i (row_in pool.nodes t)) (sym slot) (linked.own i less);
       }
 
-  pub Row-of : (slots : List (Slot (K × X))) (pool : Pool (K × X)) (marks : List Bool) (mask : ℕ) (i : ℕ) (s : Slot (K × X))
+  pub Row-of : (slots : List (Node (K × X))) (pool : Pool (K × X)) (marks : List Bool) (mask : ℕ) (i : ℕ) (s : Node (K × X))
       → AreRows number slots pool marks mask → i < length (rows_in slots pool.nodes) → s ≡ get_or slots i s → IsRow slots pool (rows_in slots pool.nodes) i s
   Row-of slots pool marks mask i s are = Row-in slots pool i s are.linked
 
   -- with another row of slot i, and with marks that say so
-  pub Row-set : (slots : List (Slot (K × X))) (a : Pool (K × X)) (marks : List Bool) (mask : ℕ) (i : ℕ) (s : Slot (K × X)) (f : List (K × X) → List (K × X)) (b : Pool (K × X)) (t : Slot (K × X)) (marks' : List Bool)
+  pub Row-set : (slots : List (Node (K × X))) (a : Pool (K × X)) (marks : List Bool) (mask : ℕ) (i : ℕ) (s : Node (K × X)) (f : List (K × X) → List (K × X)) (b : Pool (K × X)) (t : Node (K × X)) (marks' : List Bool)
       → AreRows number slots a marks mask → IsRow slots a (rows_in slots a.nodes) i s → IsSlotSet a s (f (row_in a.nodes s)) b t
       → AreHome (λ p. slot_number number p.0 (length slots)) i (f (row_in a.nodes s)) → AreMarked (set (rows_in slots a.nodes) i (f (get_or (rows_in slots a.nodes) i []))) marks'
       → HaveRows (set slots i t) b marks' mask (set (rows_in slots a.nodes) i (f (get_or (rows_in slots a.nodes) i [])))
@@ -200,16 +201,16 @@ module _ {K X : Type 0} (number : K → ℕ) where
       }
 
   -- a slot leads through its pairs
-  pub Row-chain : (slots : List (Slot (K × X))) (pool : Pool (K × X)) (marks : List Bool) (mask : ℕ) (i : ℕ) (s : Slot (K × X))
+  pub Row-chain : (slots : List (Node (K × X))) (pool : Pool (K × X)) (marks : List Bool) (mask : ℕ) (i : ℕ) (s : Node (K × X))
       → AreRows number slots pool marks mask → i < length slots → s ≡ get_or slots i s → IsSlot pool.nodes s
-  Row-chain slots pool marks mask i s are below read = subst (λ t. IsSlot pool.nodes t) (sym (read ∙ get_or_default slots i s Empty below)) (are.linked.chains i below)
+  Row-chain slots pool marks mask i s are below read = subst (λ t. IsSlot pool.nodes t) (sym (read ∙ get_or_default slots i s empty below)) (are.linked.chains i below)
 
   -- a slot with a pair is there
-  pub Row-within : (slots : List (Slot (K × X))) (pool : Pool (K × X)) (i : ℕ) → 0 < length (get_or (rows_in slots pool.nodes) i []) → i < length slots
+  pub Row-within : (slots : List (Node (K × X))) (pool : Pool (K × X)) (i : ℕ) → 0 < length (get_or (rows_in slots pool.nodes) i []) → i < length slots
   Row-within slots pool i some = let w = row-within (rows_in slots pool.nodes) i some in let len = length-map slots (row_in pool.nodes) in omega (arith, w, len)
 
   -- a pair came behind those of a slot, and the slot is marked
-  pub Row-pushed : (slots : List (Slot (K × X))) (a : Pool (K × X)) (marks : List Bool) (mask : ℕ) (i : ℕ) (s : Slot (K × X)) (p : K × X) (b : Pool (K × X)) (t : Slot (K × X))
+  pub Row-pushed : (slots : List (Node (K × X))) (a : Pool (K × X)) (marks : List Bool) (mask : ℕ) (i : ℕ) (s : Node (K × X)) (p : K × X) (b : Pool (K × X)) (t : Node (K × X))
       → AreRows number slots a marks mask → i < length (rows_in slots a.nodes) → s ≡ get_or slots i s → slot_number number p.0 (length (rows_in slots a.nodes)) ≡ i → IsSlotSet a s (row_in a.nodes s ++ p ∷ []) b t
       → HaveRows (set slots i t) b (set marks i true) mask (set (rows_in slots a.nodes) i (get_or (rows_in slots a.nodes) i [] ++ p ∷ []))
   Row-pushed slots a marks mask i s p b t are within read own h =
@@ -219,15 +220,15 @@ module _ {K X : Type 0} (number : K → ℕ) where
       Row-set slots a marks mask i s (λ ps. ps ++ p ∷ []) b t (set marks i true) are row h (home-append (λ q. slot_number number q.0 (length slots)) i (row_in a.nodes s) p row.own home)
       (AreMarked-set (rows_in slots a.nodes) marks are.marked i within (get_or (rows_in slots a.nodes) i [] ++ p ∷ []) true (sym (filled-pushed (get_or (rows_in slots a.nodes) i []) p)))
 
-  marked_now : (R : List (List (K × X))) (marks : List Bool) (i : ℕ) (row : List (K × X)) (nodes : List (Node (K × X))) (t : Slot (K × X)) → AreMarked R marks → i < length R → 0 < length (get_or R i [])
+  marked_now : (R : List (List (K × X))) (marks : List Bool) (i : ℕ) (row : List (K × X)) (nodes : List (Node (K × X))) (t : Node (K × X)) → AreMarked R marks → i < length R → 0 < length (get_or R i [])
       → row_in nodes t ≡ row → AreMarked (set R i row) (cond (is_empty t) (set marks i false) marks)
-  marked_now R marks i row nodes Empty are below some is = AreMarked-set R marks are i below row false (ap (λ ps. nat_lt 0 (length ps)) is)
-  marked_now R marks i row nodes (Filled l p) are below some is =
+  marked_now R marks i row nodes (Free n) are below some is = AreMarked-set R marks are i below row false (ap (λ ps. nat_lt 0 (length ps)) is)
+  marked_now R marks i row nodes (Held l p) are below some is =
       let filled : 0 < length (p ∷ chain_of nodes l) = omega arith in
       AreMarked-kept R marks are i below row (are.own i ∙ lt-ltb 0 (length (get_or R i [])) some ∙ sym (lt-ltb 0 (length (p ∷ chain_of nodes l)) filled) ∙ ap (λ ps. nat_lt 0 (length ps)) is)
 
   -- a slot that held a pair has another row, and if it has none any more it isn't marked
-  pub Row-changed : (slots : List (Slot (K × X))) (a : Pool (K × X)) (marks : List Bool) (mask : ℕ) (i : ℕ) (s : Slot (K × X)) (f : List (K × X) → List (K × X)) (b : Pool (K × X)) (t : Slot (K × X))
+  pub Row-changed : (slots : List (Node (K × X))) (a : Pool (K × X)) (marks : List Bool) (mask : ℕ) (i : ℕ) (s : Node (K × X)) (f : List (K × X) → List (K × X)) (b : Pool (K × X)) (t : Node (K × X))
       → AreRows number slots a marks mask → IsRow slots a (rows_in slots a.nodes) i s → IsSlotSet a s (f (row_in a.nodes s)) b t
       → AreHome (λ p. slot_number number p.0 (length slots)) i (f (row_in a.nodes s)) → 0 < length (get_or (rows_in slots a.nodes) i [])
       → HaveRows (set slots i t) b (cond (is_empty t) (set marks i false) marks) mask (set (rows_in slots a.nodes) i (f (get_or (rows_in slots a.nodes) i [])))
@@ -235,14 +236,18 @@ module _ {K X : Type 0} (number : K → ℕ) where
       Row-set slots a marks mask i s f b t (cond (is_empty t) (set marks i false) marks) are row h own
       (marked_now (rows_in slots a.nodes) marks i (f (get_or (rows_in slots a.nodes) i [])) b.nodes t are.marked (row-within (rows_in slots a.nodes) i some) some (h.pairs ∙ ap f row.is))
 
-  rows_none : (nodes : List (Node (K × X))) (n : ℕ) → rows_in (replicate n Empty) nodes ≡ replicate n []
-  rows_none nodes zero = refl
-  rows_none nodes (suc n) = ap (λ R. [] ∷ R) (rows_none nodes n)
+  free_row : (cs : List (Node (K × X))) (s : Node (K × X)) → freed s ≡ s → row_in cs s ≡ []
+  free_row cs (Free n) free = refl
+  free_row cs (Held n p) free = absurd cc
 
-  all_empty : (n i : ℕ) → get_or {A = Slot (K × X)} (replicate n Empty) i Empty ≡ Empty
-  all_empty zero i = refl
-  all_empty (suc n) zero = refl
-  all_empty (suc n) (suc i) = all_empty n i
+  free_slot : (cs : List (Node (K × X))) (s : Node (K × X)) → freed s ≡ s → IsSlot cs s
+  free_slot cs (Free n) free = tt
+  free_slot cs (Held n p) free = absurd cc
+
+  all_free : (n : ℕ) → AreFree {P = K × X} (replicate n empty)
+  all_free zero i = refl
+  all_free (suc n) zero = refl
+  all_free (suc n) (suc i) = all_free n i
 
   no_rows : (n i : ℕ) → get_or {A = List (K × X)} (replicate n []) i [] ≡ []
   no_rows zero i = refl
@@ -250,16 +255,20 @@ module _ {K X : Type 0} (number : K → ℕ) where
   no_rows (suc n) (suc i) = no_rows n i
 
   -- slots without a pair
-  pub Rows-none : (pool : Pool (K × X)) (C mask : ℕ) → IsCapacity C → pool.held ≡ 0 → mask + 1 ≡ C → HaveRows (replicate C Empty) pool (replicate (64 * ((C + 63) / 64)) false) mask (replicate C [])
-  Rows-none pool C mask capacity held count =
-      let len = length-replicate {A = Slot (K × X)} C Empty in
-      let rows = rows_none pool.nodes C in
+  pub Rows-free : (slots : List (Node (K × X))) (pool : Pool (K × X)) (C mask : ℕ) → AreFree slots → length slots ≡ C → IsCapacity C → pool.held ≡ 0 → mask + 1 ≡ C
+      → HaveRows slots pool (replicate (64 * ((C + 63) / 64)) false) mask (replicate C [])
+  Rows-free slots pool C mask free len capacity held count =
+      let cs = pool.nodes in
+      let long = length-map slots (row_in cs) in
+      let rows : rows_in slots cs ≡ replicate C [] =
+      ext_get_or [] (rows_in slots cs) (replicate C []) (long ∙ len ∙ sym (length-replicate C []))
+      (λ i below. get_or-map (row_in cs) slots i empty [] (omega (arith, long, below)) ∙ free_row cs (get_or slots i empty) (free i) ∙ sym (no_rows C i)) in
       let none = ap further rows ∙ further-none (K × X) C in
       record {
         are = record {
           linked = record {
-            chains = λ i below. subst (λ s. IsSlot pool.nodes s) (sym (all_empty C i)) tt;
-            own = λ i below. subst (λ s. AreHome (λ p. slot_number number p.0 (length (replicate {A = Slot (K × X)} C Empty))) i (row_in pool.nodes s)) (sym (all_empty C i)) tt;
+            chains = λ i below. free_slot cs (get_or slots i empty) (free i);
+            own = λ i below. subst (λ ps. AreHome (λ p. slot_number number p.0 (length slots)) i ps) (sym (free_row cs (get_or slots i empty) (free i))) tt;
             held = none ∙ sym held;
           };
           capacity = rw len capacity;
@@ -269,14 +278,17 @@ module _ {K X : Type 0} (number : K → ℕ) where
         rows = rows;
       }
 
+  pub Rows-none : (pool : Pool (K × X)) (C mask : ℕ) → IsCapacity C → pool.held ≡ 0 → mask + 1 ≡ C → HaveRows (replicate C empty) pool (replicate (64 * ((C + 63) / 64)) false) mask (replicate C [])
+  Rows-none pool C mask capacity held count = Rows-free (replicate C empty) pool C mask (all_free C) (length-replicate C empty) capacity held count
+
   -- the row of a slot that was changed
-  pub Row-here : (slots : List (Slot (K × X))) (b : Pool (K × X)) (i : ℕ) (t : Slot (K × X)) → i < length slots → get_or (rows_in (set slots i t) b.nodes) i [] ≡ row_in b.nodes t
+  pub Row-here : (slots : List (Node (K × X))) (b : Pool (K × X)) (i : ℕ) (t : Node (K × X)) → i < length slots → get_or (rows_in (set slots i t) b.nodes) i [] ≡ row_in b.nodes t
   Row-here slots b i t below =
       let len = length-set slots i t in
-      get_or-map (row_in b.nodes) (set slots i t) i Empty [] (omega (arith, len, below)) ∙ ap (row_in b.nodes) (get_or-set_same slots i t Empty below)
+      get_or-map (row_in b.nodes) (set slots i t) i empty [] (omega (arith, len, below)) ∙ ap (row_in b.nodes) (get_or-set_same slots i t empty below)
 
   -- a slot that held a pair has another row, with a pair
-  pub Row-kept : (slots : List (Slot (K × X))) (a : Pool (K × X)) (marks : List Bool) (mask : ℕ) (i : ℕ) (s : Slot (K × X)) (f : List (K × X) → List (K × X)) (b : Pool (K × X)) (t : Slot (K × X))
+  pub Row-kept : (slots : List (Node (K × X))) (a : Pool (K × X)) (marks : List Bool) (mask : ℕ) (i : ℕ) (s : Node (K × X)) (f : List (K × X) → List (K × X)) (b : Pool (K × X)) (t : Node (K × X))
       → AreRows number slots a marks mask → IsRow slots a (rows_in slots a.nodes) i s → IsSlotSet a s (f (row_in a.nodes s)) b t
       → AreHome (λ p. slot_number number p.0 (length slots)) i (f (row_in a.nodes s)) → 0 < length (get_or (rows_in slots a.nodes) i []) → 0 < length (f (get_or (rows_in slots a.nodes) i []))
       → HaveRows (set slots i t) b marks mask (set (rows_in slots a.nodes) i (f (get_or (rows_in slots a.nodes) i [])))

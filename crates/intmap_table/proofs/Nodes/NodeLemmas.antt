@@ -1,11 +1,15 @@
 -- Single nodes of a list.
-use Rattle.std.proofs.Common.{◌⊎◌, ⊎_elim, ◌≡◌, ◌≢◌, ℕ, ◌<◌, ◌≤◌, cond, List, length, get_or, set, sym, ap, ◌∙◌, arith}
+use Rattle.std.proofs.Common.{◌⊎◌, ⊎_elim, inl, inr, ◌≡◌, ◌≢◌, ℕ, ◌<◌, ◌≤◌, cond, List, length, get_or, set, sym, ap, ◌∙◌, arith}
 use Rattle.std.proofs.lemmas.Bool.{lt-ltb, le-ltb}
+use Rattle.std.proofs.lemmas.Bool.Decides.{eqb_tells}
 use Rattle.std.proofs.lemmas.List.{get_or_past, get_or_read, get_or-set_same, get_or-set_other}
 use Rattle.intmap_table.specs.Tables.Nodes.{Node, Free, Held, node_limit, node_at}
 
 pub below_or_not : (l m : ℕ) → (l < m) ⊎ (m ≤ l)
 below_or_not l m = grind arith
+
+pub same_or_not : (j i : ℕ) → (j ≡ i) ⊎ (j ≢ i)
+same_or_not j i = elim (eqb_tells j i) [ inl h ↦ inl h.1 | inr h ↦ inr h.1 ]
 
 module _ {P : Type 0} where
   -- nothing is held in node m

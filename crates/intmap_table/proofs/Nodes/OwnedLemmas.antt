@@ -5,19 +5,20 @@ use Rattle.std.proofs.lemmas.Bool.{ltb-true}
 use Rattle.std.proofs.lemmas.List.{ext_get_or, get_or_default, get_or_past, get_or-map, length-map, map-set}
 use Rattle.intmap_table.specs.Classes.{slot_number}
 use Rattle.intmap_table.specs.Tables.Bits.{marked, IsWordFrom, IsNextMark}
-use Rattle.intmap_table.specs.Tables.Nodes.{Node, Slot, Empty, Filled, Pool, node_limit, nowhere, chain_of, row_in, rows_in, IsSlot, IsCut, Spares, AreHome}
+use Rattle.intmap_table.specs.Tables.Nodes.{node_limit, nowhere, Node, Free, Held, empty, Pool, chain_of, row_in, rows_in, IsSlot, IsCut, Spares, AreHome}
 use Rattle.intmap_table.specs.Tables.Owned.{pairs_left, AreLeft}
 use Rattle.intmap_table.specs.Tables.Rows.{AreRows}
 use Rattle.intmap_table.specs.Tables.Slots.{joined, IsNextRow}
-use Rattle.intmap_table.proofs.Nodes.LinkedLemmas.{same_or_not, Stays, slot_stays}
+use Rattle.intmap_table.proofs.Nodes.NodeLemmas.{same_or_not}
+use Rattle.intmap_table.proofs.Nodes.LinkedLemmas.{Stays, slot_stays}
 use Rattle.intmap_table.proofs.Nodes.PathLemmas.{Chain-beyond, Chain-none, IsChain-none}
-use Rattle.intmap_table.proofs.Nodes.SlotLemmas.{cut_front}
+use Rattle.intmap_table.proofs.Nodes.ChainLemmas.{Cut-chain}
 use Rattle.intmap_table.proofs.Tables.FilledLemmas.{row-within, joined-passed}
 use Rattle.intmap_table.proofs.Tables.FrontLemmas.{joined-front, rows-before}
 use Rattle.intmap_table.proofs.Tables.MarkedLemmas.{row-none}
 
 -- at first those of all slots are left
-pub Left-start : {K X : Type 0} (number : K → ℕ) (slots : List (Slot (K × X))) (pool : Pool (K × X)) (marks : List Bool) (mask at word : ℕ) → AreRows number slots pool marks mask → IsWordFrom (marked marks) 0 at word
+pub Left-start : {K X : Type 0} (number : K → ℕ) (slots : List (Node (K × X))) (pool : Pool (K × X)) (marks : List Bool) (mask at word : ℕ) → AreRows number slots pool marks mask → IsWordFrom (marked marks) 0 at word
     → AreLeft slots pool.nodes marks nowhere 0 at word
 Left-start number slots pool marks mask at word are left = record {
   home = λ p. slot_number number p.0 (length slots);
@@ -26,7 +27,7 @@ Left-start number slots pool marks mask at word are left = record {
   chain = IsChain-none pool.nodes;
   slot = length slots;
   behind = subst (λ ps. AreHome (λ p. slot_number number p.0 (length slots)) (length slots) ps) (sym (Chain-none pool.nodes)) tt;
-  taken = get_or_past slots (length slots) Empty (omega arith);
+  taken = get_or_past slots (length slots) empty (omega arith);
   passed = λ i below. absurd (omega (arith, below));
   marked_is = λ i le. are.marked.own i;
   left = left;
@@ -34,34 +35,32 @@ Left-start number slots pool marks mask at word are left = record {
 
 module _ {P : Type 0} where
   -- p was the first pair, and the others are left
-  pub record IsTaken (slots : List (Slot P)) (cs : List (Node P)) (marks : List Bool) (link : ℕ) (p : P) (slots' : List (Slot P)) (ds : List (Node P)) (m from at word : ℕ) : Type 0 where
+  pub record IsTaken (slots : List (Node P)) (cs : List (Node P)) (marks : List Bool) (link : ℕ) (p : P) (slots' : List (Node P)) (ds : List (Node P)) (m from at word : ℕ) : Type 0 where
     pub are : AreLeft slots' ds marks m from at word
     pub pairs : pairs_left slots cs link ≡ p ∷ pairs_left slots' ds m
 
   -- a change of nodes that the link leads to is none to the slots
-  slots_stay : (slots : List (Slot P)) (cs ds : List (Node P)) (marks : List Bool) (link from at word : ℕ) → (h : AreLeft slots cs marks link from at word) → Spares cs ds (chain_of cs link)
-      → (j : ℕ) → j < length slots → Stays h.home j cs ds (get_or slots j Empty)
+  slots_stay : (slots : List (Node P)) (cs ds : List (Node P)) (marks : List Bool) (link from at word : ℕ) → (h : AreLeft slots cs marks link from at word) → Spares cs ds (chain_of cs link)
+      → (j : ℕ) → j < length slots → Stays h.home j cs ds (get_or slots j empty)
   slots_stay slots cs ds marks link from at word h spares j below =
       ⊎_elim
-      (λ e. let none : get_or slots j Empty ≡ Empty = ap (λ k. get_or slots k Empty) e ∙ h.taken in
+      (λ e. let none : get_or slots j empty ≡ empty = ap (λ k. get_or slots k empty) e ∙ h.taken in
       record { chain = subst (λ s. IsSlot ds s) (sym none) tt; row = ap (row_in ds) none ∙ sym (ap (row_in cs) none) })
-      (λ apart. slot_stays h.home h.slot j cs ds (chain_of cs link) (get_or slots j Empty) (λ e. apart (sym e)) h.behind spares (h.chains j below) (h.own j below))
+      (λ apart. slot_stays h.home h.slot j cs ds (chain_of cs link) (get_or slots j empty) (λ e. apart (sym e)) h.behind spares (h.chains j below) (h.own j below))
       (same_or_not j h.slot)
 
   -- the first pair is that of the node that the link leads to
-  pub Left-node : (slots : List (Slot P)) (a : Pool P) (marks : List Bool) (link from at word : ℕ) (p : P) (b : Pool P) (m : ℕ) → AreLeft slots a.nodes marks link from at word → IsCut a link 0 p b m
+  pub Left-node : (slots : List (Node P)) (a : Pool P) (marks : List Bool) (link from at word : ℕ) (p : P) (b : Pool P) (m : ℕ) → AreLeft slots a.nodes marks link from at word → IsCut a link 0 p b m
       → IsTaken slots a.nodes marks link p slots b.nodes m from at word
   Left-node slots a marks link from at word p b m h cut =
-      let none = cut_front a link p b m cut in
-      let chain : chain_of a.nodes link ≡ p ∷ cut.behind = cut.pairs ∙ ap (λ xs. xs ++ p ∷ cut.behind) none in
-      let rest : chain_of b.nodes m ≡ cut.behind = cut.chain.pairs ∙ ap (λ xs. xs ++ cut.behind) none in
+      let chain = Cut-chain a link p b m cut in
       let stays = slots_stay slots a.nodes b.nodes marks link from at word h cut.chain.spares in
       let rows : rows_in slots b.nodes ≡ rows_in slots a.nodes =
       ext_get_or [] (rows_in slots b.nodes) (rows_in slots a.nodes) (length-map slots (row_in b.nodes) ∙ sym (length-map slots (row_in a.nodes)))
       (λ j below. let len = length-map slots (row_in b.nodes) in
       let less : j < length slots = omega (arith, len, below) in
-      get_or-map (row_in b.nodes) slots j Empty [] less ∙ (stays j less).row ∙ sym (get_or-map (row_in a.nodes) slots j Empty [] less)) in
-      let own : AreHome h.home h.slot (p ∷ cut.behind) = subst (λ ps. AreHome h.home h.slot ps) chain h.behind in
+      get_or-map (row_in b.nodes) slots j empty [] less ∙ (stays j less).row ∙ sym (get_or-map (row_in a.nodes) slots j empty [] less)) in
+      let own : AreHome h.home h.slot (p ∷ chain_of b.nodes m) = subst (λ ps. AreHome h.home h.slot ps) chain h.behind in
       record {
         are = record {
           home = h.home;
@@ -69,16 +68,16 @@ module _ {P : Type 0} where
           own = λ j below. subst (λ ps. AreHome h.home j ps) (sym (stays j below).row) (h.own j below);
           chain = cut.chain.is;
           slot = h.slot;
-          behind = subst (λ ps. AreHome h.home h.slot ps) (sym rest) own.1;
+          behind = own.1;
           taken = h.taken;
           passed = λ j below. ap (λ R. get_or R j []) rows ∙ h.passed j below;
           marked_is = λ j le. h.marked_is j le ∙ ap (λ (R : List (List P)). nat_lt 0 (length (get_or R j []))) (sym rows);
           left = h.left;
         };
-        pairs = ap (λ ps. ps ++ joined (rows_in slots a.nodes)) chain ∙ ap (λ ps. p ∷ (ps ++ joined (rows_in slots a.nodes))) (sym rest) ∙ ap (λ R. p ∷ (chain_of b.nodes m ++ joined R)) (sym rows);
+        pairs = ap (λ ps. ps ++ joined (rows_in slots a.nodes)) chain ∙ ap (λ R. p ∷ (chain_of b.nodes m ++ joined R)) (sym rows);
       }
 
-  module _ (slots : List (Slot P)) (nodes : List (Node P)) (marks : List Bool) (link from at word : ℕ) (h : AreLeft slots nodes marks link from at word) where
+  module _ (slots : List (Node P)) (nodes : List (Node P)) (marks : List Bool) (link from at word : ℕ) (h : AreLeft slots nodes marks link from at word) where
     -- the next marked slot is the next one that holds a pair
     next_row : (i : ℕ) → IsNextMark marks from i → IsNextRow (rows_in slots nodes) from i
     next_row i next =
@@ -94,41 +93,41 @@ module _ {P : Type 0} where
     slot_below i next = let row = next_row i next in let len = length-map slots (row_in nodes) in omega (arith, row.within, len)
 
     -- it isn't empty
-    pub Left-filled : (i : ℕ) (s : Slot P) → IsNextMark marks from i → s ≡ get_or slots i s → (m : ℕ) × (p : P) × (s ≡ Filled m p)
+    pub Left-filled : (i : ℕ) (s : Node P) → IsNextMark marks from i → s ≡ get_or slots i s → (m : ℕ) × (p : P) × (s ≡ Held m p)
     Left-filled i s next read =
         let below = slot_below i next in
-        let row : get_or (rows_in slots nodes) i [] ≡ row_in nodes s = get_or-map (row_in nodes) slots i Empty [] below ∙ ap (row_in nodes) (sym (get_or_default slots i s Empty below) ∙ sym read) in
+        let row : get_or (rows_in slots nodes) i [] ≡ row_in nodes s = get_or-map (row_in nodes) slots i empty [] below ∙ ap (row_in nodes) (sym (get_or_default slots i s empty below) ∙ sym read) in
         let len = ap length row in let some = (next_row i next).filled in
         filled s (omega (arith, len, some))
       where
-        filled : (t : Slot P) → 0 < length (row_in nodes t) → (m : ℕ) × (p : P) × (t ≡ Filled m p)
-        filled Empty none = absurd (omega (arith, none))
-        filled (Filled m p) some = (m, p, refl)
+        filled : (t : Node P) → 0 < length (row_in nodes t) → (m : ℕ) × (p : P) × (t ≡ Held m p)
+        filled (Free n) none = absurd (omega (arith, none))
+        filled (Held m p) some = (m, p, refl)
 
     -- once the link leads nowhere, the first pair is that of the next marked slot
-    pub Left-slot : (i : ℕ) (s : Slot P) (m : ℕ) (p : P) (at' word' : ℕ) → node_limit ≤ link → IsNextMark marks from i → s ≡ get_or slots i s → s ≡ Filled m p → IsWordFrom (marked marks) (i + 1) at' word'
-        → IsTaken slots nodes marks link p (set slots i Empty) nodes m (i + 1) at' word'
+    pub Left-slot : (i : ℕ) (s : Node P) (m : ℕ) (p : P) (at' word' : ℕ) → node_limit ≤ link → IsNextMark marks from i → s ≡ get_or slots i s → s ≡ Held m p → IsWordFrom (marked marks) (i + 1) at' word'
+        → IsTaken slots nodes marks link p (set slots i empty) nodes m (i + 1) at' word'
     Left-slot i s m p at' word' beyond next read is left =
         let R = rows_in slots nodes in
         let below = slot_below i next in
         let row = next_row i next in
-        let here : get_or slots i Empty ≡ Filled m p = sym (get_or_default slots i s Empty below) ∙ sym read ∙ is in
-        let first : get_or R i [] ≡ p ∷ chain_of nodes m = get_or-map (row_in nodes) slots i Empty [] below ∙ ap (row_in nodes) here in
-        let rows : rows_in (set slots i Empty) nodes ≡ set R i [] = map-set (row_in nodes) slots i Empty in
-        let len = length-set slots i Empty in
+        let here : get_or slots i empty ≡ Held m p = sym (get_or_default slots i s empty below) ∙ sym read ∙ is in
+        let first : get_or R i [] ≡ p ∷ chain_of nodes m = get_or-map (row_in nodes) slots i empty [] below ∙ ap (row_in nodes) here in
+        let rows : rows_in (set slots i empty) nodes ≡ set R i [] = map-set (row_in nodes) slots i empty in
+        let len = length-set slots i empty in
         let own : AreHome h.home i (p ∷ chain_of nodes m) = subst (λ t. AreHome h.home i (row_in nodes t)) here (h.own i below) in
         let front = joined-front R from i row h.passed (p ∷ chain_of nodes m) [] (first ∙ sym (append-nil (p ∷ chain_of nodes m))) in
-        let none : get_or (set slots i Empty) i Empty ≡ Empty = get_or-set_same slots i Empty Empty below in
+        let none : get_or (set slots i empty) i empty ≡ empty = get_or-set_same slots i empty empty below in
         record {
           are = record {
             home = h.home;
             chains = λ j less. ⊎_elim
-                (λ e. subst (λ t. IsSlot nodes t) (sym (ap (λ k. get_or (set slots i Empty) k Empty) e ∙ none)) tt)
-                (λ apart. subst (λ t. IsSlot nodes t) (sym (get_or-set_other slots i j Empty Empty apart)) (h.chains j (omega (arith, less, len))))
+                (λ e. subst (λ t. IsSlot nodes t) (sym (ap (λ k. get_or (set slots i empty) k empty) e ∙ none)) tt)
+                (λ apart. subst (λ t. IsSlot nodes t) (sym (get_or-set_other slots i j empty empty apart)) (h.chains j (omega (arith, less, len))))
                 (same_or_not j i);
             own = λ j less. ⊎_elim
-                (λ e. subst (λ t. AreHome h.home j (row_in nodes t)) (sym (ap (λ k. get_or (set slots i Empty) k Empty) e ∙ none)) tt)
-                (λ apart. subst (λ t. AreHome h.home j (row_in nodes t)) (sym (get_or-set_other slots i j Empty Empty apart)) (h.own j (omega (arith, less, len))))
+                (λ e. subst (λ t. AreHome h.home j (row_in nodes t)) (sym (ap (λ k. get_or (set slots i empty) k empty) e ∙ none)) tt)
+                (λ apart. subst (λ t. AreHome h.home j (row_in nodes t)) (sym (get_or-set_other slots i j empty empty apart)) (h.own j (omega (arith, less, len))))
                 (same_or_not j i);
             chain = subst (λ t. IsSlot nodes t) here (h.chains i below);
             slot = i;

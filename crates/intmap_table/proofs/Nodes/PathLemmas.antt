@@ -1,9 +1,9 @@
 -- Paths through nodes.
 use Rattle.std.proofs.Common.{◌≡◌, ◌≢◌, ℕ, zero, suc, ◌+◌, ◌<◌, ◌≤◌, List, [], ◌∷◌, ◌++◌, length, get_or, set, take, refl, sym, ap, ◌∙◌, subst, arith}
 use Rattle.std.specs.Prelude.{sum_by}
-use Rattle.std.proofs.lemmas.List.{length-append, append_assoc, get_or-take, length-take}
+use Rattle.std.proofs.lemmas.List.{length-append, get_or-take, length-take}
 use Rattle.std.proofs.lemmas.List.Sums.{sum_by-set, sum_by-cons}
-use Rattle.intmap_table.specs.Tables.Nodes.{Node, Free, Held, node_limit, nowhere, node_at, Path, Leads, onward, chain_in, chain_of, IsChain, IsNodeAt, IsLast}
+use Rattle.intmap_table.specs.Tables.Nodes.{Node, Free, Held, node_limit, nowhere, node_at, Path, Leads, onward, chain_in, chain_of, IsChain, IsNodeAt}
 use Rattle.intmap_table.proofs.Nodes.NodeLemmas.{Stop, node_at-below, node_at-beyond, node_at-set_other, held_below, held_limit, stop_beyond}
 
 module _ {P : Type 0} where
@@ -28,6 +28,17 @@ module _ {P : Type 0} where
   pub Path-append : (cs : List (Node P)) (l : ℕ) (ps : List P) (m : ℕ) (qs : List P) (k : ℕ) → Path cs l ps m → Path cs m qs k → Path cs l (ps ++ qs) k
   Path-append cs l [] m qs k a b = subst (λ n. Path cs n qs k) (sym a) b
   Path-append cs l (p ∷ ps) m qs k a b = (a.0, a.1, Path-append cs a.0 ps m qs k a.2 b)
+
+  -- a shorter path is a part of a longer one
+  pub Path-between : (cs : List (Node P)) (l : ℕ) (xs : List P) (c : ℕ) (ys : List P) (d : ℕ) → Path cs l xs c → Path cs l ys d → length xs ≤ length ys → (zs : List P) × Path cs c zs d × (length xs + length zs ≡ length ys)
+  Path-between cs l [] c ys d a b short = (ys, subst (λ k. Path cs k ys d) a b, omega arith)
+  Path-between cs l (x ∷ xs) c [] d a b short = absurd (omega (arith, short))
+  Path-between cs l (x ∷ xs) c (y ∷ ys) d a b short =
+      let same : Held a.0 x ≡ Held b.0 y = sym a.1 ∙ b.1 in
+      let link : b.0 ≡ a.0 = cc in
+      let rest = Path-between cs a.0 xs c ys d a.2 (subst (λ k. Path cs k ys d) link b.2) (omega (arith, short)) in
+      let len = rest.2 in
+      (rest.0, rest.1, omega (arith, len))
 
   -- nodes that held a pair are as they were, but for node c
   abbrev pub SameBut : List (Node P) → List (Node P) → ℕ → Type 0
@@ -133,9 +144,6 @@ module _ {P : Type 0} where
   pub IsChain-leads : (cs : List (Node P)) (l : ℕ) (ps : List P) → Leads cs l ps → IsChain cs l
   IsChain-leads cs l ps leads = subst (λ qs. Leads cs l qs) (sym (chain_is cs l ps leads)) leads
 
-  pub chain-limit : (cs : List (Node P)) (l : ℕ) → IsChain cs l → length (chain_of cs l) ≤ node_limit
-  chain-limit cs l is = Leads-limit cs l (chain_of cs l) is
-
   -- what a held node leads to
   pub record IsNext (cs : List (Node P)) (l n : ℕ) (p : P) : Type 0 where
     pub pairs : chain_of cs l ≡ p ∷ chain_of cs n
@@ -195,20 +203,34 @@ module _ {P : Type 0} where
   pub IsChain-none : (cs : List (Node P)) → IsChain cs nowhere
   IsChain-none cs = IsChain-leads cs nowhere [] refl
 
+  -- a node that a path leads to, and that leads through pairs and then nowhere
+  pub NodeAt-path : (cs : List (Node P)) (from : ℕ) (ps : List P) (c i : ℕ) → Path cs from ps c → IsChain cs c → length ps ≡ i → IsNodeAt cs from i c
+  NodeAt-path cs from ps c i path is len =
+      record { before = ps; pairs = chain_is cs from (ps ++ chain_of cs c) (Path-append cs from ps c (chain_of cs c) nowhere path is); len = len; path = path; is = is }
+
+  pub NodeAt-leads : (cs : List (Node P)) (l i c : ℕ) (ps qs : List P) → length ps ≡ i → Path cs l ps c → Leads cs c qs → IsNodeAt cs l i c
+  NodeAt-leads cs l i c ps qs len path leads = NodeAt-path cs l ps c i path (IsChain-leads cs c qs leads) len
+
+  -- nodes that are reached from one of the chain are of the chain, if each step leads to one
+  pub NodeAt-within : (cs ds : List (Node P)) (l : ℕ) → ((c n : ℕ) (p : P) → (j : ℕ) × IsNodeAt cs l j c → node_at ds c ≡ Held n p → (j : ℕ) × IsNodeAt cs l j n)
+      → (m : ℕ) → (j : ℕ) × IsNodeAt cs l j m → (i c : ℕ) → IsNodeAt ds m i c → (j : ℕ) × IsNodeAt cs l j c
+  NodeAt-within cs ds l step m first i c r = along m r.before first r.path
+    where
+      along : (k : ℕ) (ps : List P) → (j : ℕ) × IsNodeAt cs l j k → Path ds k ps c → (j : ℕ) × IsNodeAt cs l j c
+      along k [] at path = subst (λ n. (j : ℕ) × IsNodeAt cs l j n) path at
+      along k (p ∷ ps) at path = along path.0 ps (step k path.0 p at path.1) path.2
+
   pub NodeAt-start : (cs : List (Node P)) (l : ℕ) → IsChain cs l → IsNodeAt cs l 0 l
-  NodeAt-start cs l is = record { before = []; pairs = refl; len = refl; path = refl; is = is }
+  NodeAt-start cs l is = NodeAt-path cs l [] l 0 refl is refl
+
+  -- a node that is reached from one that is reached
+  pub NodeAt-on : (cs : List (Node P)) (from i l j c : ℕ) → IsNodeAt cs from i l → IsNodeAt cs l j c → IsNodeAt cs from (i + j) c
+  NodeAt-on cs from i l j c r s =
+      let sum = length-append r.before s.before in
+      NodeAt-path cs from (r.before ++ s.before) c (i + j) (Path-append cs from r.before l s.before c r.path s.path) s.is (omega (arith, sum, r.len, s.len))
 
   pub NodeAt-next : (cs : List (Node P)) (from i l n : ℕ) (p : P) → IsNodeAt cs from i l → node_at cs l ≡ Held n p → IsNodeAt cs from (i + 1) n
-  NodeAt-next cs from i l n p r is =
-      let next = Chain-next cs l n p r.is is in
-      let sum = length-append r.before (p ∷ []) in
-      record {
-        before = r.before ++ p ∷ [];
-        pairs = r.pairs ∙ ap (λ ps. r.before ++ ps) next.pairs ∙ sym (append_assoc r.before (p ∷ []) (chain_of cs n));
-        len = omega (arith, sum, r.len);
-        path = Path-append cs from r.before l (p ∷ []) n r.path (n, is, refl);
-        is = next.is;
-      }
+  NodeAt-next cs from i l n p r is = NodeAt-on cs from i l 1 n r (NodeAt-path cs l (p ∷ []) n 1 (n, is, refl) (Chain-next cs l n p r.is is).is refl)
 
   pub NodeAt-len : (cs : List (Node P)) (from i l : ℕ) → IsNodeAt cs from i l → length (chain_of cs from) ≡ i + length (chain_of cs l)
   NodeAt-len cs from i l r =
@@ -220,38 +242,12 @@ module _ {P : Type 0} where
   pub NodeAt-some : (cs : List (Node P)) (from i l : ℕ) → IsNodeAt cs from i l → i < length (chain_of cs from) → (n : ℕ) × (p : P) × (node_at cs l ≡ Held n p)
   NodeAt-some cs from i l r less = let all = NodeAt-len cs from i l r in Chain-first cs l r.is (omega (arith, all, less))
 
-  -- behind a node that is reached and has a link below the limit, another one is held
-  pub NodeAt-behind : (cs : List (Node P)) (from i l n : ℕ) (p : P) → IsNodeAt cs from i l → node_at cs l ≡ Held n p → n < node_limit → (m : ℕ) × (q : P) × (node_at cs n ≡ Held m q)
-  NodeAt-behind cs from i l n p r is below =
-      let next = Chain-next cs l n p r.is is in
-      Chain-first cs n next.is (Chain-some cs n next.is below)
-
-  -- the chain from a link ends behind a node whose link isn't below the limit
-  pub NodeAt-last : (cs : List (Node P)) (from i l n : ℕ) (p : P) → IsNodeAt cs from i l → node_at cs l ≡ Held n p → node_limit ≤ n → IsLast cs from i l
-  NodeAt-last cs from i l n p r is beyond =
-      let next = Chain-next cs l n p r.is is in
-      let none = Chain-beyond cs n next.is beyond in
-      record {
-        before = r.before;
-        pair = p;
-        pairs = r.pairs ∙ ap (λ ps. r.before ++ ps) (next.pairs ∙ ap (λ ps. p ∷ ps) none);
-        len = r.len;
-        path = r.path;
-        is = is ∙ ap (λ m. Held m p) (Chain-nowhere cs n next.is none);
-      }
-
-  pub NodeAt-limit : (cs : List (Node P)) (from i l n : ℕ) (p : P) → IsNodeAt cs from i l → IsChain cs from → node_at cs l ≡ Held n p → i < node_limit
-  NodeAt-limit cs from i l n p r is at =
-      let all = NodeAt-len cs from i l r in
-      let next = ap length (Chain-next cs l n p r.is at).pairs in
-      let limit = chain-limit cs from is in
-      omega (arith, all, next, limit)
-
-  pub NodeAt-smaller : (cs : List (Node P)) (from i l n m : ℕ) (p q : P) → IsNodeAt cs from i l → node_at cs l ≡ Held n p → node_at cs n ≡ Held m q → length (chain_of cs m) < length (chain_of cs n)
-  NodeAt-smaller cs from i l n m p q r is at =
-      let next = Chain-next cs l n p r.is is in
-      let e = ap length (Chain-next cs n m q next.is at).pairs in
-      omega (arith, e)
+  -- no place is beyond the limit
+  pub NodeAt-limit : (cs : List (Node P)) (from i l : ℕ) → IsNodeAt cs from i l → i ≤ node_limit
+  NodeAt-limit cs from i l r =
+      let limit = Leads-limit cs from (r.before ++ chain_of cs l) (Path-append cs from r.before l (chain_of cs l) nowhere r.path r.is) in
+      let sum = length-append r.before (chain_of cs l) in
+      omega (arith, limit, sum, r.len)
 
   -- it is as long as the last node's place tells
   pub NodeAt-ends : (cs : List (Node P)) (from i l n : ℕ) (p : P) → IsNodeAt cs from i l → node_at cs l ≡ Held n p → node_limit ≤ n → length (chain_of cs from) ≡ i + 1
@@ -261,10 +257,3 @@ module _ {P : Type 0} where
       let all = NodeAt-len cs from i l r in
       let e = ap length next.pairs in
       omega (arith, none, all, e)
-
-  -- where more pairs are left behind a node, the next one is held
-  pub NodeAt-more : (cs : List (Node P)) (from i l n : ℕ) (p : P) → IsNodeAt cs from i l → node_at cs l ≡ Held n p → i + 1 < length (chain_of cs from) → (m : ℕ) × (q : P) × (node_at cs n ≡ Held m q)
-  NodeAt-more cs from i l n p r is more = NodeAt-some cs from (i + 1) n (NodeAt-next cs from i l n p r is) more
-
-  pub Last-len : (cs : List (Node P)) (from i l : ℕ) → IsLast cs from i l → length (chain_of cs from) ≡ i + 1
-  Last-len cs from i l last = let e = ap length last.pairs ∙ length-append last.before (last.pair ∷ []) in let n = last.len in omega (arith, e, n)

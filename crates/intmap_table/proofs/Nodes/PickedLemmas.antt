@@ -4,12 +4,13 @@ use Rattle.std.specs.List.Retain.{ExtractsNext}
 use Rattle.std.proofs.Math.Seq.{drop-append_seam, take-append_seam}
 use Rattle.intmap_table.specs.Picking.{ExtractsBehind}
 use Rattle.intmap_table.specs.Taking.{TakesEach}
-use Rattle.intmap_table.specs.Tables.Nodes.{Held, Slot, Filled, Pool, node_limit, node_at, chain_of, row_in, IsChanged, IsSlotSet}
-use Rattle.intmap_table.specs.Tables.Walked.{IsStarted, IsUnlinked, AreWalked}
+use Rattle.intmap_table.specs.Tables.Nodes.{node_limit, Node, Held, Pool, node_at, chain_of, row_in, IsChanged, IsSlotSet}
+use Rattle.intmap_table.specs.Tables.Walked.{IsUnlinked}
+use Rattle.intmap_table.specs.Tables.Behind.{IsBehind, IsBehindFirst}
 use Rattle.intmap_table.proofs.ExtractLemmas.{ExtractsNext-front}
-use Rattle.intmap_table.proofs.Nodes.AlongLemmas.{IsAlong, Along-start, Along-asks, Along-walked, Along-changed, Along-cut, Along-end, set, Walked-slot}
+use Rattle.intmap_table.proofs.Nodes.AlongLemmas.{IsAlong, Along-start, Along-asks, Along-behind, Along-changed, Along-cut, Along-end, set, Walked-slot}
 use Rattle.intmap_table.proofs.Nodes.NodeLemmas.{Stop}
-use Rattle.intmap_table.proofs.Nodes.WalkedLemmas.{Walked-few, Walked-keep}
+use Rattle.intmap_table.proofs.Nodes.WalkedLemmas.{Walked-few, Walked-from, Walked-keep}
 
 module _ {P : Type 0} where
   -- what is behind the first pair
@@ -57,27 +58,28 @@ module _ {P F : Type 0} (R : F → P → Bool → F → P → Type 0) (Q : F →
 
   module _ (a : Pool P) (l : ℕ) (first : P) (f₀ : F) (from : ℕ) where
     -- the closure was asked about the pairs before node `at`, from a place on, and picked none; and it may be asked about each that is left
-    pub record IsPicked (f : F) (place : ℕ) (b : Pool P) (t : Slot P) (before at : ℕ) : Type 0 where
+    pub record IsPicked (f : F) (place : ℕ) (b : Pool P) (t : Node P) (before at : ℕ) : Type 0 where
       pub along : IsAlong Asks Q Declines a l first f₀ (take (from - 1) (chain_of a.nodes l)) (drop (from - 1) (chain_of a.nodes l)) f b t before at
       pub count : place ≡ length (take (from - 1) (chain_of a.nodes l) ++ along.done) + 1
       pub on : from ≤ place
 
     -- it was asked about none yet
-    pub Picked-start : (s : Slot P) (before at : ℕ) → s ≡ Filled l first → 0 < from → IsStarted a l (from - 1) before at → TakesEach Asks Q f₀ (drop from (row_in a.nodes s)) → IsPicked f₀ from a s before at
+    pub Picked-start : (s : Node P) (before at : ℕ) → s ≡ Held l first → 0 < from → IsBehind a.nodes l (from - 1) before at → TakesEach Asks Q f₀ (drop from (row_in a.nodes s)) → IsPicked f₀ from a s before at
     Picked-start s before at slot some start callable =
         let L = chain_of a.nodes l in
-        let len = start.len in
-        let left : drop (from - 1) L ≡ start.left = ap (drop (from - 1)) start.is ∙ ap (λ k. drop k (start.passed ++ start.left)) (sym len) ∙ drop-append_seam start.passed start.left in
-        let passed : take (from - 1) L ≡ start.passed = ap (take (from - 1)) start.is ∙ ap (λ k. take k (start.passed ++ start.left)) (sym len) ∙ take-append_seam start.passed start.left in
+        let r = start.reached in
+        let len = r.len in
+        let left : drop (from - 1) L ≡ chain_of a.nodes at = ap (drop (from - 1)) r.pairs ∙ ap (λ k. drop k (r.before ++ chain_of a.nodes at)) (sym len) ∙ drop-append_seam r.before (chain_of a.nodes at) in
+        let passed : take (from - 1) L ≡ r.before = ap (take (from - 1)) r.pairs ∙ ap (λ k. take k (r.before ++ chain_of a.nodes at)) (sym len) ∙ take-append_seam r.before (chain_of a.nodes at) in
         let count = ap length (append-nil (take (from - 1) L) ∙ passed) in
         record {
-          along = Along-start Asks Q Declines a l first f₀ (take (from - 1) L) (drop (from - 1) L) s before at (rw (passed, left) (start.walked first s slot))
+          along = Along-start Asks Q Declines a l first f₀ (take (from - 1) L) (drop (from - 1) L) s before at (rw (passed, left) (Walked-from a l (from - 1) before at start first s slot))
               (subst (TakesEach Asks Q f₀) (ap (λ u. drop from (row_in a.nodes u)) slot ∙ drop-first first L from some) callable) (refl, refl, refl, refl);
           count = omega (arith, count, len, some);
           on = omega arith;
         }
 
-    module _ (f : F) (place : ℕ) (b : Pool P) (t : Slot P) (before at : ℕ) (r : IsPicked f place b t before at) where
+    module _ (f : F) (place : ℕ) (b : Pool P) (t : Node P) (before at : ℕ) (r : IsPicked f place b t before at) where
       abbrev front : List P
       front = take (from - 1) (chain_of a.nodes l)
 
@@ -85,7 +87,7 @@ module _ {P F : Type 0} (R : F → P → Bool → F → P → Type 0) (Q : F →
       todo = drop (from - 1) (chain_of a.nodes l)
 
       -- a step that ends at the place
-      ends : (o : Option P) (h : F) (rest : List P) → 0 < from → (s : Slot P) → s ≡ Filled l first → ExtractsNext R f₀ (r.along.gone ++ r.along.left) o h (r.along.done ++ []) rest
+      ends : (o : Option P) (h : F) (rest : List P) → 0 < from → (s : Node P) → s ≡ Held l first → ExtractsNext R f₀ (r.along.gone ++ r.along.left) o h (r.along.done ++ []) rest
           → ExtractsBehind R f₀ (row_in a.nodes s) from o h (first ∷ ((front ++ r.along.done) ++ rest)) place × (place ≤ length (first ∷ ((front ++ r.along.done) ++ rest)))
       ends o h rest some s slot step =
           let count = r.count in
@@ -107,7 +109,7 @@ module _ {P F : Type 0} (R : F → P → Bool → F → P → Type 0) (Q : F →
         -- the place is within the number of nodes
         pub Picked-few : place ≤ node_limit
         Picked-few =
-            let on = Walked-keep a l first b t (front ++ r.along.done) r.along.left before at n p r.along.walked is in
+            let on = Walked-keep a l first b t (front ++ r.along.done) r.along.left before at r.along.walked n p is in
             let few = Walked-few a l first b t (front ++ r.along.done) r.along.left before at r.along.walked in
             let len = ap length on.1 in
             omega (arith, few, len, r.count)
@@ -115,8 +117,8 @@ module _ {P F : Type 0} (R : F → P → Bool → F → P → Type 0) (Q : F →
         -- it was asked about, and left as q
         module _ (q : P) (d : Pool P) (h : F) (changed : IsChanged b at n q d) where
           -- so the pair can be unlinked
-          pub Picked-walked : AreWalked d t before at
-          Picked-walked = Along-walked Asks Q Declines a l first f₀ front todo f b t before at r.along n p is q d changed
+          pub Picked-behind : IsBehindFirst d.nodes t before at
+          Picked-behind = Along-behind Asks Q Declines a l first f₀ front todo f b t before at r.along n p is q d changed
 
           -- it isn't picked
           pub Picked-stays : R f p false h q → IsPicked h (place + 1) d t at n × length (chain_of d.nodes n) < length (chain_of b.nodes at)
@@ -126,21 +128,21 @@ module _ {P F : Type 0} (R : F → P → Bool → F → P → Type 0) (Q : F →
               (record { along = on.0; count = omega (arith, sum, r.count); on = (let on = r.on in omega (arith, on)) }, on.1)
 
           -- it is picked, and removed
-          pub Picked-goes : R f p true h q → (x : P) (e : Pool P) (u : Slot P) → IsUnlinked d t before at n x e u → 0 < from → (s : Slot P) → s ≡ Filled l first
-              → (row : List P) × ((y : P) → IsSlotSet a (Filled l y) row e u) × ExtractsBehind R f₀ (row_in a.nodes s) from (Some x) h row place × (place ≤ length row)
+          pub Picked-goes : R f p true h q → (x : P) (e : Pool P) (u : Node P) → IsUnlinked d t before at x e u → 0 < from → (s : Node P) → s ≡ Held l first
+              → (row : List P) × ((y : P) → IsSlotSet a (Held l y) row e u) × ExtractsBehind R f₀ (row_in a.nodes s) from (Some x) h row place × (place ≤ length row)
           Picked-goes call x e u out some s slot =
               let left = set Asks Q Declines a l first f₀ front todo f b t before at r.along n p is q d changed in
               let cut = Along-cut Asks Q Declines a l first f₀ front todo f b t before at r.along n p is q d changed x e u out in
               let here : ExtractsNext R f (p ∷ left.0) (Some x) h [] left.0 = (true, h, q, call, (ap Some cut.0, refl, refl, refl)) in
               let step = ExtractsNext-front R r.along.left (Some x) h [] left.0 f₀ f r.along.gone r.along.done [] None r.along.went (subst (λ Z. ExtractsNext R f Z (Some x) h [] left.0) (sym left.1) here) in
               let end = ends (Some x) h left.0 some s slot step in
-              (first ∷ ((front ++ r.along.done) ++ left.0), (λ y. Walked-slot a l first e u (front ++ r.along.done) left.0 before n cut.1 (Filled l y) y refl), end.0, end.1)
+              (first ∷ ((front ++ r.along.done) ++ left.0), (λ y. Walked-slot a l first e u (front ++ r.along.done) left.0 before n cut.1 (Held l y) y refl), end.0, end.1)
 
       -- none is left
-      pub Picked-end : Stop b.nodes at → 0 < from → (s : Slot P) → s ≡ Filled l first
-          → (row : List P) × ((y : P) → IsSlotSet a (Filled l y) row b t) × ExtractsBehind R f₀ (row_in a.nodes s) from None f row place × (place ≤ length row)
+      pub Picked-end : Stop b.nodes at → 0 < from → (s : Node P) → s ≡ Held l first
+          → (row : List P) × ((y : P) → IsSlotSet a (Held l y) row b t) × ExtractsBehind R f₀ (row_in a.nodes s) from None f row place × (place ≤ length row)
       Picked-end stop some s slot =
-          let done = λ (y : P). Along-end Asks Q Declines a l first f₀ front todo f b t before at r.along stop (Filled l y) y refl in
+          let done = λ (y : P). Along-end Asks Q Declines a l first f₀ front todo f b t before at r.along stop (Held l y) y refl in
           let step = subst (λ ks. ExtractsNext R f₀ (r.along.gone ++ r.along.left) None f ks []) (sym (append-nil r.along.done)) (subst (λ Z. Declines f₀ Z r.along.done f) r.along.split (done first).1) in
           let end = ends None f [] some s slot step in
-          (first ∷ ((front ++ r.along.done) ++ []), (λ y. subst (λ ps. IsSlotSet a (Filled l y) (first ∷ ps) b t) (sym (append-nil (front ++ r.along.done))) (done y).0), end.0, end.1)
+          (first ∷ ((front ++ r.along.done) ++ []), (λ y. subst (λ ps. IsSlotSet a (Held l y) (first ∷ ps) b t) (sym (append-nil (front ++ r.along.done))) (done y).0), end.0, end.1)

@@ -1,11 +1,11 @@
 -- A key that is put into the row of a slot.
-use Rattle.std.proofs.Common.{◌≡◌, ℕ, ◌<◌, Bool, true, false, List, [], ◌∷◌, ◌++◌, length, get_or, set, Some, None, refl, sym, ap, ◌∙◌, subst, arith}
+use Rattle.std.proofs.Common.{◌≡◌, ℕ, ◌<◌, Bool, true, false, List, [], ◌∷◌, ◌++◌, length, get_or, set, take, Some, None, refl, sym, ap, ◌∙◌, subst, arith}
 use Rattle.std.specs.Prelude.{cond, All, position, swap_remove}
 use Rattle.std.proofs.lemmas.List.{length-append, length-map, set-get_or}
 use Rattle.std.proofs.lemmas.List.Elements.{All-nil, All-cons, All-head, All-tail}
 use Rattle.intmap_table.specs.Bindings.{swap_out, value_of}
 use Rattle.intmap_table.specs.Classes.{same_key, slot_number}
-use Rattle.intmap_table.specs.Tables.Nodes.{Slot, Empty, Pool, Filled, nowhere, chain_of, row_in, rows_in, IsChainSet, IsSlotSet, AreHome}
+use Rattle.intmap_table.specs.Tables.Nodes.{nowhere, Node, Free, Held, Pool, chain_of, row_in, rows_in, IsChainSet, IsSlotSet, AreHome}
 use Rattle.intmap_table.specs.Tables.Putting.{put_last}
 use Rattle.intmap_table.specs.Tables.Rows.{Contents, AreRows}
 use Rattle.intmap_table.proofs.DistinctLemmas.{All-swap_out}
@@ -15,13 +15,13 @@ use Rattle.intmap_table.proofs.Nodes.SlotLemmas.{Slot-first, Slot-put}
 
 module _ {P : Type 0} where
   -- the first pair of a slot that holds none
-  pub Slot-fill : (a : Pool P) (s t : Slot P) (p : P) → row_in a.nodes s ≡ [] → t ≡ Filled nowhere p → IsSlotSet a s (row_in a.nodes s ++ p ∷ []) a t
-  Slot-fill a Empty t p none is = subst (λ u. IsSlotSet a Empty (p ∷ []) a u) (sym is) (Slot-put a p)
-  Slot-fill a (Filled l q) t p none is = absurd (let some = ap length none in omega (arith, some))
+  pub Slot-fill : (a : Pool P) (s t : Node P) (p : P) → row_in a.nodes s ≡ [] → t ≡ Held nowhere p → IsSlotSet a s (row_in a.nodes s ++ p ∷ []) a t
+  Slot-fill a (Free n) t p none is = subst (λ u. IsSlotSet a (Free n) (p ∷ []) a u) (sym is) (Slot-put a n p)
+  Slot-fill a (Held l q) t p none is = absurd (let some = ap length none in omega (arith, some))
 
 module _ {K X : Type 0} where
   -- with the slot and the nodes that were there, the slots are seen as they were
-  pub Contents-same : (slots : List (Slot (K × X))) (a : Pool (K × X)) (i : ℕ) (s t : Slot (K × X)) (b : Pool (K × X)) → s ≡ get_or slots i s → t ≡ s → b ≡ a
+  pub Contents-same : (slots : List (Node (K × X))) (a : Pool (K × X)) (i : ℕ) (s t : Node (K × X)) (b : Pool (K × X)) → s ≡ get_or slots i s → t ≡ s → b ≡ a
       → ◌≡◌ {A = Contents K X} (record { rows = rows_in (set slots i t) b.nodes; total = b.total }) (record { rows = rows_in slots a.nodes; total = a.total })
   Contents-same slots a i s t b read slot pool =
       let same : set slots i t ≡ slots = ap (set slots i) (slot ∙ read) ∙ set-get_or slots i s in
@@ -48,43 +48,39 @@ module _ {K X : Type 0} (number : K → ℕ) where
   not_first true x e = absurd (cc)
   not_first false x e = refl
 
-  -- the first pair has another key
-  module _ (p : K × X) (k : K) (other : value_of number (p ∷ []) k ≡ None) where
+  -- the first pair of the slot has another key
+  module _ (a : Pool (K × X)) (s : Node (K × X)) (l : ℕ) (p : K × X) (k : K) (is : s ≡ Held l p) (other : value_of number (take 1 (row_in a.nodes s)) k ≡ None) where
     fails : same_key number k p.0 ≡ false
-    fails = not_first (same_key number k p.0) p.1 other
+    fails = not_first (same_key number k p.0) p.1 (rw is at other)
 
-    pub value_of-behind : (ps : List (K × X)) → value_of number (p ∷ ps) k ≡ value_of number ps k
-    value_of-behind ps = ap (λ b. cond b (Some p.1) (value_of number ps k)) fails
+    value-behind : value_of number (row_in a.nodes s) k ≡ value_of number (chain_of a.nodes l) k
+    value-behind = rw is (ap (λ b. cond b (Some p.1) (value_of number (chain_of a.nodes l) k)) fails)
 
-    pub put_last-behind : (ps : List (K × X)) (v : X) → put_last number (p ∷ ps) k v ≡ p ∷ put_last number ps k v
-    put_last-behind ps v = simp fails refl
+    put-behind : (v : X) → p ∷ put_last number (chain_of a.nodes l) k v ≡ put_last number (row_in a.nodes s) k v
+    put-behind v = rw is (simp fails refl)
 
     -- a pair behind it has the key
-    pub Put-found : (a : Pool (K × X)) (l i : ℕ) (x : K × X) (v : X) (b : Pool (K × X)) → position (λ q. same_key number k q.0) (chain_of a.nodes l) ≡ Some i → x ≡ get_or (chain_of a.nodes l) i x
-        → IsChainSet a l (swap_remove (chain_of a.nodes l) i x ++ (k, v) ∷ []) b l → IsSlotSet a (Filled l p) (put_last number (row_in a.nodes (Filled l p)) k v) b (Filled l p)
-    Put-found a l i x v b at is h =
-        let left = swap_remove-position (λ q. same_key number k q.0) (chain_of a.nodes l) i x at is in
-        let row : p ∷ (swap_remove (chain_of a.nodes l) i x ++ (k, v) ∷ []) ≡ put_last number (p ∷ chain_of a.nodes l) k v =
-        ap (λ ps. p ∷ (ps ++ (k, v) ∷ [])) left ∙ sym (put_last-behind (chain_of a.nodes l) v) in
-        subst (λ ps. IsSlotSet a (Filled l p) ps b (Filled l p)) row (Slot-first a l p p (swap_remove (chain_of a.nodes l) i x ++ (k, v) ∷ []) b l h)
+    module _ (i : ℕ) (x : K × X) (at : position (λ q. same_key number k q.0) (chain_of a.nodes l) ≡ Some i) (here : x ≡ get_or (chain_of a.nodes l) i x) where
+      pub Value-found : value_of number (row_in a.nodes s) k ≡ Some x.1
+      Value-found = value-behind ∙ first_value-position (same_key number k) (chain_of a.nodes l) i x at ∙ ap (λ (q : K × X). Some q.1) (sym here)
 
-    pub Value-found : (chain : List (K × X)) (i : ℕ) (x : K × X) → position (λ q. same_key number k q.0) chain ≡ Some i → x ≡ get_or chain i x → value_of number (p ∷ chain) k ≡ Some x.1
-    Value-found chain i x at is = value_of-behind chain ∙ first_value-position (same_key number k) chain i x at ∙ ap (λ (q : K × X). Some q.1) (sym is)
+      pub Put-found : (v : X) (b : Pool (K × X)) → IsChainSet a l (swap_remove (chain_of a.nodes l) i x ++ (k, v) ∷ []) b l → IsSlotSet a s (put_last number (row_in a.nodes s) k v) b s
+      Put-found v b h =
+          let left = swap_remove-position (λ q. same_key number k q.0) (chain_of a.nodes l) i x at here in
+          subst (λ ps. IsSlotSet a s ps b s) (ap (λ ps. p ∷ (ps ++ (k, v) ∷ [])) left ∙ put-behind v)
+          (subst (λ t. IsSlotSet a t (p ∷ (swap_remove (chain_of a.nodes l) i x ++ (k, v) ∷ [])) b t) (sym is) (Slot-first a l p p (swap_remove (chain_of a.nodes l) i x ++ (k, v) ∷ []) b l h))
 
     -- none has it
-    pub Value-missing : (chain : List (K × X)) → position (λ q. same_key number k q.0) chain ≡ None → value_of number (p ∷ chain) k ≡ None
-    Value-missing chain none = value_of-behind chain ∙ first_value-none (same_key number k) chain none
+    module _ (none : position (λ q. same_key number k q.0) (chain_of a.nodes l) ≡ None) where
+      pub Value-missing : value_of number (row_in a.nodes s) k ≡ None
+      Value-missing = value-behind ∙ first_value-none (same_key number k) (chain_of a.nodes l) none
 
-    pub Put-missing : (chain : List (K × X)) (v : X) → position (λ q. same_key number k q.0) chain ≡ None → (p ∷ chain) ++ (k, v) ∷ [] ≡ put_last number (p ∷ chain) k v
-    Put-missing chain v none = ap (λ ps. p ∷ (ps ++ (k, v) ∷ [])) (sym (swap_out-none (λ q. same_key number k q.0) (λ _. true) chain none)) ∙ sym (put_last-behind chain v)
-
-  -- a key that is present is in a row with a pair
-  pub some-value_of : (row : List (K × X)) (k : K) (v : X) → value_of number row k ≡ Some v → 0 < length row
-  some-value_of [] k v is = absurd (cc)
-  some-value_of (p ∷ row) k v is = omega arith
+      pub Put-missing : (v : X) → row_in a.nodes s ++ (k, v) ∷ [] ≡ put_last number (row_in a.nodes s) k v
+      Put-missing v =
+          ap (λ t. row_in a.nodes t ++ (k, v) ∷ []) is ∙ ap (λ ps. p ∷ (ps ++ (k, v) ∷ [])) (sym (swap_out-none (λ q. same_key number k q.0) (λ _. true) (chain_of a.nodes l) none)) ∙ put-behind v
 
   -- the slots with the row of a slot that a key was put into
-  pub Row-put : (slots : List (Slot (K × X))) (a : Pool (K × X)) (marks : List Bool) (mask : ℕ) (i : ℕ) (s : Slot (K × X)) (k : K) (v : X) (b : Pool (K × X)) (t : Slot (K × X))
+  pub Row-put : (slots : List (Node (K × X))) (a : Pool (K × X)) (marks : List Bool) (mask : ℕ) (i : ℕ) (s : Node (K × X)) (k : K) (v : X) (b : Pool (K × X)) (t : Node (K × X))
       → AreRows number slots a marks mask → IsRow number slots a (rows_in slots a.nodes) i s → IsSlotSet a s (put_last number (row_in a.nodes s) k v) b t
       → slot_number number k (length (rows_in slots a.nodes)) ≡ i → 0 < length (get_or (rows_in slots a.nodes) i [])
       → HaveRows number (set slots i t) b marks mask (set (rows_in slots a.nodes) i (put_last number (get_or (rows_in slots a.nodes) i []) k v))

@@ -2,7 +2,7 @@
 use Rattle.std.proofs.Common.{◌≡◌, ◌<◌, Bool, true, false, List, [], ◌∷◌, ◌++◌, length, refl, sym, ap, ◌∙◌, subst, arith, append-nil}
 use Rattle.std.proofs.lemmas.List.{append_assoc}
 use Rattle.intmap_table.specs.Retaining.{Retains}
-use Rattle.intmap_table.specs.Tables.Nodes.{Slot, Pool, row_in, IsSlot, IsSlotSet, Misses}
+use Rattle.intmap_table.specs.Tables.Nodes.{Node, Pool, row_in, IsSlot, IsSlotSet, Misses}
 use Rattle.intmap_table.proofs.LeadsLemmas.{Leads, Leads-next}
 use Rattle.intmap_table.proofs.RetainLemmas.{Retains-append}
 use Rattle.intmap_table.proofs.Nodes.WalkedLemmas.{misses_right}
@@ -13,11 +13,11 @@ module _ {P : Type 0} where
   smaller_rest xs y ys zs e f = let old = ap length e in let new = ap length f in omega (arith, old, new)
 
   -- the row of a slot that nothing changed
-  pub Slot-same : (a : Pool P) (s : Slot P) → IsSlot a.nodes s → IsSlotSet a s (row_in a.nodes s) a s
+  pub Slot-same : (a : Pool P) (s : Node P) → IsSlot a.nodes s → IsSlotSet a s (row_in a.nodes s) a s
   Slot-same a s is = record { is = is; pairs = refl; spares = λ t misses k n p passes at. at; held = refl }
 
   -- the first pairs of a row were removed, and then the others changed
-  pub Slot-then : (a : Pool P) (s : Slot P) (gone left row : List P) (b : Pool P) (t : Slot P) (c : Pool P) (u : Slot P)
+  pub Slot-then : (a : Pool P) (s : Node P) (gone left row : List P) (b : Pool P) (t : Node P) (c : Pool P) (u : Node P)
       → row_in a.nodes s ≡ gone ++ left → IsSlotSet a s left b t → IsSlotSet b t row c u → IsSlotSet a s row c u
   Slot-then a s gone left row b t c u split one two =
       let len = ap length one.pairs in

@@ -1,38 +1,39 @@
 -- Changes of one slot.
 use Rattle.std.proofs.Common.{◌≡◌, ℕ, zero, suc, ◌+◌, ◌-◌, ◌<◌, ◌≤◌, Bool, List, [], ◌∷◌, ◌++◌, length, get_or, set, take, drop, refl, sym, ap, ◌∙◌, subst, arith}
 use Rattle.std.specs.Prelude.{swap_remove}
-use Rattle.std.proofs.lemmas.List.{length-append, set-append_left, length-set}
+use Rattle.std.proofs.lemmas.List.{length-append, set-append_left, length-set, get_or_default, take_more_set, take_all}
 use Rattle.std.proofs.Math.Seq.{set-append_seam, take-append_seam}
-use Rattle.intmap_table.specs.Tables.Nodes.{Slot, Empty, Filled, Pool, nowhere, node_limit, chain_of, IsChain, Misses, IsChainSet, IsPopped, IsCut, IsLastSet, row_in, IsSlotSet}
+use Rattle.intmap_table.specs.Tables.Nodes.{node_limit, nowhere, Node, Free, Held, empty, Pool, chain_of, IsChain, Misses, IsChainSet, IsCut, row_in, IsSlotSet}
+use Rattle.intmap_table.proofs.Nodes.ChainLemmas.{Cut-chain}
 use Rattle.intmap_table.proofs.Nodes.PathLemmas.{IsChain-none, Chain-none, Chain-beyond}
 
 module _ {P : Type 0} where
   -- what a slot has after its link was changed
-  pub relinked : (s t : Slot P) (l : ℕ) (p : P) (m l0 : ℕ) (p0 : P) → s ≡ Filled l p → s ≡ Filled l0 p0 → t ≡ Filled m p0 → t ≡ Filled m p
+  pub relinked : (s t : Node P) (l : ℕ) (p : P) (m l0 : ℕ) (p0 : P) → s ≡ Held l p → s ≡ Held l0 p0 → t ≡ Held m p0 → t ≡ Held m p
   relinked s t l p m l0 p0 is was now =
-      let both : Filled l p ≡ Filled l0 p0 = sym is ∙ was in
+      let both : Held l p ≡ Held l0 p0 = sym is ∙ was in
       let pair : p0 ≡ p = cc in
-      now ∙ ap (λ q. Filled m q) pair
+      now ∙ ap (λ q. Held m q) pair
 
   -- after its first pair was changed
-  pub first_set : (s t : Slot P) (l : ℕ) (p r q : P) (l0 : ℕ) → s ≡ Filled l p → s ≡ Filled l0 r → t ≡ Filled l0 q → t ≡ Filled l q
+  pub first_set : (s t : Node P) (l : ℕ) (p r q : P) (l0 : ℕ) → s ≡ Held l p → s ≡ Held l0 r → t ≡ Held l0 q → t ≡ Held l q
   first_set s t l p r q l0 is was now =
-      let both : Filled l p ≡ Filled l0 r = sym is ∙ was in
+      let both : Held l p ≡ Held l0 r = sym is ∙ was in
       let link : l0 ≡ l = cc in
-      now ∙ ap (λ m. Filled m q) link
+      now ∙ ap (λ m. Held m q) link
 
   -- and what that pair was
-  pub first_was : (s : Slot P) (l : ℕ) (p r : P) (l0 : ℕ) → s ≡ Filled l p → s ≡ Filled l0 r → r ≡ p
+  pub first_was : (s : Node P) (l : ℕ) (p r : P) (l0 : ℕ) → s ≡ Held l p → s ≡ Held l0 r → r ≡ p
   first_was s l p r l0 is was =
-      let both : Filled l p ≡ Filled l0 r = sym is ∙ was in
+      let both : Held l p ≡ Held l0 r = sym is ∙ was in
       let pair : r ≡ p = cc in
       pair
 
-  pub slot_is : (a : Pool P) (s t : Slot P) (row row' : List P) (b : Pool P) (s' t' : Slot P) → IsSlotSet a s row b t → s' ≡ s → row' ≡ row → t' ≡ t → IsSlotSet a s' row' b t'
+  pub slot_is : (a : Pool P) (s t : Node P) (row row' : List P) (b : Pool P) (s' t' : Node P) → IsSlotSet a s row b t → s' ≡ s → row' ≡ row → t' ≡ t → IsSlotSet a s' row' b t'
   slot_is a s t row row' b s' t' h e f g =
       subst (λ u. IsSlotSet a u row' b t') (sym e) (subst (λ ps. IsSlotSet a s ps b t') (sym f) (subst (λ u. IsSlotSet a s row b u) (sym g) h))
 
-  pub Slot-first : (a : Pool P) (l : ℕ) (p q : P) (ps : List P) (b : Pool P) (m : ℕ) → IsChainSet a l ps b m → IsSlotSet a (Filled l p) (q ∷ ps) b (Filled m q)
+  pub Slot-first : (a : Pool P) (l : ℕ) (p q : P) (ps : List P) (b : Pool P) (m : ℕ) → IsChainSet a l ps b m → IsSlotSet a (Held l p) (q ∷ ps) b (Held m q)
   Slot-first a l p q ps b m h = record {
     is = h.is;
     pairs = ap (λ xs. q ∷ xs) h.pairs;
@@ -40,39 +41,22 @@ module _ {P : Type 0} where
     held = (let e = h.held in omega (arith, e));
   }
 
-  -- the first pair in an empty slot
-  pub Slot-put : (a : Pool P) (p : P) → IsSlotSet a Empty (p ∷ []) a (Filled nowhere p)
-  Slot-put a p = record {
+  -- the first pair in a slot that holds none
+  pub Slot-put : (a : Pool P) (n : ℕ) (p : P) → IsSlotSet a (Free n) (p ∷ []) a (Held nowhere p)
+  Slot-put a n p = record {
     is = IsChain-none a.nodes;
     pairs = ap (λ xs. p ∷ xs) (Chain-none a.nodes);
-    spares = λ t misses k n q passes is. is;
+    spares = λ t misses k m q passes is. is;
     held = omega arith;
   }
 
   -- the only pair of a slot, changed
-  pub Slot-only : (a : Pool P) (l : ℕ) (p q : P) → IsChain a.nodes l → IsSlotSet a (Filled l p) (q ∷ chain_of a.nodes l) a (Filled l q)
+  pub Slot-only : (a : Pool P) (l : ℕ) (p q : P) → IsChain a.nodes l → IsSlotSet a (Held l p) (q ∷ chain_of a.nodes l) a (Held l q)
   Slot-only a l p q is = record { is = is; pairs = refl; spares = λ t misses k n r passes at. at; held = omega arith }
 
   pub misses_left : (t : P → Bool) (xs ys : List P) → Misses t (xs ++ ys) → Misses t xs
   misses_left t [] ys h = tt
   misses_left t (x ∷ xs) ys h = (h.0, misses_left t xs ys h.1)
-
-  -- the last pair went to another place of the chain
-  pub Pop-swap : (a : Pool P) (l i : ℕ) (p : P) (b : Pool P) (m : ℕ) (h : IsPopped a l i p b m) (j : ℕ) (x : P) (d : Pool P) → IsChainSet b m (set (chain_of b.nodes m) j x) d m → IsChainSet a l (set h.left j x) d m
-  Pop-swap a l i p b m h j x d s =
-      let e : set (chain_of b.nodes m) j x ≡ set h.left j x = ap (λ ps. set ps j x) h.chain.pairs in
-      let left = ap length h.chain.pairs in
-      let len = length-set (chain_of b.nodes m) j x in
-      let len' = length-set h.left j x in
-      let one = h.chain.held in let two = s.held in
-      record {
-        is = s.is;
-        pairs = s.pairs ∙ e;
-        spares = λ t misses k n q passes is.
-            let rest : Misses t h.left = misses_left t h.left (p ∷ []) (subst (λ xs. Misses t xs) h.pairs misses) in
-            s.spares t (subst (λ xs. Misses t xs) (sym h.chain.pairs) rest) k n q passes (h.chain.spares t misses k n q passes is);
-        held = omega (arith, left, len, len', one, two);
-      }
 
   pub last_is : (xs : List P) (x d : P) (n : ℕ) → n ≡ length xs → get_or (xs ++ x ∷ []) n d ≡ x
   last_is [] x d n e = ap (λ k. get_or (x ∷ []) k d) e
@@ -93,12 +77,23 @@ module _ {P : Type 0} where
   pub swap_other : (xs : List P) (x d : P) (i : ℕ) → i < length xs → swap_remove (xs ++ x ∷ []) i d ≡ set xs i x
   swap_other xs x d i less = swap_take xs x d i (set xs i x) (set-append_left xs (x ∷ []) i x less) (length-set xs i x)
 
+  -- what these are once the last of them was moved to place i, and q came behind
+  pub swap_push : (xs : List P) (k i : ℕ) (r d q : P) → length xs ≡ k + 1 → r ≡ get_or xs k r → swap_remove xs i d ++ q ∷ [] ≡ set (set xs i r) k q
+  swap_push xs k i r d q len last =
+      let n : length xs - 1 ≡ k = omega (arith, len) in
+      let same = length-set xs i r in
+      let same' = length-set (set xs i r) k q in
+      ap (λ j. take j (set xs i (get_or xs j d)) ++ q ∷ []) n
+      ∙ ap (λ y. take k (set xs i y) ++ q ∷ []) (get_or_default xs k d r (omega (arith, len)) ∙ sym last)
+      ∙ sym (take_more_set (set xs i r) k q (omega (arith, len, same)))
+      ∙ take_all (k + 1) (set (set xs i r) k q) (omega (arith, len, same, same'))
+
   pub get_or-behind : (f : P) (xs : List P) (i : ℕ) (d : P) → 0 < i → get_or (f ∷ xs) i d ≡ get_or xs (i - 1) d
   get_or-behind f xs zero d some = absurd (omega arith)
   get_or-behind f xs (suc n) d some = let e : n ≡ suc n - 1 = omega arith in ap (λ k. get_or xs k d) e
 
   -- the pair at place i was r, and the last one took its place
-  pub Take-only : (a : Pool P) (l : ℕ) (p : P) (i : ℕ) → IsChain a.nodes l → node_limit ≤ l → i < length (row_in a.nodes (Filled l p)) → IsSlotSet a (Filled l p) (swap_remove (row_in a.nodes (Filled l p)) i p) a Empty
+  pub Take-only : (a : Pool P) (l : ℕ) (p : P) (i : ℕ) → IsChain a.nodes l → node_limit ≤ l → i < length (row_in a.nodes (Held l p)) → IsSlotSet a (Held l p) (swap_remove (row_in a.nodes (Held l p)) i p) a empty
   Take-only a l p i is last within =
       let none : chain_of a.nodes l ≡ [] = Chain-beyond a.nodes l is last in
       let len = ap length none in
@@ -108,53 +103,27 @@ module _ {P : Type 0} where
       let gone = ap length left in
       record { is = tt; pairs = sym left; spares = λ t misses k n q passes at. at; held = omega (arith, len, gone) }
 
-  pub row_is : (a : Pool P) (l i : ℕ) (p x : P) (b : Pool P) (m : ℕ) (h : IsPopped a l i x b m) → row_in a.nodes (Filled l p) ≡ (p ∷ h.left) ++ x ∷ []
-  row_is a l i p x b m h = ap (λ ps. p ∷ ps) h.pairs
-
-  pub Take-first : (a : Pool P) (l i : ℕ) (p x : P) (b : Pool P) (m place : ℕ) → IsPopped a l i x b m → place ≡ 0 → IsSlotSet a (Filled l p) (swap_remove (row_in a.nodes (Filled l p)) place p) b (Filled m x)
-  Take-first a l i p x b m place h front =
-      subst (λ ps. IsSlotSet a (Filled l p) ps b (Filled m x))
-      (sym (ap (λ ps. swap_remove ps place p) (row_is a l i p x b m h) ∙ swap_other (p ∷ h.left) x p place (omega arith) ∙ ap (λ k. set (p ∷ h.left) k x) front))
-      (Slot-first a l p x h.left b m h.chain)
-
   -- the first pair was replaced: the last one took its place, and a new one came behind
-  set_row : (a : Pool P) (l i : ℕ) (p r q : P) (b : Pool P) (h : IsLastSet a l i r q b) → row_in a.nodes (Filled l p) ≡ (p ∷ h.before) ++ r ∷ []
-  set_row a l i p r q b h = ap (λ ps. p ∷ ps) h.pairs
-
-  pub Replace-first : (a : Pool P) (l i : ℕ) (p r q : P) (b : Pool P) (place : ℕ) → IsLastSet a l i r q b → place ≡ 0 → IsSlotSet a (Filled l p) (swap_remove (row_in a.nodes (Filled l p)) place p ++ q ∷ []) b (Filled l r)
-  Replace-first a l i p r q b place h front =
-      let left : swap_remove (row_in a.nodes (Filled l p)) place p ≡ r ∷ h.before =
-      ap (λ ps. swap_remove ps place p) (set_row a l i p r q b h) ∙ swap_other (p ∷ h.before) r p place (omega arith) ∙ ap (λ k. set (p ∷ h.before) k r) front in
-      subst (λ ps. IsSlotSet a (Filled l p) ps b (Filled l r)) (sym (ap (λ ps. ps ++ q ∷ []) left)) (Slot-first a l p r (h.before ++ q ∷ []) b l h.chain)
+  pub Replace-first : (a : Pool P) (l k : ℕ) (p r q : P) (b : Pool P) → length (chain_of a.nodes l) ≡ k + 1 → r ≡ get_or (chain_of a.nodes l) k r → IsChainSet a l (set (chain_of a.nodes l) k q) b l
+      → IsSlotSet a (Held l p) (swap_remove (p ∷ chain_of a.nodes l) 0 p ++ q ∷ []) b (Held l r)
+  Replace-first a l k p r q b len last h =
+      subst (λ ps. IsSlotSet a (Held l p) ps b (Held l r)) (sym (swap_push (p ∷ chain_of a.nodes l) (suc k) 0 r p q (omega (arith, len)) last))
+      (Slot-first a l p r (set (chain_of a.nodes l) k q) b l h)
 
   -- the pairs behind the first one of a slot are left: none, or those that another first one is taken out of
-  pub Front-only : (a : Pool P) (l : ℕ) (p : P) → IsChain a.nodes l → node_limit ≤ l → IsSlotSet a (Filled l p) (chain_of a.nodes l) a Empty
+  pub Front-only : (a : Pool P) (l : ℕ) (p : P) → IsChain a.nodes l → node_limit ≤ l → IsSlotSet a (Held l p) (chain_of a.nodes l) a empty
   Front-only a l p is last =
       let none = Chain-beyond a.nodes l is last in
       let len = ap length none in
       record { is = tt; pairs = sym none; spares = λ t misses k n q passes at. at; held = omega (arith, len) }
 
-  pub cut_front : (a : Pool P) (l : ℕ) (q : P) (b : Pool P) (m : ℕ) → (cut : IsCut a l 0 q b m) → cut.before ≡ []
-  cut_front a l q b m cut = nil cut.before cut.len
-    where
-      nil : (ps : List P) → length ps ≡ 0 → ps ≡ []
-      nil [] e = refl
-      nil (p ∷ ps) e = absurd (omega arith)
-
-  pub Front-rest : (a : Pool P) (l : ℕ) (p q : P) (b : Pool P) (m : ℕ) → IsCut a l 0 q b m → IsSlotSet a (Filled l p) (chain_of a.nodes l) b (Filled m q)
+  pub Front-rest : (a : Pool P) (l : ℕ) (p q : P) (b : Pool P) (m : ℕ) → IsCut a l 0 q b m → IsSlotSet a (Held l p) (chain_of a.nodes l) b (Held m q)
   Front-rest a l p q b m cut =
-      let none = cut_front a l q b m cut in
-      let chain : chain_of a.nodes l ≡ q ∷ cut.behind = cut.pairs ∙ ap (λ xs. xs ++ q ∷ cut.behind) none in
-      subst (λ ps. IsSlotSet a (Filled l p) ps b (Filled m q)) (sym chain)
-      (Slot-first a l p q cut.behind b m (subst (λ ps. IsChainSet a l ps b m) (ap (λ xs. xs ++ cut.behind) none) cut.chain))
+      let chain = Cut-chain a l q b m cut in
+      subst (λ ps. IsSlotSet a (Held l p) ps b (Held m q)) (sym chain)
+      (Slot-first a l p q (chain_of b.nodes m) b m (subst (λ ps. IsChainSet a l ps b m) (sym cut.chain.pairs) cut.chain))
 
   -- the pair at place i was r, and those behind it moved up
-  pub Remove-front : (a : Pool P) (s : Slot P) (r : P) (b : Pool P) (t : Slot P) (left : List P) → row_in a.nodes s ≡ r ∷ left → IsSlotSet a s left b t → (i : ℕ) → i ≡ 0
-      → IsSlotSet a s (take i (row_in a.nodes s) ++ drop (i + 1) (row_in a.nodes s)) b t
-  Remove-front a s r b t left pairs h i first =
-      let e : take i (row_in a.nodes s) ++ drop (i + 1) (row_in a.nodes s) ≡ left = ap (λ k. take k (row_in a.nodes s) ++ drop (k + 1) (row_in a.nodes s)) first ∙ ap (λ ps. take 0 ps ++ drop 1 ps) pairs in
-      subst (λ ps. IsSlotSet a s ps b t) (sym e) h
-
   take_drop : (p : P) (xs : List P) (r : P) (ys : List P) (i : ℕ) → 0 < i → length xs ≡ i - 1 → take i (p ∷ (xs ++ r ∷ ys)) ++ drop (i + 1) (p ∷ (xs ++ r ∷ ys)) ≡ p ∷ (xs ++ ys)
   take_drop p xs r ys zero some e = absurd (omega arith)
   take_drop p xs r ys (suc n) some e =
@@ -167,7 +136,7 @@ module _ {P : Type 0} where
       halves [] = refl
       halves (z ∷ zs) = ap (λ ps. z ∷ ps) (halves zs)
 
-  pub Remove-value : (a : Pool P) (l i : ℕ) (p r : P) (b : Pool P) (m : ℕ) → 0 < i → IsCut a l (i - 1) r b m → r ≡ get_or (row_in a.nodes (Filled l p)) i r
+  pub Remove-value : (a : Pool P) (l i : ℕ) (p r : P) (b : Pool P) (m : ℕ) → 0 < i → IsCut a l (i - 1) r b m → r ≡ get_or (row_in a.nodes (Held l p)) i r
   Remove-value a l i p r b m some cut =
       sym (get_or-behind p (chain_of a.nodes l) i r some ∙ ap (λ ps. get_or ps (i - 1) r) cut.pairs ∙ ap (λ k. get_or (cut.before ++ r ∷ cut.behind) k r) (sym cut.len) ∙ seam cut.before r cut.behind)
     where
@@ -176,12 +145,17 @@ module _ {P : Type 0} where
       seam (x ∷ xs) y ys = seam xs y ys
 
   pub Remove-behind : (a : Pool P) (l i : ℕ) (p r : P) (b : Pool P) (m : ℕ) → 0 < i → IsCut a l (i - 1) r b m
-      → IsSlotSet a (Filled l p) (take i (row_in a.nodes (Filled l p)) ++ drop (i + 1) (row_in a.nodes (Filled l p))) b (Filled m p)
+      → IsSlotSet a (Held l p) (take i (row_in a.nodes (Held l p)) ++ drop (i + 1) (row_in a.nodes (Held l p))) b (Held m p)
   Remove-behind a l i p r b m some cut =
-      let e : take i (row_in a.nodes (Filled l p)) ++ drop (i + 1) (row_in a.nodes (Filled l p)) ≡ p ∷ (cut.before ++ cut.behind) =
+      let e : take i (row_in a.nodes (Held l p)) ++ drop (i + 1) (row_in a.nodes (Held l p)) ≡ p ∷ (cut.before ++ cut.behind) =
       ap (λ ps. take i (p ∷ ps) ++ drop (i + 1) (p ∷ ps)) cut.pairs ∙ take_drop p cut.before r cut.behind i some cut.len in
-      subst (λ ps. IsSlotSet a (Filled l p) ps b (Filled m p)) (sym e) (Slot-first a l p p (cut.before ++ cut.behind) b m cut.chain)
+      subst (λ ps. IsSlotSet a (Held l p) ps b (Held m p)) (sym e) (Slot-first a l p p (cut.before ++ cut.behind) b m cut.chain)
+
+  -- a slot without a pair gets what an empty one would
+  pub Slot-free : (a : Pool P) (s : Node P) (row : List P) (b : Pool P) (t : Node P) → row_in a.nodes s ≡ [] → IsSlotSet a empty row b t → IsSlotSet a s row b t
+  Slot-free a (Free n) row b t none h = record { is = h.is; pairs = h.pairs; spares = h.spares; held = h.held }
+  Slot-free a (Held l p) row b t none h = absurd (let some = ap length none in omega (arith, some))
 
   -- an empty slot as it is
-  pub Slot-none : (a : Pool P) → IsSlotSet a Empty [] a Empty
+  pub Slot-none : (a : Pool P) → IsSlotSet a empty [] a empty
   Slot-none a = record { is = tt; pairs = refl; spares = λ t misses k n q passes at. at; held = omega arith }

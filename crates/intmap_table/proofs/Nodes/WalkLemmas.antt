@@ -4,7 +4,7 @@ use Rattle.std.proofs.lemmas.Bool.{ltb-true}
 use Rattle.std.proofs.lemmas.List.{get_or_default, get_or-map, length-map}
 use Rattle.std.proofs.lemmas.List.Elements.{All-head, All-tail}
 use Rattle.intmap_table.specs.Tables.Bits.{marked_indices}
-use Rattle.intmap_table.specs.Tables.Nodes.{Node, Held, Slot, Empty, Filled, Pool, nowhere, node_at, chain_of, row_in, rows_in, IsSlot, IsWalk}
+use Rattle.intmap_table.specs.Tables.Nodes.{nowhere, Node, Free, Held, empty, Pool, node_at, chain_of, row_in, rows_in, IsSlot, IsWalk}
 use Rattle.intmap_table.specs.Tables.Rows.{AreRows}
 use Rattle.intmap_table.specs.Tables.Slots.{joined, pairs_at}
 use Rattle.intmap_table.proofs.Nodes.NodeLemmas.{Stop}
@@ -12,7 +12,7 @@ use Rattle.intmap_table.proofs.Nodes.PathLemmas.{Chain-next, Chain-end, Chain-no
 use Rattle.intmap_table.proofs.Tables.FilledLemmas.{row-within, pairs_at-marked}
 use Rattle.intmap_table.proofs.Tables.MarkedLemmas.{All-marked_indices}
 
-module _ {P : Type 0} (slots : List (Slot P)) (nodes : List (Node P)) where
+module _ {P : Type 0} (slots : List (Node P)) (nodes : List (Node P)) where
   -- the pairs of a walk
   abbrev pub walk : ℕ → List ℕ → List P
   walk l filled = chain_of nodes l ++ pairs_at (rows_in slots nodes) filled
@@ -43,34 +43,34 @@ module _ {P : Type 0} (slots : List (Slot P)) (nodes : List (Node P)) where
       omega (arith, row, len)
 
   -- and its row is this
-  row_of_slot : (l i : ℕ) (filled : List ℕ) (s t : Slot P) → IsWalk slots nodes l (i ∷ filled) → get_or slots i s ≡ t → get_or (rows_in slots nodes) i [] ≡ row_in nodes t
+  row_of_slot : (l i : ℕ) (filled : List ℕ) (s t : Node P) → IsWalk slots nodes l (i ∷ filled) → get_or slots i s ≡ t → get_or (rows_in slots nodes) i [] ≡ row_in nodes t
   row_of_slot l i filled s t w at =
       let within = Walk-within l i filled w in
-      get_or-map (row_in nodes) slots i Empty [] within ∙ ap (row_in nodes) (sym (get_or_default slots i s Empty within) ∙ at)
+      get_or-map (row_in nodes) slots i empty [] within ∙ ap (row_in nodes) (sym (get_or_default slots i s empty within) ∙ at)
 
   -- it isn't empty
-  pub Walk-filled : (l i : ℕ) (filled : List ℕ) (s : Slot P) → IsWalk slots nodes l (i ∷ filled) → get_or slots i s ≡ Empty → ⊥
-  Walk-filled l i filled s w at =
+  pub Walk-filled : (l i : ℕ) (filled : List ℕ) (s : Node P) (n : ℕ) → IsWalk slots nodes l (i ∷ filled) → get_or slots i s ≡ Free n → ⊥
+  Walk-filled l i filled s n w at =
       let some = All-head (λ j. 0 < length (get_or (rows_in slots nodes) j [])) i filled w.some in
-      let none = ap length (row_of_slot l i filled s Empty w at) in
+      let none = ap length (row_of_slot l i filled s (Free n) w at) in
       omega (arith, some, none)
 
   -- and where the link leads nowhere, the next pair is its first one
-  pub Walk-slot : (l i : ℕ) (filled : List ℕ) (s : Slot P) (n : ℕ) (p : P) → IsWalk slots nodes l (i ∷ filled) → Stop nodes l → get_or slots i s ≡ Filled n p → IsStep l (i ∷ filled) p n filled
+  pub Walk-slot : (l i : ℕ) (filled : List ℕ) (s : Node P) (n : ℕ) (p : P) → IsWalk slots nodes l (i ∷ filled) → Stop nodes l → get_or slots i s ≡ Held n p → IsStep l (i ∷ filled) p n filled
   Walk-slot l i filled s n p w stop at =
       let R = rows_in slots nodes in
       let within = Walk-within l i filled w in
-      let here : get_or slots i Empty ≡ Filled n p = sym (get_or_default slots i s Empty within) ∙ at in
+      let here : get_or slots i empty ≡ Held n p = sym (get_or_default slots i s empty within) ∙ at in
       record {
         is = record {
           chain = subst (λ t. IsSlot nodes t) here (w.chains i within);
           chains = w.chains;
           some = All-tail (λ j. 0 < length (get_or R j [])) i filled w.some;
         };
-        pairs = ap (λ ps. ps ++ pairs_at R (i ∷ filled)) (Chain-end nodes l w.chain stop) ∙ ap (λ ps. ps ++ pairs_at R filled) (row_of_slot l i filled s (Filled n p) w at);
+        pairs = ap (λ ps. ps ++ pairs_at R (i ∷ filled)) (Chain-end nodes l w.chain stop) ∙ ap (λ ps. ps ++ pairs_at R filled) (row_of_slot l i filled s (Held n p) w at);
       }
 
-module _ {K X : Type 0} (number : K → ℕ) (slots : List (Slot (K × X))) (pool : Pool (K × X)) (marks : List Bool) (mask : ℕ) (are : AreRows number slots pool marks mask) where
+module _ {K X : Type 0} (number : K → ℕ) (slots : List (Node (K × X))) (pool : Pool (K × X)) (marks : List Bool) (mask : ℕ) (are : AreRows number slots pool marks mask) where
   -- the walk through the marked slots
   pub Walk-start : IsWalk slots pool.nodes nowhere (marked_indices marks)
   Walk-start = record {

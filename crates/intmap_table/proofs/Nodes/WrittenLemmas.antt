@@ -2,7 +2,7 @@
 use Rattle.std.proofs.Common.{◌≡◌, ℕ, zero, suc, ◌+◌, ◌-◌, ◌<◌, ◌≤◌, List, [], ◌∷◌, length, get_or, set, refl, sym, ap, ◌∙◌, subst, arith}
 use Rattle.std.proofs.lemmas.List.{length-set}
 use Rattle.intmap_table.specs.Tables.Slots.{write_at}
-use Rattle.intmap_table.specs.Tables.Nodes.{Node, Free, Held, Slot, Empty, Filled, Pool, node_limit, node_at, chain_of, row_in, node_with, slot_with, write_node, IsNodeAt, IsChanged, IsChainSet, IsSlot, IsSlotSet, AreHome}
+use Rattle.intmap_table.specs.Tables.Nodes.{node_limit, Node, Free, Held, Pool, node_at, chain_of, row_in, node_with, write_node, IsNodeAt, IsChanged, IsChainSet, IsSlot, IsSlotSet, AreHome}
 use Rattle.intmap_table.proofs.Nodes.NodeLemmas.{node_at-below, node_read, held_below, held_limit}
 use Rattle.intmap_table.proofs.Nodes.ChainLemmas.{Set-swap, NodeAt-value}
 use Rattle.intmap_table.proofs.Nodes.SlotLemmas.{Slot-first, Slot-only}
@@ -68,22 +68,22 @@ module _ {K X : Type 0} where
 
   -- the value of a pair behind the first one is written, in a node
   behind : (a : Pool (K × X)) (l j c n : ℕ) (first p : K × X) (v : X) → 0 < j → IsNodeAt a.nodes l (j - 1) c → node_at a.nodes c ≡ Held n p
-      → IsSlotSet a (Filled l first) (write_at (first ∷ chain_of a.nodes l) j v) (record a { nodes = write_node a.nodes c v }) (Filled l first)
+      → IsSlotSet a (Held l first) (write_at (first ∷ chain_of a.nodes l) j v) (record a { nodes = write_node a.nodes c v }) (Held l first)
   behind a l j c n first p v some at held =
       let b : Pool (K × X) = record a { nodes = write_node a.nodes c v } in
-      subst (λ ps. IsSlotSet a (Filled l first) ps b (Filled l first)) (sym (write_at-next first (chain_of a.nodes l) j v some))
+      subst (λ ps. IsSlotSet a (Held l first) ps b (Held l first)) (sym (write_at-next first (chain_of a.nodes l) j v some))
       (Slot-first a l first first (write_at (chain_of a.nodes l) (j - 1) v) b l (Written-chain a l (j - 1) c n p v at held))
 
   -- the same of any slot that has a first pair
-  pub Written-behind : (a : Pool (K × X)) (s : Slot (K × X)) (l j c n : ℕ) (first p : K × X) (v : X) → s ≡ Filled l first → 0 < j → IsNodeAt a.nodes l (j - 1) c → node_at a.nodes c ≡ Held n p
+  pub Written-behind : (a : Pool (K × X)) (s : Node (K × X)) (l j c n : ℕ) (first p : K × X) (v : X) → s ≡ Held l first → 0 < j → IsNodeAt a.nodes l (j - 1) c → node_at a.nodes c ≡ Held n p
       → IsSlotSet a s (write_at (row_in a.nodes s) j v) (record a { nodes = write_node a.nodes c v }) s
   Written-behind a s l j c n first p v is some at held =
       subst (λ t. IsSlotSet a t (write_at (row_in a.nodes t) j v) (record a { nodes = write_node a.nodes c v }) t) (sym is) (behind a l j c n first p v some at held)
 
   -- the value of its first pair is written, in the slot itself
-  pub Written-first : (a : Pool (K × X)) (s : Slot (K × X)) (v : X) → IsSlot a.nodes s → IsSlotSet a s (write_at (row_in a.nodes s) 0 v) a (slot_with s v)
-  Written-first a Empty v is = record { is = tt; pairs = refl; spares = λ t misses k n q passes at. at; held = refl }
-  Written-first a (Filled l p) v is = Slot-only a l p (p.0, v) is
+  pub Written-first : (a : Pool (K × X)) (s : Node (K × X)) (v : X) → IsSlot a.nodes s → IsSlotSet a s (write_at (row_in a.nodes s) 0 v) a (node_with s v)
+  Written-first a (Free n) v is = record { is = tt; pairs = refl; spares = λ t misses k n q passes at. at; held = refl }
+  Written-first a (Held l p) v is = Slot-only a l p (p.0, v) is
 
   -- the pairs are at home in their slot once a value was written, if the keys alone say which slot that is
   pub AreHome-write_at : (home : K × X → ℕ) → ((p : K × X) (v : X) → home (p.0, v) ≡ home p) → (i : ℕ) (ps : List (K × X)) (j : ℕ) (v : X) → AreHome home i ps → AreHome home i (write_at ps j v)

@@ -3,16 +3,16 @@ use Rattle.std.specs.Prelude.{ℕ, cond, nat_lt, List, [], ◌∷◌, ◌++◌, 
 use Rattle.std.specs.List.{range_with_len}
 use Rattle.intmap_table.specs.declared.linked.row.growth.Order.{Order}
 use Rattle.intmap_table.specs.declared.linked.row.growth.Order.TheVariants as orders
-use Rattle.intmap_table.specs.Tables.Nodes.{Slot, Empty}
+use Rattle.intmap_table.specs.Tables.Nodes.{Node, empty, freed}
 use Rattle.intmap_table.specs.Tables.Rows.{put_second}
 
--- slot j for those who see the new nodes alone. The pairs of the slots from slot n up to slot C haven't moved yet, so these count as empty
-abbrev pub moved_slot : {P : Type 0} → ℕ → ℕ → ℕ → Slot P → Slot P
-moved_slot n C j s = cond (nat_lt j n) s (cond (nat_lt j C) Empty s)
+-- slot j for those who see the new nodes alone. The pairs of the slots from slot n up to slot C haven't moved yet, so these count as slots without them
+abbrev pub moved_slot : {P : Type 0} → ℕ → ℕ → ℕ → Node P → Node P
+moved_slot n C j s = cond (nat_lt j n) s (cond (nat_lt j C) (freed s) s)
 
--- the slots, of which those from slot n up to slot C count as empty
-unfoldable pub blank : {P : Type 0} → ℕ → ℕ → List (Slot P) → List (Slot P)
-blank n C slots = map (λ j. moved_slot n C j (get_or slots j Empty)) (range_with_len 0 (length slots))
+-- the slots, of which those from slot n up to slot C count as slots without their pairs
+unfoldable pub blank : {P : Type 0} → ℕ → ℕ → List (Node P) → List (Node P)
+blank n C slots = map (λ j. moved_slot n C j (get_or slots j empty)) (range_with_len 0 (length slots))
 
 -- with a pair before the others, behind the first of them, or last
 abbrev pub put_in : {P : Type 0} → Order → List P → P → List P

@@ -1,9 +1,7 @@
 -- Slots whose further pairs lie in nodes, which links join. No public clause cites this module.
-use Rattle.std.specs.Prelude.{◌≡◌, All, ℕ, zero, suc, ◌+◌, ◌*◌, ◌-◌, ◌<◌, ◌≤◌, nat_lt, cond, Bool, true, false, List, [], ◌∷◌, ◌++◌, length, get_or, set, map, sum_by}
+use Rattle.std.specs.Prelude.{◌≡◌, All, ℕ, zero, suc, ◌+◌, ◌*◌, ◌-◌, ◌<◌, ◌≤◌, nat_lt, cond, Bool, true, false, List, [], ◌∷◌, ◌++◌, length, get_or, set, swap_remove, map, sum_by}
 use Rattle.intmap_table.specs.declared.linked.node.NodeForm.{NodeForm}
 use Rattle.intmap_table.specs.declared.linked.node.NodeForm.TheVariants as node_forms
-use Rattle.intmap_table.specs.declared.linked.slot.SlotForm.{SlotForm}
-use Rattle.intmap_table.specs.declared.linked.slot.SlotForm.TheVariants as slot_forms
 
 -- there are at most so many nodes: 65535 * 2^32
 abbrev pub node_limit : ℕ
@@ -17,15 +15,10 @@ nowhere = 281474976710655
 abbrev pub link_of : ℕ → ℕ → ℕ
 link_of high low = high * 4294967296 + low
 
--- what a node has: the number of the next free node, or a pair and the number of the node behind it
+-- what a node has: the number of the next free node, or a pair and the number of the node behind it. A slot is a node whose free number nobody reads
 pub data Node (P : Type 0) : Type 0 where
   Free : ℕ → Node P
   Held : ℕ → P → Node P
-
--- what a slot has: nothing, or its first pair and the number of the node behind it
-pub data Slot (P : Type 0) : Type 0 where
-  Empty : Slot P
-  Filled : ℕ → P → Slot P
 
 -- the nodes of all slots, how many of them hold a pair, and how many pairs there is memory for in all
 pub record Pool (P : Type 0) : Type 0 where
@@ -39,15 +32,19 @@ module _ {P : Type 0} where
   node_of (node_forms.Free high low) = Free (link_of high low)
   node_of (node_forms.Held high low p) = Held (link_of high low) p
 
-  -- the slot that these parts make
-  abbrev pub slot_of_form : SlotForm P → Slot P
-  slot_of_form slot_forms.Empty = Empty
-  slot_of_form (slot_forms.Filled high low p) = Filled (link_of high low) p
+  -- a slot as it is made, without a pair
+  abbrev pub empty : Node P
+  empty = Free 0
 
-  -- whether a slot holds no pair
-  abbrev pub is_empty : Slot P → Bool
-  is_empty Empty = true
-  is_empty (Filled l p) = false
+  -- the node without its pair. One that holds none is as it was
+  abbrev pub freed : Node P → Node P
+  freed (Free n) = Free n
+  freed (Held n p) = empty
+
+  -- whether a node holds no pair
+  abbrev pub is_empty : Node P → Bool
+  is_empty (Free n) = true
+  is_empty (Held n p) = false
 
   -- the node of this number. A number that no node has counts as that of a free node
   abbrev pub node_at : List (Node P) → ℕ → Node P
@@ -138,58 +135,37 @@ module _ {P : Type 0} where
     pub spares : Spares a.nodes b.nodes (chain_of a.nodes l)
     pub held : b.held + length (chain_of a.nodes l) ≡ a.held + length ps
 
-  -- p was the last pair that link l led through, at place i; link m leads through those before it
-  pub record IsPopped (a : Pool P) (l i : ℕ) (p : P) (b : Pool P) (m : ℕ) : Type 0 where
-    pub left : List P
-    pub pairs : chain_of a.nodes l ≡ left ++ p ∷ []
-    pub len : i ≡ length left
-    pub chain : IsChainSet a l left b m
-    pub total : b.total ≡ a.total
-    pub ready : b.held < b.total
-
-  -- p was the pair at place i of those that link l led through; link m leads through the others
+  -- p was the pair at place i of those that link l led through; link m leads through the others, which are in their nodes still, and no other node was changed
   pub record IsCut (a : Pool P) (l i : ℕ) (p : P) (b : Pool P) (m : ℕ) : Type 0 where
     pub before : List P
     pub behind : List P
     pub pairs : chain_of a.nodes l ≡ before ++ p ∷ behind
     pub len : length before ≡ i
     pub chain : IsChainSet a l (before ++ behind) b m
-    pub total : b.total ≡ a.total
-    pub ready : b.held < b.total
-
-  -- r was the last pair that link l led through, at place i, and p has its place
-  pub record IsLastSet (a : Pool P) (l i : ℕ) (r p : P) (b : Pool P) : Type 0 where
-    pub before : List P
-    pub pairs : chain_of a.nodes l ≡ before ++ r ∷ []
-    pub len : i ≡ length before
-    pub chain : IsChainSet a l (before ++ p ∷ []) b l
-    pub total : b.total ≡ a.total
-
-  -- node c is the last one that link l leads to, at place i
-  pub record IsLast (nodes : List (Node P)) (l i c : ℕ) : Type 0 where
-    pub before : List P
-    pub pair : P
-    pub pairs : chain_of nodes l ≡ before ++ pair ∷ []
-    pub len : length before ≡ i
-    pub path : Path nodes l before c
-    pub is : node_at nodes c ≡ Held nowhere pair
+    pub stays : (j c : ℕ) → j < i → IsNodeAt a.nodes l j c → IsNodeAt b.nodes m j c
+    pub within : (j c : ℕ) → IsNodeAt b.nodes m j c → (k : ℕ) × IsNodeAt a.nodes l k c
+    pub others : (c n : ℕ) (q : P) → ((j : ℕ) → IsNodeAt a.nodes l j c → ⊥) → node_at a.nodes c ≡ Held n q → node_at b.nodes c ≡ Held n q
 
   -- the pairs of a slot
-  abbrev pub row_in : List (Node P) → Slot P → List P
-  row_in nodes Empty = []
-  row_in nodes (Filled l p) = p ∷ chain_of nodes l
+  abbrev pub row_in : List (Node P) → Node P → List P
+  row_in nodes (Free n) = []
+  row_in nodes (Held l p) = p ∷ chain_of nodes l
 
   -- the link of a slot leads through pairs, and then nowhere
-  abbrev pub IsSlot : List (Node P) → Slot P → Type 0
-  IsSlot nodes Empty = Unit {0}
-  IsSlot nodes (Filled l p) = IsChain nodes l
+  abbrev pub IsSlot : List (Node P) → Node P → Type 0
+  IsSlot nodes (Free n) = Unit {0}
+  IsSlot nodes (Held l p) = IsChain nodes l
 
   -- the slot has another row, and other slots have theirs
-  pub record IsSlotSet (a : Pool P) (s : Slot P) (row : List P) (b : Pool P) (t : Slot P) : Type 0 where
+  pub record IsSlotSet (a : Pool P) (s : Node P) (row : List P) (b : Pool P) (t : Node P) : Type 0 where
     pub is : IsSlot b.nodes t
     pub pairs : row_in b.nodes t ≡ row
     pub spares : Spares a.nodes b.nodes (row_in a.nodes s)
     pub held : b.held + (length (row_in a.nodes s) - 1) ≡ a.held + (length row - 1)
+
+  -- r was the pair at a place of the slot, and the last one took its place
+  abbrev pub IsSwapRemoved : Pool P → Node P → ℕ → P → Pool P → Node P → Type 0
+  IsSwapRemoved a s place r b t = (r ≡ get_or (row_in a.nodes s) place r) × IsSlotSet a s (swap_remove (row_in a.nodes s) place r) b t
 
   -- each of these pairs is at home in slot i
   abbrev pub AreHome : (P → ℕ) → ℕ → List P → Type 0
@@ -197,7 +173,7 @@ module _ {P : Type 0} where
   AreHome home i (p ∷ ps) = (home p ≡ i) × AreHome home i ps
 
   -- the pairs of each slot
-  abbrev pub rows_in : List (Slot P) → List (Node P) → List (List P)
+  abbrev pub rows_in : List (Node P) → List (Node P) → List (List P)
   rows_in slots nodes = map (row_in nodes) slots
 
   -- how many pairs are behind the first ones of their rows
@@ -205,15 +181,15 @@ module _ {P : Type 0} where
   further R = sum_by (λ row. length row - 1) R
 
   -- each slot leads through its own pairs, and the nodes hold those behind the first ones
-  pub record AreLinked (home : P → ℕ) (slots : List (Slot P)) (pool : Pool P) : Type 0 where
-    pub chains : (i : ℕ) → i < length slots → IsSlot pool.nodes (get_or slots i Empty)
-    pub own : (i : ℕ) → i < length slots → AreHome home i (row_in pool.nodes (get_or slots i Empty))
+  pub record AreLinked (home : P → ℕ) (slots : List (Node P)) (pool : Pool P) : Type 0 where
+    pub chains : (i : ℕ) → i < length slots → IsSlot pool.nodes (get_or slots i empty)
+    pub own : (i : ℕ) → i < length slots → AreHome home i (row_in pool.nodes (get_or slots i empty))
     pub held : further (rows_in slots pool.nodes) ≡ pool.held
 
   -- a walk: the pairs that a link leads through, and then those of these slots, each of which holds some
-  pub record IsWalk (slots : List (Slot P)) (nodes : List (Node P)) (link : ℕ) (filled : List ℕ) : Type 0 where
+  pub record IsWalk (slots : List (Node P)) (nodes : List (Node P)) (link : ℕ) (filled : List ℕ) : Type 0 where
     pub chain : IsChain nodes link
-    pub chains : (i : ℕ) → i < length slots → IsSlot nodes (get_or slots i Empty)
+    pub chains : (i : ℕ) → i < length slots → IsSlot nodes (get_or slots i empty)
     pub some : All (λ i. 0 < length (get_or (rows_in slots nodes) i [])) filled
 
 module _ {K X : Type 0} where
@@ -221,11 +197,6 @@ module _ {K X : Type 0} where
   abbrev pub node_with : Node (K × X) → X → Node (K × X)
   node_with (Free n) v = Free n
   node_with (Held n p) v = Held n (p.0, v)
-
-  -- the slot with v as the value of its first pair. An empty one is as it was
-  abbrev pub slot_with : Slot (K × X) → X → Slot (K × X)
-  slot_with Empty v = Empty
-  slot_with (Filled n p) v = Filled n (p.0, v)
 
   -- the nodes with v as the value of the pair in node i. A free one is as it was
   abbrev pub write_node : List (Node (K × X)) → ℕ → X → List (Node (K × X))

@@ -5,7 +5,7 @@ use Rattle.intmap_table.specs.Classes.{IsCapacity, slot_number}
 use Rattle.intmap_table.specs.Cloning.{IsPairClone}
 use Rattle.intmap_table.specs.Walk.{slot_of}
 use Rattle.intmap_table.specs.Tables.Bits.{IsWordFrom}
-use Rattle.intmap_table.specs.Tables.Nodes.{Slot, Empty, Pool, nowhere, rows_in, AreLinked, IsChainSet, IsSlotSet}
+use Rattle.intmap_table.specs.Tables.Nodes.{nowhere, Node, empty, Pool, rows_in, AreLinked, IsChainSet, IsSlotSet}
 use Rattle.intmap_table.specs.Tables.Slots.{AreMarked, write_at}
 
 -- the pairs of each slot, and how many pairs behind the first ones there is memory for in all
@@ -56,7 +56,7 @@ module _ {K X : Type 0} (number : K → ℕ) where
     pub rows : (j : ℕ) → j < C → slice_index_or R j [] ≡ slot_of number L C j
 
   -- slots, a power of two of them, in which each pair is at home; the marks of those that hold a pair; and their number less one
-  pub record AreRows (slots : List (Slot (K × X))) (pool : Pool (K × X)) (marks : List Bool) (mask : ℕ) : Type 0 where
+  pub record AreRows (slots : List (Node (K × X))) (pool : Pool (K × X)) (marks : List Bool) (mask : ℕ) : Type 0 where
     pub linked : AreLinked (λ p. slot_number number p.0 (length slots)) slots pool
     pub capacity : IsCapacity (length slots)
     pub marked : AreMarked (rows_in slots pool.nodes) marks
@@ -70,7 +70,7 @@ module _ {K X : Type 0} (clones : X → X → Type 0) where
     pub chain : IsChainSet a nowhere copies b m
 
   -- a new slot has clones of these pairs, and those behind the first one lie in new nodes
-  pub record IsRowClone (row : List (K × X)) (a b : Pool (K × X)) (t : Slot (K × X)) : Type 0 where
+  pub record IsRowClone (row : List (K × X)) (a b : Pool (K × X)) (t : Node (K × X)) : Type 0 where
     pub copies : List (K × X)
     pub are : AllZip (IsPairClone clones) row copies
-    pub slot : IsSlotSet a Empty copies b t
+    pub slot : IsSlotSet a empty copies b t

@@ -1,62 +1,35 @@
 //! Closures are called at the pairs of one slot.
-ghost use Rattle.std.specs.Prelude.{◌≡◌, ◌+◌, ◌-◌, ◌^◌, ◌<◌, ◌≤◌, ◌∷◌, ℕ, List, drop, length};
+ghost use Rattle.std.specs.Prelude.{◌≡◌, ◌<◌, ◌≤◌, ◌∷◌, List, drop, length};
 ghost use Rattle.intmap_table.specs.Picking.{AsksAt, ExtractsBehind, PicksAt};
 ghost use Rattle.intmap_table.specs.Retaining.{KeepsAt, Retains, TakesPair};
 ghost use Rattle.intmap_table.specs.Taking.{TakesEach};
 ghost use Rattle.intmap_table.specs.Writes.{TakesPairMut, Writes, WritesAt};
-ghost use Rattle.intmap_table.specs.Tables.Nodes.{Filled, Held, chain_of, node_at, row_in, IsChain, IsChainSet, IsSlot, IsSlotSet};
-ghost use Rattle.intmap_table.specs.Tables.Walked.{AreWalked, IsUnlinked};
+ghost use Rattle.intmap_table.specs.Tables.Nodes.{Held, chain_of, row_in, IsChain, IsSlot, IsSlotSet};
 
 use crate::kept::Kept;
 use crate::key::IntKey;
 use crate::linked::chain::seek_behind;
-use crate::linked::node::{NODE_LIMIT, NOWHERE};
+use crate::linked::node::{NODE_LIMIT, NOWHERE, Node};
 use crate::linked::pool::Pool;
 use crate::linked::row::removal;
-use crate::linked::slot::Slot;
 use crate::table::closure_calls::keeps_pair;
 use crate::table::stored::Stored;
 use std::alloc::Allocator;
-
-/// Removes the pair of node `at`, which is behind the first pair of a slot. The link to this node
-/// is in node `before`, or in the slot if `before` is no node. This link then leads to `next`.
-#[inline(always)]
-fn unlink<P, A: Allocator>(
-    slot: &mut Slot<P>,
-    pool: &mut Pool<P, A>,
-    before: usize,
-    at: usize,
-    next: usize,
-) -> P
-    requires walked { AreWalked pool.old slot.old before at }
-    requires held { (p : P) × (node_at pool.old.nodes at ≡ Held next p) }
-    requires fits { next < 2 ^ 48 }
-    ensures walks { IsUnlinked pool.old slot.old before at next result pool.new slot.new }
-    ensures total { pool.new.total ≡ pool.old.total }
-{
-    let pair = pool.release(at);
-    if before >= NODE_LIMIT {
-        slot.set_link(next);
-        return pair;
-    }
-    pool.set_link(before, next);
-    pair
-}
 
 /// Keeps the pairs behind the first one of a slot for which the closure returns true, in their
 /// order.
 #[inline(never)]
 fn retain_behind<K: IntKey, V: Drop, A: Allocator, F: FnMut(K, &V) -> bool>(
-    slot: &mut Slot<(Stored<K>, Kept<V>)>,
+    slot: &mut Node<(Stored<K>, Kept<V>)>,
     link: usize,
     pool: &mut Pool<(Stored<K>, Kept<V>), A>,
     f: &mut F,
 )
-    requires filled { (p : K × V) × (slot.old ≡ Filled link p) }
+    requires filled { (p : K × V) × (slot.old ≡ Held link p) }
     requires leads { IsChain pool.old.nodes link }
     requires callable { TakesEach (KeepsAt F.FnMut) (TakesPair F.FnMut) f.old
         (chain_of pool.old.nodes link) }
-    ensures row { (p : K × V) × (slot.old ≡ Filled link p)
+    ensures row { (p : K × V) × (slot.old ≡ Held link p)
         × (row : List (K × V)) × IsSlotSet pool.old slot.old (p ∷ row) pool.new slot.new
         × Retains (KeepsAt F.FnMut) f.old (chain_of pool.old.nodes link) row f.new }
     ensures total { pool.new.total ≡ pool.old.total }
@@ -67,7 +40,7 @@ fn retain_behind<K: IntKey, V: Drop, A: Allocator, F: FnMut(K, &V) -> bool>(
         if keeps_pair(pair, f) {
             before = at;
         } else {
-            unlink(slot, pool, before, at, next);
+            removal::unlink(slot, pool, before, at);
         }
         at = next;
     }
@@ -77,7 +50,7 @@ fn retain_behind<K: IntKey, V: Drop, A: Allocator, F: FnMut(K, &V) -> bool>(
 /// called once at each pair, from the front, and a pair is unlinked at once when it returns false.
 #[inline(always)]
 pub(crate) fn retain<K: IntKey, V: Drop, A: Allocator, F: FnMut(K, &V) -> bool>(
-    slot: &mut Slot<(Stored<K>, Kept<V>)>,
+    slot: &mut Node<(Stored<K>, Kept<V>)>,
     pool: &mut Pool<(Stored<K>, Kept<V>), A>,
     f: &mut F,
 )
@@ -95,13 +68,13 @@ pub(crate) fn retain<K: IntKey, V: Drop, A: Allocator, F: FnMut(K, &V) -> bool>(
             }
             return;
         }
-        removal::take_front_linked(slot, link, pool);
+        removal::pop_front(slot, link, pool);
     }
 }
 
 /// Calls the closure at each pair of a slot in turn, with a mutable reference to its value.
 pub(crate) fn write_each<K: IntKey, V, A: Allocator, F: FnMut(K, &mut V)>(
-    slot: &mut Slot<(Stored<K>, Kept<V>)>,
+    slot: &mut Node<(Stored<K>, Kept<V>)>,
     pool: &mut Pool<(Stored<K>, Kept<V>), A>,
     f: &mut F,
 )
@@ -128,20 +101,20 @@ pub(crate) fn write_each<K: IntKey, V, A: Allocator, F: FnMut(K, &mut V)>(
 /// them.
 #[inline(never)]
 fn extract_behind<K: IntKey, V, A: Allocator, F: FnMut(K, &mut V) -> bool>(
-    slot: &mut Slot<(Stored<K>, Kept<V>)>,
+    slot: &mut Node<(Stored<K>, Kept<V>)>,
     link: usize,
     pool: &mut Pool<(Stored<K>, Kept<V>), A>,
     place: &mut usize,
     f: &mut F,
 ) -> Option<(Stored<K>, Kept<V>)>
-    requires filled { (p : K × V) × (slot.old ≡ Filled link p) }
+    requires filled { (p : K × V) × (slot.old ≡ Held link p) }
     requires leads { IsChain pool.old.nodes link }
     requires behind { 0 < place.old }
     requires within { place.old ≤ length (row_in pool.old.nodes slot.old) }
     requires callable { TakesEach (AsksAt F.FnMut) (TakesPairMut F.FnMut) f.old
         (drop place.old (row_in pool.old.nodes slot.old)) }
     ensures step { (row : List (K × V))
-        × ((q : K × V) → IsSlotSet pool.old (Filled link q) row pool.new slot.new)
+        × ((q : K × V) → IsSlotSet pool.old (Held link q) row pool.new slot.new)
         × ExtractsBehind (PicksAt F.FnMut) f.old (row_in pool.old.nodes slot.old) place.old result
         f.new row place.new
         × (place.new ≤ length row) }
@@ -151,7 +124,7 @@ fn extract_behind<K: IntKey, V, A: Allocator, F: FnMut(K, &mut V) -> bool>(
     let (mut before, mut at) = seek_behind(pool, link, *place - 1);
     while let Some((next, _)) = pool.get(at) {
         if pool.pick(at, f) {
-            return Some(unlink(slot, pool, before, at, next));
+            return Some(removal::unlink(slot, pool, before, at));
         }
         before = at;
         at = next;
@@ -164,7 +137,7 @@ fn extract_behind<K: IntKey, V, A: Allocator, F: FnMut(K, &mut V) -> bool>(
 /// picks. Those behind it move up, and the place moves on to the first of them.
 #[inline(always)]
 pub(crate) fn extract<K: IntKey, V, A: Allocator, F: FnMut(K, &mut V) -> bool>(
-    slot: &mut Slot<(Stored<K>, Kept<V>)>,
+    slot: &mut Node<(Stored<K>, Kept<V>)>,
     pool: &mut Pool<(Stored<K>, Kept<V>), A>,
     place: &mut usize,
     f: &mut F,
@@ -187,7 +160,7 @@ pub(crate) fn extract<K: IntKey, V, A: Allocator, F: FnMut(K, &mut V) -> bool>(
         return extract_behind(slot, link, pool, place, f);
     }
     if slot.pick(f) {
-        return Some(removal::take_front_linked(slot, link, pool));
+        return Some(removal::pop_front(slot, link, pool));
     }
     *place = 1;
     if link >= NODE_LIMIT {

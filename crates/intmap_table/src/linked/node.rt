@@ -1,6 +1,6 @@
-//! One node, and links.
+//! One node, which is a place for a pair, and links. A slot is a node, and so is what a pool has.
 ghost use Rattle.std.specs.Prelude.{◌≡◌, ◌+◌, ◌*◌, ◌/◌, ◌%◌, ◌^◌, ◌<◌, ℕ, IfSome, IfNone};
-ghost use Rattle.intmap_table.specs.Tables.Nodes.{Free, Held};
+ghost use Rattle.intmap_table.specs.Tables.Nodes.{Free, Held, empty, is_empty};
 ghost use Rattle.intmap_table.specs.Picking.{PicksAt};
 ghost use Rattle.intmap_table.specs.Writes.{TakesPairMut, WritesAt};
 
@@ -54,7 +54,9 @@ enum NodeForm<P> {
     Held(u16, u32, P),
 }
 
-/// A place for a pair behind the first one of its slot.
+/// A place for a pair. A slot is one, with the first of its pairs, and a pool has more, with those
+/// behind the first ones. One that holds a pair has the link to the node behind it. In a pool one
+/// that holds none has the link to the next such node; in a slot nobody reads that link.
 #[derive(Drop)]
 pub(crate) struct Node<P> {
     form: NodeForm<P>,
@@ -74,6 +76,16 @@ impl<P> Model for Node<P> {
 }
 
 impl<P> Node<P> {
+    /// A node without a pair, as a slot is made.
+    #[inline(always)]
+    pub(crate) fn empty() -> Node<P>
+        ensures { result ≡ empty }
+    {
+        Node {
+            form: NodeForm::Free(0, 0),
+        }
+    }
+
     /// A node with a pair, and the link to the node behind it.
     #[inline(always)]
     pub(crate) fn held(link: usize, pair: P) -> Node<P>
@@ -82,6 +94,17 @@ impl<P> Node<P> {
     {
         Node {
             form: NodeForm::Held(high_part(link), low_part(link), pair),
+        }
+    }
+
+    /// Whether it holds no pair.
+    #[inline(always)]
+    pub(crate) fn is_empty(&self) -> bool
+        ensures { result ≡ is_empty self.now }
+    {
+        match &self.form {
+            NodeForm::Free(_, _) => true,
+            NodeForm::Held(_, _, _) => false,
         }
     }
 
@@ -164,6 +187,19 @@ impl<P> Node<P> {
         let form = NodeForm::Free(high_part(free), low_part(free));
         match mem::replace(&mut self.form, form) {
             NodeForm::Held(_, _, pair) => pair,
+            NodeForm::Free(_, _) => unreachable!(),
+        }
+    }
+
+    /// Removes the pair of a slot and the link with it, and returns both.
+    #[inline(always)]
+    pub(crate) fn take(&mut self) -> (usize, P)
+        requires { (l : ℕ) × (p : P) × (self.old ≡ Held l p) }
+        ensures value { self.old ≡ Held result.0 result.1 }
+        ensures node { self.new ≡ empty }
+    {
+        match mem::replace(&mut self.form, NodeForm::Free(0, 0)) {
+            NodeForm::Held(high, low, pair) => (link_of(high, low), pair),
             NodeForm::Free(_, _) => unreachable!(),
         }
     }

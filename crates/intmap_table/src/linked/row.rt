@@ -13,19 +13,19 @@ ghost use Rattle.intmap_table.specs.Reach.{through_first};
 ghost use Rattle.intmap_table.specs.Tables.Nodes.{node_limit, row_in, IsSlot};
 
 use crate::key::IntKey;
-use crate::linked::chain::{chain_len, find_in, node_in, seek};
+use crate::linked::chain::{last_in, search, seek};
+use crate::linked::node::Node;
 use crate::linked::pool::Pool;
-use crate::linked::slot::Slot;
 use crate::steps::Steps;
-use crate::table::stored::Stored;
+use crate::table::stored::{Sought, Stored};
 use std::alloc::Allocator;
 
 /// The place of the key's pair. The keys are compared from the front, up to the one sought.
 #[inline(always)]
 pub(crate) fn find<K: IntKey, X, A: Allocator>(
-    slot: &Slot<(Stored<K>, X)>,
+    slot: &Node<(Stored<K>, X)>,
     pool: &Pool<(Stored<K>, X), A>,
-    key: &K,
+    key: &Sought<K>,
     steps: &mut Steps,
 ) -> Option<usize>
     requires { IsSlot pool.now.nodes slot.now }
@@ -40,18 +40,18 @@ pub(crate) fn find<K: IntKey, X, A: Allocator>(
     if first.0.matches(key, steps) {
         return Some(0);
     }
-    let Some(place) = find_in(pool, link, key, steps) else {
+    let Ok(spot) = search(pool, link, key, steps) else {
         return None;
     };
-    Some(place + 1)
+    Some(spot.place + 1)
 }
 
 /// The key's pair. The keys are compared from the front, up to the one sought.
 #[inline(always)]
 pub(crate) fn pair_of<'a, K: IntKey, X, A: Allocator>(
-    slot: &'a Slot<(Stored<K>, X)>,
+    slot: &'a Node<(Stored<K>, X)>,
     pool: &'a Pool<(Stored<K>, X), A>,
-    key: &K,
+    key: &Sought<K>,
     steps: &mut Steps,
 ) -> Option<&'a (Stored<K>, X)>
     requires { IsSlot pool.now.nodes slot.now }
@@ -67,18 +67,18 @@ pub(crate) fn pair_of<'a, K: IntKey, X, A: Allocator>(
     if first.0.matches(key, steps) {
         return Some(first);
     }
-    let Some(at) = node_in(pool, link, key, steps) else {
+    let Ok(spot) = search(pool, link, key, steps) else {
         return None;
     };
-    Some(pool.pair(at))
+    Some(pool.pair(spot.at))
 }
 
 /// Whether the first pair has the key. If there is a first pair, its key is compared.
 #[inline(always)]
 pub(crate) fn first_is<K: IntKey, X, A: Allocator>(
-    slot: &Slot<(Stored<K>, X)>,
+    slot: &Node<(Stored<K>, X)>,
     _pool: &Pool<(Stored<K>, X), A>,
-    key: &K,
+    key: &Sought<K>,
     steps: &mut Steps,
 ) -> bool
     ensures value { MatchBool result
@@ -94,13 +94,13 @@ pub(crate) fn first_is<K: IntKey, X, A: Allocator>(
 }
 
 /// The number of pairs.
-pub(crate) fn len<P, A: Allocator>(slot: &Slot<P>, pool: &Pool<P, A>) -> usize
+pub(crate) fn len<P, A: Allocator>(slot: &Node<P>, pool: &Pool<P, A>) -> usize
     requires { IsSlot pool.now.nodes slot.now }
     ensures len { result ≡ length (row_in pool.now.nodes slot.now) }
     ensures limit { result ≤ node_limit + 1 }
 {
     match slot.get() {
-        Some((link, _)) => chain_len(pool, link) + 1,
+        Some((link, _)) => last_in(pool, link).1 + 1,
         None => 0,
     }
 }
@@ -108,7 +108,7 @@ pub(crate) fn len<P, A: Allocator>(slot: &Slot<P>, pool: &Pool<P, A>) -> usize
 /// The pair at a place.
 #[inline(always)]
 pub(crate) fn pair_at<'a, P, A: Allocator>(
-    slot: &'a Slot<P>,
+    slot: &'a Node<P>,
     pool: &'a Pool<P, A>,
     place: usize,
 ) -> &'a P

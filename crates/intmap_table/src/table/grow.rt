@@ -9,7 +9,7 @@ ghost use Rattle.intmap_table.specs.Locations.{IsAt};
 use crate::key::IntKey;
 use crate::steps::Steps;
 use crate::table::locate::Location;
-use crate::table::stored::Stored;
+use crate::table::stored::{Sought, Stored};
 use crate::table::{Table, index_of};
 use std::alloc::{AllocError, Allocator};
 
@@ -21,7 +21,7 @@ impl<K: IntKey, X: Drop, A: Allocator + Copy> Table<K, X, A> {
         &mut self,
         capacity: usize,
         slot: usize,
-        key: K,
+        key: Sought<K>,
         value: X,
         placed: &mut Steps,
     ) -> Result<Location<K>, X>
@@ -42,7 +42,7 @@ impl<K: IntKey, X: Drop, A: Allocator + Copy> Table<K, X, A> {
         ensures known { OnOk result (K.is_valid key) }
     {
         let target = index_of(&key, capacity);
-        let pair = (Stored::new(key), value);
+        let pair = (Stored::new(key.copied()), value);
         let pushed = self
             .slots
             .grow_and_push(capacity, slot, target, pair, placed);
@@ -51,7 +51,7 @@ impl<K: IntKey, X: Drop, A: Allocator + Copy> Table<K, X, A> {
             Err((_, value)) => return Err(value),
         };
         Ok(Location {
-            key,
+            key: key.key(),
             slot: target,
             place,
         })

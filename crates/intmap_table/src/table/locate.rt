@@ -13,7 +13,7 @@ use crate::key::IntKey;
 use crate::steps::Steps;
 use crate::table::Table;
 use crate::table::closure_calls::hand_value;
-use crate::table::stored::Stored;
+use crate::table::stored::{Sought, Stored};
 use std::alloc::Allocator;
 
 /// Where the pair of a key is: its slot, and its place there from the front.
@@ -31,21 +31,25 @@ impl<K: IntKey, X, A: Allocator> Table<K, X, A> {
     /// Where the pair of the key is, or the slot of the key if the key is absent. The keys of the
     /// slot are compared from the front, up to the one sought. Each comparison is one step.
     #[inline(always)]
-    pub fn locate(&self, key: K, steps: &mut Steps) -> Result<Location<K>, usize>
-        ensures found { IfOk result (λ at. (at.key ≡ key)
+    pub fn locate(&self, key: &Sought<K>, steps: &mut Steps) -> Result<Location<K>, usize>
+        ensures found { IfOk result (λ at. (at.key ≡ key.now)
             × IsAt K.number_of self.now.walk self.now.capacity at) }
-        ensures missing { OnErr result (value_of K.number_of self.now.walk key ≡ None) }
+        ensures missing { OnErr result (value_of K.number_of self.now.walk key.now ≡ None) }
         ensures slot { IfErr result (λ slot. slot
-            ≡ slot_number K.number_of key self.now.capacity) }
+            ≡ slot_number K.number_of key.now self.now.capacity) }
         ensures counted { steps.new
-            ≡ steps.old + reach K.number_of self.now.walk self.now.capacity key }
-        ensures known { K.is_valid key }
+            ≡ steps.old + reach K.number_of self.now.walk self.now.capacity key.now }
+        ensures known { K.is_valid key.now }
     {
-        let slot = self.index_of(&key);
-        let Some(place) = self.slots.find(slot, &key, steps) else {
+        let slot = self.index_of(key);
+        let Some(place) = self.slots.find(slot, key, steps) else {
             return Err(slot);
         };
-        Ok(Location { key, slot, place })
+        Ok(Location {
+            key: key.key(),
+            slot,
+            place,
+        })
     }
 
     /// The pair of the key, or `None` if the key is absent. The keys are compared as by
@@ -58,6 +62,7 @@ impl<K: IntKey, X, A: Allocator> Table<K, X, A> {
         ensures counted { steps.new
             ≡ steps.old + reach K.number_of self.now.walk self.now.capacity key }
     {
+        let key = Sought::new(key);
         let slot = self.index_of(&key);
         let Some(pair) = self.slots.pair_of(slot, &key, steps) else {
             return None;
@@ -129,6 +134,7 @@ impl<K: IntKey, X, A: Allocator> Table<K, X, A> {
             ≡ steps.old + reach K.number_of self.old.walk self.old.capacity key }
         ensures known { K.is_valid key }
     {
+        let key = Sought::new(key);
         let slot = self.index_of(&key);
         self.slots.remove(slot, key, steps)
     }
@@ -150,6 +156,7 @@ impl<K: IntKey, V, A: Allocator> Table<K, Kept<V>, A> {
         ensures counted { steps.new
             ≡ steps.old + reach K.number_of self.old.walk self.old.capacity key }
     {
+        let key = Sought::new(key);
         let slot = self.index_of(&key);
         self.slots.value_mut_of(slot, &key, steps)
     }
@@ -176,7 +183,8 @@ impl<K: IntKey, V, A: Allocator> Table<K, Kept<V>, A> {
         match hand_value(kept, f) {
             Ok(handed) => Some(handed),
             Err(back) => {
-                self.slots.put_back(at.slot, (Stored::new(at.key), back));
+                self.slots
+                    .put_back(at.slot, (Stored::new(Sought::new(at.key)), back));
                 None
             }
         }

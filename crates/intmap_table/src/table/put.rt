@@ -1,6 +1,6 @@
 //! A pair is put into the slot of its key. What lies at the first place is looked at before the
 //! rest.
-ghost use Rattle.std.specs.Prelude.{◌≡◌, ◌+◌, ◌<◌, ◌≤◌, [], length, MatchBool, IfOk, IfErr, IsOk, OnErr, OnOk, None, Some};
+ghost use Rattle.std.specs.Prelude.{◌≡◌, ◌+◌, ◌<◌, ◌≤◌, true, [], length, MatchBool, IfOk, IfErr, IsOk, OnErr, OnOk, None, Some};
 ghost use Rattle.intmap_table.specs.Bindings.{value_of, put_pair};
 ghost use Rattle.intmap_table.specs.Classes.{slot_number};
 ghost use Rattle.intmap_table.specs.Firsts.{first_of, reach_behind, IsFirst};
@@ -11,13 +11,13 @@ ghost use Rattle.intmap_table.specs.Walk.{slot_of, walk_of};
 use crate::key::IntKey;
 use crate::steps::Steps;
 use crate::table::Table;
-use crate::table::stored::Stored;
+use crate::table::stored::{Sought, Stored};
 use std::alloc::Allocator;
 
 impl<K: IntKey, X, A: Allocator> Table<K, X, A> {
     /// The slot of the key.
     #[inline(always)]
-    pub fn slot_of(&self, key: &K) -> usize
+    pub fn slot_of(&self, key: &Sought<K>) -> usize
         ensures slot { result ≡ slot_number K.number_of key.now self.now.capacity }
         ensures within { result < self.now.capacity }
         ensures known { K.is_valid key.now }
@@ -37,7 +37,7 @@ impl<K: IntKey, X, A: Allocator> Table<K, X, A> {
 
     /// Puts the pair of a key into its slot, which holds none. It allocates nothing.
     #[inline(always)]
-    pub fn fill(&mut self, slot: usize, key: K, value: X)
+    pub fn fill(&mut self, slot: usize, key: Sought<K>, value: X)
         requires slot { slot ≡ slot_number K.number_of key self.old.capacity }
         requires empty { slot_of K.number_of self.old.walk self.old.capacity slot ≡ [] }
         ensures walk { self.new.walk ≡ walk_of K.number_of
@@ -54,7 +54,7 @@ impl<K: IntKey, X, A: Allocator> Table<K, X, A> {
     /// Whether the first pair of the key's slot has the key. If there is a first pair, its key is
     /// compared, which is one step.
     #[inline(always)]
-    pub fn first_is(&self, slot: usize, key: &K, steps: &mut Steps) -> bool
+    pub fn first_is(&self, slot: usize, key: &Sought<K>, steps: &mut Steps) -> bool
         requires { slot ≡ slot_number K.number_of key.now self.now.capacity }
         ensures value { MatchBool result
             (IsFirst K.number_of self.now.walk self.now.capacity slot key.now)
@@ -70,7 +70,7 @@ impl<K: IntKey, X, A: Allocator> Table<K, X, A> {
     /// takes its place, and the pair of the key and this value is put last. It returns the old
     /// value, and allocates nothing.
     #[inline(always)]
-    pub fn replace_first(&mut self, slot: usize, key: K, value: X) -> X
+    pub fn replace_first(&mut self, slot: usize, key: Sought<K>, value: X) -> X
         requires { IsFirst K.number_of self.old.walk self.old.capacity slot key }
         ensures value { value_of K.number_of self.old.walk key ≡ Some result }
         ensures walk { self.new.walk ≡ walk_of K.number_of
@@ -83,44 +83,23 @@ impl<K: IntKey, X, A: Allocator> Table<K, X, A> {
         old
     }
 
-    /// Replaces the value of a key, if its pair is behind the first one of its slot: the last pair
-    /// of the slot takes the place of the old pair, and the new one is put last. It returns the old
-    /// value, or the new one if the key is absent. It compares keys from the second pair on, up to
-    /// the one sought, and allocates nothing.
-    pub fn replace_further(
-        &mut self,
-        slot: usize,
-        key: K,
-        value: X,
-        steps: &mut Steps,
-    ) -> Result<X, X>
-        requires slot { slot ≡ slot_number K.number_of key self.old.capacity }
-        requires other { value_of K.number_of
-            (first_of K.number_of self.old.walk self.old.capacity slot) key ≡ None }
-        ensures value { IfOk result (λ old. value_of K.number_of self.old.walk key ≡ Some old) }
-        ensures walk { OnOk result (self.new.walk ≡ walk_of K.number_of
-            (put_pair K.number_of self.old.walk self.old.capacity key value) self.old.capacity) }
-        ensures nodes { self.new.nodes ≡ self.old.nodes }
-        ensures capacity { self.new.capacity ≡ self.old.capacity }
-        ensures known { OnOk result (K.is_valid key) }
-        ensures missing { OnErr result (value_of K.number_of self.old.walk key ≡ None) }
-        ensures err { OnErr result (self.new ≡ self.old) }
-        ensures value_returned { IfErr result (λ returned. returned ≡ value) }
-        ensures counted { steps.new ≡ steps.old
-            + reach_behind K.number_of self.old.walk self.old.capacity slot key }
-    {
-        let old = self.slots.replace_further(slot, key, value, steps)?;
-        Ok(old)
-    }
-
-    /// Puts the pair of a key and a value last in its slot, whose first pair has another key. If
-    /// the key is present, the last pair of the slot takes the place of the old pair, and the old
-    /// value is returned. If an allocation fails, the value is returned and nothing changes. It
+    /// Puts the pair of a key and a value last in its slot, whose first pair, if there is one, has
+    /// another key. If the key is present, the last pair of the slot takes the place of the old
+    /// pair, and the old value is returned. An absent key is added only if `adds` is true. If it
+    /// isn't added, or if an allocation fails, the value is returned and nothing changes. It
     /// compares keys from the second pair on, up to the one sought.
     #[inline(always)]
-    pub fn put(&mut self, slot: usize, key: K, value: X, steps: &mut Steps) -> Result<Option<X>, X>
+    pub fn put(
+        &mut self,
+        slot: usize,
+        key: Sought<K>,
+        value: X,
+        adds: bool,
+        steps: &mut Steps,
+    ) -> Result<Option<X>, X>
         requires slot { slot ≡ slot_number K.number_of key self.old.capacity }
-        requires some { 0 < length (slot_of K.number_of self.old.walk self.old.capacity slot) }
+        requires some { adds ≡ true
+            → 0 < length (slot_of K.number_of self.old.walk self.old.capacity slot) }
         requires other { value_of K.number_of
             (first_of K.number_of self.old.walk self.old.capacity slot) key ≡ None }
         ensures value { IfOk result (λ old. old ≡ value_of K.number_of self.old.walk key) }
@@ -128,18 +107,19 @@ impl<K: IntKey, X, A: Allocator> Table<K, X, A> {
             (put_pair K.number_of self.old.walk self.old.capacity key value) self.old.capacity) }
         ensures nodes { self.old.nodes ≤ self.new.nodes }
         ensures capacity { self.new.capacity ≡ self.old.capacity }
-        ensures known { K.is_valid key }
+        ensures known { OnOk result (K.is_valid key) }
+        ensures adds { IfOk result (λ old. old ≡ None → adds ≡ true) }
         ensures missing { OnErr result (value_of K.number_of self.old.walk key ≡ None) }
         ensures err { OnErr result (self.new ≡ self.old) }
         ensures value_returned { IfErr result (λ returned. returned ≡ value) }
         ensures memory { OnErr result
-            (0 < class_size K.number_of self.old.walk self.old.capacity key) }
-        ensures succeeds { length self.old.walk
+            (adds ≡ true → 0 < class_size K.number_of self.old.walk self.old.capacity key) }
+        ensures succeeds { adds ≡ true → length self.old.walk
             < load_of K.number_of self.old.walk self.old.capacity + self.old.nodes → IsOk result }
         ensures counted { steps.new ≡ steps.old
             + reach_behind K.number_of self.old.walk self.old.capacity slot key }
     {
-        let old = self.slots.put(slot, key, value, steps)?;
+        let old = self.slots.put(slot, key, value, adds, steps)?;
         Ok(old)
     }
 }

@@ -22,18 +22,17 @@ ghost use Rattle.intmap_table.specs.Bindings.{value_of};
 ghost use Rattle.intmap_table.specs.Classes.{IsCapacity, same_key};
 ghost use Rattle.intmap_table.specs.Reach.{through_first};
 ghost use Rattle.intmap_table.specs.Tables.Bits.{IsWordFrom};
-ghost use Rattle.intmap_table.specs.Tables.Nodes.{Empty, further};
+ghost use Rattle.intmap_table.specs.Tables.Nodes.{empty, further};
 ghost use Rattle.intmap_table.specs.Tables.Rows.{row_at};
 ghost use Rattle.intmap_table.specs.Tables.Slots.{joined, IsNextRow};
 
 use crate::bits::{Bits, MarksLeft};
 use crate::key::IntKey;
-use crate::linked::node::NOWHERE;
+use crate::linked::node::{NOWHERE, Node};
 use crate::linked::pool::Pool;
 use crate::linked::row;
-use crate::linked::slot::Slot;
 use crate::steps::Steps;
-use crate::table::stored::Stored;
+use crate::table::stored::{Sought, Stored};
 use std::alloc::{AllocError, Allocator};
 use std::marker::Model;
 use walk::Pairs;
@@ -45,7 +44,7 @@ pub(crate) struct Slots<K: IntKey, X, A: Allocator> {
     /// Their number less one: a mask with exactly the bits that the number of a slot may have.
     mask: usize,
     bits: Bits<A>,
-    slots: Vec<Slot<(Stored<K>, X)>, A>,
+    slots: Vec<Node<(Stored<K>, X)>, A>,
     pool: Pool<(Stored<K>, X), A>,
 }
 
@@ -106,7 +105,7 @@ impl<K: IntKey, X, A: Allocator> Slots<K, X, A> {
     /// The place of the key's pair in a slot. The keys are compared from the front, up to the one
     /// sought. Each comparison is one step.
     #[inline(always)]
-    pub(crate) fn find(&self, index: usize, key: &K, steps: &mut Steps) -> Option<usize>
+    pub(crate) fn find(&self, index: usize, key: &Sought<K>, steps: &mut Steps) -> Option<usize>
         requires { index < length self.now.rows }
         ensures place { result
             ≡ position (λ p. same_key K.number_of key.now p.0) (row_at self.now index) }
@@ -122,7 +121,7 @@ impl<K: IntKey, X, A: Allocator> Slots<K, X, A> {
     pub(crate) fn pair_of(
         &self,
         index: usize,
-        key: &K,
+        key: &Sought<K>,
         steps: &mut Steps,
     ) -> Option<&(Stored<K>, X)>
         requires { index < length self.now.rows }
@@ -224,16 +223,16 @@ impl<K: IntKey, X, A: Allocator> Slots<K, X, A> {
 
 /// Adds slots without a pair, so that there are `count`. There is room for them.
 #[inline(never)]
-fn add_empty<P: Drop, A: Allocator>(slots: &mut Vec<Slot<P>, A>, count: usize)
+fn add_empty<P: Drop, A: Allocator>(slots: &mut Vec<Node<P>, A>, count: usize)
     requires more { length slots.old.items ≤ count }
     requires room { count ≤ vec_capacity slots.old }
     ensures items { slots.new.items
-        ≡ slots.old.items ++ replicate (count - length slots.old.items) Empty }
+        ≡ slots.old.items ++ replicate (count - length slots.old.items) empty }
     ensures capacity { vec_capacity slots.old ≤ vec_capacity slots.new }
 {
-    let make = || -> Slot<P>
-        ensures { result ≡ Empty }
-    { Slot::empty() };
+    let make = || -> Node<P>
+        ensures { result ≡ empty }
+    { Node::empty() };
     if slots.resize_with(count, make).is_err() {
         unreachable!();
     }

@@ -8,6 +8,7 @@ use crate::memory::prelude::*;
 use crate::proved::map::map::IntMap;
 use crate::proved::map::refusal::Refused;
 use crate::proved::table::IntKey;
+use crate::proved::table::table::stored::Sought;
 use crate::memory::alloc::{Allocator, Global};
 
 /// A map with a key that was looked up in it, made by [`IntMap::entry`].
@@ -42,7 +43,7 @@ impl<K: IntKey, V, A: Allocator + Copy> IntMap<K, V, A> {
     /// apart, and of any entry that is ended by [`OccupiedEntry::leave`] or [`Entry::into_map`].
     #[inline(always)]
     pub fn entry(&mut self, key: K) -> Entry<'_, K, V, A> {
-        match self.locate(key) {
+        match self.locate(&Sought::new(key)) {
             Ok(at) => Entry::Occupied(OccupiedEntry {
                 map: self,
                 slot: at.slot,

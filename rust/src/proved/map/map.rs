@@ -17,6 +17,7 @@ use crate::proved::table::kept::Kept;
 use crate::proved::table::steps::Steps;
 use crate::proved::table::table::Table;
 use crate::proved::table::table::locate::Location;
+use crate::proved::table::table::stored::Sought;
 use crate::memory::alloc::{Allocator, Global};
 
 /// A hash map from integer keys to values.
@@ -69,7 +70,7 @@ impl<K: IntKey, V, A: Allocator + Copy> IntMap<K, V, A> {
     /// Where the pair of the key is, or the slot of the key if the key is absent. The map counts
     /// the comparisons.
     #[inline(always)]
-    pub(in crate::proved::map) fn locate(&mut self, key: K) -> Result<Location<K>, usize> {
+    pub(in crate::proved::map) fn locate(&mut self, key: &Sought<K>) -> Result<Location<K>, usize> {
         self.table.locate(key, &mut self.compared)
     }
 

@@ -5,5 +5,4 @@ pub(in crate::proved::table) mod closures;
 pub(in crate::proved::table) mod node;
 pub(in crate::proved::table) mod pool;
 pub(in crate::proved::table) mod row;
-pub(in crate::proved::table) mod slot;
 pub(in crate::proved::table) mod turn;

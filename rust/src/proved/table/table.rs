@@ -14,12 +14,12 @@ pub mod locate;
 pub mod owned;
 mod put;
 mod slots;
-pub(in crate::proved::table) mod stored;
+pub mod stored;
 pub mod walk;
 
 use crate::memory::prelude::*;
 use crate::proved::table::key::IntKey;
-use crate::proved::table::table::stored::Stored;
+use crate::proved::table::table::stored::{Sought, Stored};
 pub use closures::Progress;
 use locate::Location;
 use slots::Slots;
@@ -32,15 +32,21 @@ use crate::memory::alloc::{AllocError, Allocator};
 /// keys share one.
 const MULTIPLIER: u64 = 11400714819323198549;
 
-/// The slot of a key in a table of `mask + 1` slots.
+/// The slot of a key with this number in a table of `mask + 1` slots.
 #[inline(always)]
-fn masked_index_of<K: IntKey>(key: &K, mask: usize) -> usize {
-    (key.number().wrapping_mul(MULTIPLIER) & mask as u64) as usize
+fn index_of_number(number: u64, mask: usize) -> usize {
+    (number.wrapping_mul(MULTIPLIER) & mask as u64) as usize
+}
+
+/// The slot of a stored key in a table of `mask + 1` slots.
+#[inline(always)]
+fn masked_index_of<K: IntKey>(key: &Stored<K>, mask: usize) -> usize {
+    index_of_number(key.key().number(), mask)
 }
 
 /// The slot of a key in a table of `slots` slots.
-fn index_of<K: IntKey>(key: &K, slots: usize) -> usize {
-    masked_index_of(key, slots - 1)
+fn index_of<K: IntKey>(key: &Sought<K>, slots: usize) -> usize {
+    index_of_number(key.number(), slots - 1)
 }
 
 /// Slots, whose number is a power of two. Each pair lies in the slot of its key.
@@ -70,8 +76,8 @@ impl<K: IntKey, X, A: Allocator> Table<K, X, A> {
     }
 
     /// The slot of a key.
-    fn index_of(&self, key: &K) -> usize {
-        masked_index_of(key, self.slots.mask())
+    fn index_of(&self, key: &Sought<K>) -> usize {
+        index_of_number(key.number(), self.slots.mask())
     }
 }
 
@@ -86,12 +92,16 @@ impl<K: IntKey, X, A: Allocator + Copy> Table<K, X, A> {
     /// Puts the pair of an absent key last in its slot, and returns where it is. If an allocation
     /// fails, it returns the value and changes nothing. A slot without a pair needs no allocation.
     #[inline(always)]
-    pub fn add(&mut self, slot: usize, key: K, value: X) -> Result<Location<K>, X> {
-        let place = match self.slots.push(slot, (Stored::new(key), value)) {
+    pub fn add(&mut self, slot: usize, key: Sought<K>, value: X) -> Result<Location<K>, X> {
+        let place = match self.slots.push(slot, (Stored::new(key.copied()), value)) {
             Ok(place) => place,
             Err((_, value)) => return Err(value),
         };
-        Ok(Location { key, slot, place })
+        Ok(Location {
+            key: key.key(),
+            slot,
+            place,
+        })
     }
 
     /// The allocator of the slots.

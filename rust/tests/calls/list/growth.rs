@@ -17,14 +17,13 @@ impl List {
         self.pairs.sort_by_key(|it| slot_among(it.0, slots));
     }
 
-    /// Growth with a new pair: for its new slot, and for each pair of its old one, up to one that
-    /// comes to the same. The new pair is placed behind all others.
+    /// Growth with a new pair: for each pair of its old slot, up to one that comes to its new slot. The new pair is placed behind all others.
     pub(super) fn store_and_grow(&mut self, key: Key, value: u64, slots: usize) {
         let (old, new) = (self.slot(key.0), slot_among(key.0, slots));
         let mut beside = self.pairs.iter().map(|it| it.0).filter(|it| self.slot(*it) == old);
         let count = beside.clone().count();
         let met = beside.position(|it| slot_among(it, slots) == new);
-        self.read(1 + met.map_or(count, |it| it + 1) as u64);
+        self.read(met.map_or(count, |it| it + 1) as u64);
         self.grow(slots);
         self.pairs.push((key.0, value));
     }

@@ -3,10 +3,10 @@ use Rattle.std.proofs.Common.{◌≡◌, ℕ, zero, suc, ◌+◌, ◌<◌, List,
 use Rattle.std.proofs.Math.ListN.{get_or-map}
 use Rattle.std.proofs.lemmas.List.{length-map}
 use Rattle.std.specs.declared.option.Option.TheVariants.{None, Some}
-use Rattle.intmap_table.specs.Tables.Nodes.{Node, Free, Held, Slot, Empty, Filled, Pool, node_at, chain_of, row_in, IsChain, IsSlot, AreHome, AreLinked}
+use Rattle.intmap_table.specs.Tables.Nodes.{Node, Free, Held, empty, Pool, node_at, chain_of, row_in, IsChain, IsSlot, AreHome, AreLinked}
 use Rattle.intmap_table.proofs.Nodes.PathLemmas.{Chain-next}
 use Rattle.intmap_table.proofs.Lending.ChosenLemmas.{at_place}
-use Rattle.intmap_table.proofs.Lending.Linked.PlacesLemmas.{link, start, in_node, in_slot, laid, order, link_at, passing, trail, slot_places, AreOnce, at_each, link-at, held_get, trail-chain_of, nodes_lie, slot_lies}
+use Rattle.intmap_table.proofs.Lending.Linked.PlacesLemmas.{link, in_node, laid, order, link_at, passing, trail, slot_places, AreOnce, at_each, link-at, held_get, trail-chain_of, nodes_lie, slot_lies}
 use Rattle.intmap_table.proofs.Lending.Linked.OnceLemmas.{AllAt, trail-once, trail-behind, walk_from-once}
 
 module _ {P : Type 0} (home : P → ℕ) where
@@ -32,9 +32,9 @@ module _ {P : Type 0} (home : P → ℕ) where
   home-each R i [] some own = tt
   home-each R i (u ∷ O) some own = let h = home-first (at_place R u) (at_each R O) i some.0 own in (h.0, home-each R i O some.1 h.1)
 
-  module _ (S : List (Slot P)) (cs : List (Node P)) where
+  module _ (S : List (Node P)) (cs : List (Node P)) where
     abbrev m : ℕ
-    m = length (map start S)
+    m = length (map link S)
 
     abbrev R : List (List P)
     R = laid S cs
@@ -60,13 +60,13 @@ module _ {P : Type 0} (home : P → ℕ) where
         let next = Chain-next cs l n held.0 ends held.1 in
         (next.is, ap length next.pairs)
 
-    abbrev Places : ℕ → Slot P → List ℕ
-    Places i s = slot_places m (map link cs) i (start s)
+    abbrev Places : ℕ → Node P → List ℕ
+    Places i s = slot_places m (map link cs) i (link s)
 
-    slot_once : (i : ℕ) (s : Slot P) → i < m → at_place R i ≡ in_slot s → IsSlot cs s → AreHome home i (row_in cs s)
+    slot_once : (i : ℕ) (s : Node P) → i < m → at_place R i ≡ in_node s → IsSlot cs s → AreHome home i (row_in cs s)
         → AreOnce (Places i s) × AllAt (λ u. home_of (at_place R u)) i (Places i s)
-    slot_once i Empty below lies ends own = (tt, tt)
-    slot_once i (Filled l p) below lies ends own =
+    slot_once i (Free n) below lies ends own = (tt, tt)
+    slot_once i (Held l p) below lies ends own =
         let n = length (map link cs) in
         let rank = λ (k : ℕ). length (chain_of cs k) in (
           (trail-behind m (map link cs) rank (IsChain cs) next_ends i n l below, (trail-once m (map link cs) rank (IsChain cs) next_ends n l ends).0),
@@ -77,17 +77,17 @@ module _ {P : Type 0} (home : P → ℕ) where
         )
 
     -- slots in which each pair is at home
-    order-once : ((i : ℕ) → i < length S → IsSlot cs (get_or S i Empty) × AreHome home i (row_in cs (get_or S i Empty))) → AreOnce (order S cs)
-    order-once each = (walk_from-once (λ u. home_of (at_place R u)) m (map link cs) 0 (map start S) (λ k b.
-        let long : length (map start S) ≡ length S = length-map S start in
+    order-once : ((i : ℕ) → i < length S → IsSlot cs (get_or S i empty) × AreHome home i (row_in cs (get_or S i empty))) → AreOnce (order S cs)
+    order-once each = (walk_from-once (λ u. home_of (at_place R u)) m (map link cs) 0 (map link S) (λ k b.
+        let long : length (map link S) ≡ length S = length-map S link in
         let below : k < length S = omega (arith, b, long) in
         let z : k ≡ 0 + k = omega arith in
-        let fine = slot_once k (get_or S k Empty) b (slot_lies S cs k below) (each k below).0 (each k below).1 in
-        subst (λ j. AreOnce (slot_places m (map link cs) j (get_or (map start S) k None))
-        × AllAt (λ u. home_of (at_place R u)) j (slot_places m (map link cs) j (get_or (map start S) k None))) z
+        let fine = slot_once k (get_or S k empty) b (slot_lies S cs k below) (each k below).0 (each k below).1 in
+        subst (λ j. AreOnce (slot_places m (map link cs) j (get_or (map link S) k None))
+        × AllAt (λ u. home_of (at_place R u)) j (slot_places m (map link cs) j (get_or (map link S) k None))) z
         (subst (λ o. AreOnce (slot_places m (map link cs) k o) × AllAt (λ u. home_of (at_place R u)) k (slot_places m (map link cs) k o))
-        (sym (get_or-map start S k Empty)) fine))).0
+        (sym (get_or-map link S k empty)) fine))).0
 
   -- slots that lead through their own pairs
-  pub Linked-once : (S : List (Slot P)) (pool : Pool P) → AreLinked home S pool → AreOnce (order S pool.nodes)
+  pub Linked-once : (S : List (Node P)) (pool : Pool P) → AreLinked home S pool → AreOnce (order S pool.nodes)
   Linked-once S pool linked = order-once S pool.nodes (λ i below. (linked.chains i below, linked.own i below))

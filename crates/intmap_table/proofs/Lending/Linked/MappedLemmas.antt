@@ -1,4 +1,4 @@
--- Nodes and slots of something else than pairs, with the same links.
+-- Nodes of something else than pairs, with the same links, and slots, which are nodes.
 use Rattle.std.proofs.Common.{◌≡◌, ℕ, zero, suc, ◌+◌, ◌-◌, ◌*◌, ◌/◌, cond, Bool, true, false, List, [], ◌∷◌, ◌++◌, length, get_or, map, refl, sym, ap, ◌∙◌, subst, arith}
 use Rattle.std.specs.Prelude.{nat_lt}
 use Rattle.std.proofs.Math.ListN.{get_or-map}
@@ -6,25 +6,18 @@ use Rattle.std.proofs.lemmas.List.{length-map, map-append}
 use Rattle.std.proofs.lemmas.List.Sums.{sum_by-cons}
 use Rattle.std.specs.declared.option.Option.TheVariants.{None, Some}
 use Rattle.intmap_table.specs.Tables.Slots.{AreMarked}
-use Rattle.intmap_table.specs.Tables.Nodes.{Node, Free, Held, Slot, Empty, Filled, Pool, node_limit, node_at, Frees, IsPool, Path, onward, chain_in, chain_of, row_in, rows_in, further, IsSlot, AreHome, AreLinked}
+use Rattle.intmap_table.specs.Tables.Nodes.{node_limit, Node, Free, Held, empty, Pool, node_at, Frees, IsPool, Path, onward, chain_in, chain_of, row_in, rows_in, further, IsSlot, AreHome, AreLinked}
 use Rattle.intmap_table.proofs.Nodes.PathLemmas.{IsChain-leads}
 use Rattle.intmap_table.proofs.Lending.ChosenLemmas.{sizes}
-use Rattle.intmap_table.proofs.Lending.Linked.PlacesLemmas.{link, start, in_node, in_slot, laid, order, walk_order}
+use Rattle.intmap_table.proofs.Lending.Linked.PlacesLemmas.{link, in_node, laid, order, walk_order}
 
 module _ {P Q : Type 0} (f : P → Q) where
   abbrev pub map_node : Node P → Node Q
   map_node (Free n) = Free n
   map_node (Held n p) = Held n (f p)
 
-  abbrev pub map_slot : Slot P → Slot Q
-  map_slot Empty = Empty
-  map_slot (Filled n p) = Filled n (f p)
-
   abbrev pub map_nodes : List (Node P) → List (Node Q)
   map_nodes cs = map map_node cs
-
-  abbrev pub map_slots : List (Slot P) → List (Slot Q)
-  map_slots S = map map_slot S
 
   abbrev pub map_pool : Pool P → Pool Q
   map_pool a = record { nodes = map_nodes a.nodes; held = a.held; total = a.total }
@@ -49,12 +42,12 @@ module _ {P Q : Type 0} (f : P → Q) where
   unfolding chain_of
   chain_of-map cs l = ap (λ n. chain_in (map_nodes cs) n l) (length-map cs map_node) ∙ chain_in-map cs (length cs) l
 
-  row-map : (cs : List (Node P)) (s : Slot P) → row_in (map_nodes cs) (map_slot s) ≡ map f (row_in cs s)
-  row-map cs Empty = refl
-  row-map cs (Filled l p) = ap (λ qs. f p ∷ qs) (chain_of-map cs l)
+  row-map : (cs : List (Node P)) (s : Node P) → row_in (map_nodes cs) (map_node s) ≡ map f (row_in cs s)
+  row-map cs (Free n) = refl
+  row-map cs (Held l p) = ap (λ qs. f p ∷ qs) (chain_of-map cs l)
 
   -- their rows are made of the rows of pairs
-  pub rows-map : (S : List (Slot P)) (cs : List (Node P)) → rows_in (map_slots S) (map_nodes cs) ≡ map (map f) (rows_in S cs)
+  pub rows-map : (S : List (Node P)) (cs : List (Node P)) → rows_in (map_nodes S) (map_nodes cs) ≡ map (map f) (rows_in S cs)
   rows-map [] cs = refl
   rows-map (s ∷ S) cs = λ i. row-map cs s i ∷ rows-map S cs i
 
@@ -63,28 +56,18 @@ module _ {P Q : Type 0} (f : P → Q) where
   links-map (Free n ∷ cs) = ap (λ L. None ∷ L) (links-map cs)
   links-map (Held n p ∷ cs) = ap (λ L. Some n ∷ L) (links-map cs)
 
-  starts-map : (S : List (Slot P)) → map start (map_slots S) ≡ map start S
-  starts-map [] = refl
-  starts-map (Empty ∷ S) = ap (λ L. None ∷ L) (starts-map S)
-  starts-map (Filled n p ∷ S) = ap (λ L. Some n ∷ L) (starts-map S)
-
   -- a walk comes to the same places
-  pub order-map : (S : List (Slot P)) (cs : List (Node P)) → order (map_slots S) (map_nodes cs) ≡ order S cs
-  order-map S cs = λ i. walk_order (starts-map S i) (links-map cs i)
+  pub order-map : (S : List (Node P)) (cs : List (Node P)) → order (map_nodes S) (map_nodes cs) ≡ order S cs
+  order-map S cs = λ i. walk_order (links-map S i) (links-map cs i)
 
   in_nodes-map : (cs : List (Node P)) → map in_node (map_nodes cs) ≡ map (map f) (map in_node cs)
   in_nodes-map [] = refl
   in_nodes-map (Free n ∷ cs) = ap (λ R. [] ∷ R) (in_nodes-map cs)
   in_nodes-map (Held n p ∷ cs) = ap (λ R. (f p ∷ []) ∷ R) (in_nodes-map cs)
 
-  in_slots-map : (S : List (Slot P)) → map in_slot (map_slots S) ≡ map (map f) (map in_slot S)
-  in_slots-map [] = refl
-  in_slots-map (Empty ∷ S) = ap (λ R. [] ∷ R) (in_slots-map S)
-  in_slots-map (Filled n p ∷ S) = ap (λ R. (f p ∷ []) ∷ R) (in_slots-map S)
-
   -- what lies at these places is made of the pairs
-  pub laid-map : (S : List (Slot P)) (cs : List (Node P)) → laid (map_slots S) (map_nodes cs) ≡ map (map f) (laid S cs)
-  laid-map S cs = (λ i. in_slots-map S i ++ in_nodes-map cs i) ∙ sym (map-append (map f) (map in_slot S) (map in_node cs))
+  pub laid-map : (S : List (Node P)) (cs : List (Node P)) → laid (map_nodes S) (map_nodes cs) ≡ map (map f) (laid S cs)
+  laid-map S cs = (λ i. in_nodes-map S i ++ in_nodes-map cs i) ∙ sym (map-append (map f) (map in_node S) (map in_node cs))
 
   pub sizes-map_rows : (R : List (List P)) → sizes (map (map f) R) ≡ sizes R
   sizes-map_rows [] = refl
@@ -128,13 +111,13 @@ module _ {P Q : Type 0} (f : P → Q) where
       let rest = Path-unmap cs path.0 qs m path.2 in
       (here.0 ∷ rest.0, (path.0, here.1, rest.1))
 
-  IsSlot-map : (cs : List (Node P)) (s : Slot P) → IsSlot cs s → IsSlot (map_nodes cs) (map_slot s)
-  IsSlot-map cs Empty is = tt
-  IsSlot-map cs (Filled l p) is = IsChain-leads (map_nodes cs) l (map f (chain_of cs l)) (Path-map cs l (chain_of cs l) _ is)
+  IsSlot-map : (cs : List (Node P)) (s : Node P) → IsSlot cs s → IsSlot (map_nodes cs) (map_node s)
+  IsSlot-map cs (Free n) is = tt
+  IsSlot-map cs (Held l p) is = IsChain-leads (map_nodes cs) l (map f (chain_of cs l)) (Path-map cs l (chain_of cs l) _ is)
 
-  IsSlot-unmap : (cs : List (Node P)) (s : Slot P) → IsSlot (map_nodes cs) (map_slot s) → IsSlot cs s
-  IsSlot-unmap cs Empty is = tt
-  IsSlot-unmap cs (Filled l p) is = let path = Path-unmap cs l (chain_of (map_nodes cs) l) _ is in IsChain-leads cs l path.0 path.1
+  IsSlot-unmap : (cs : List (Node P)) (s : Node P) → IsSlot (map_nodes cs) (map_node s) → IsSlot cs s
+  IsSlot-unmap cs (Free n) is = tt
+  IsSlot-unmap cs (Held l p) is = let path = Path-unmap cs l (chain_of (map_nodes cs) l) _ is in IsChain-leads cs l path.0 path.1
 
   further-map : (R : List (List P)) → further (map (map f) R) ≡ further R
   further-map [] = refl
@@ -164,24 +147,24 @@ module _ {P Q : Type 0} (f : P → Q) where
     AreHome-unmap i (p ∷ ps) own = (own.0, AreHome-unmap i ps own.1)
 
     -- slots lead through what is made of their own pairs
-    pub AreLinked-map : (S : List (Slot P)) (a : Pool P) → AreLinked (λ p. home (f p)) S a → AreLinked home (map_slots S) (map_pool a)
+    pub AreLinked-map : (S : List (Node P)) (a : Pool P) → AreLinked (λ p. home (f p)) S a → AreLinked home (map_nodes S) (map_pool a)
     AreLinked-map S a is =
-        let long = length-map S map_slot in
-        let at = λ (i : ℕ). get_or-map map_slot S i Empty in
+        let long = length-map S map_node in
+        let at = λ (i : ℕ). get_or-map map_node S i empty in
         record {
-          chains = λ i below. subst (IsSlot (map_nodes a.nodes)) (sym (at i)) (IsSlot-map a.nodes (get_or S i Empty) (is.chains i (omega (arith, below, long))));
-          own = λ i below. subst (AreHome home i) (sym (ap (row_in (map_nodes a.nodes)) (at i) ∙ row-map a.nodes (get_or S i Empty)))
-              (AreHome-map i (row_in a.nodes (get_or S i Empty)) (is.own i (omega (arith, below, long))));
+          chains = λ i below. subst (IsSlot (map_nodes a.nodes)) (sym (at i)) (IsSlot-map a.nodes (get_or S i empty) (is.chains i (omega (arith, below, long))));
+          own = λ i below. subst (AreHome home i) (sym (ap (row_in (map_nodes a.nodes)) (at i) ∙ row-map a.nodes (get_or S i empty)))
+              (AreHome-map i (row_in a.nodes (get_or S i empty)) (is.own i (omega (arith, below, long))));
           held = ap further (rows-map S a.nodes) ∙ further-map (rows_in S a.nodes) ∙ is.held;
         }
 
-    pub AreLinked-unmap : (S : List (Slot P)) (a : Pool P) → AreLinked home (map_slots S) (map_pool a) → AreLinked (λ p. home (f p)) S a
+    pub AreLinked-unmap : (S : List (Node P)) (a : Pool P) → AreLinked home (map_nodes S) (map_pool a) → AreLinked (λ p. home (f p)) S a
     AreLinked-unmap S a is =
-        let long = length-map S map_slot in
-        let at = λ (i : ℕ). get_or-map map_slot S i Empty in
+        let long = length-map S map_node in
+        let at = λ (i : ℕ). get_or-map map_node S i empty in
         record {
-          chains = λ i below. IsSlot-unmap a.nodes (get_or S i Empty) (subst (IsSlot (map_nodes a.nodes)) (at i) (is.chains i (omega (arith, below, long))));
-          own = λ i below. AreHome-unmap i (row_in a.nodes (get_or S i Empty))
-              (subst (AreHome home i) (ap (row_in (map_nodes a.nodes)) (at i) ∙ row-map a.nodes (get_or S i Empty)) (is.own i (omega (arith, below, long))));
+          chains = λ i below. IsSlot-unmap a.nodes (get_or S i empty) (subst (IsSlot (map_nodes a.nodes)) (at i) (is.chains i (omega (arith, below, long))));
+          own = λ i below. AreHome-unmap i (row_in a.nodes (get_or S i empty))
+              (subst (AreHome home i) (ap (row_in (map_nodes a.nodes)) (at i) ∙ row-map a.nodes (get_or S i empty)) (is.own i (omega (arith, below, long))));
           held = sym (further-map (rows_in S a.nodes)) ∙ ap further (sym (rows-map S a.nodes)) ∙ is.held;
         }

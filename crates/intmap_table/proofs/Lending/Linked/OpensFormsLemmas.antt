@@ -1,4 +1,4 @@
--- What is in a node or a slot, if its pair can be lent. Assumes `Logic`.
+-- What is in a node, if its pair can be lent. Assumes `Logic`.
 use mathlib.Core.Path.{◌≡◌, refl, ap, sym, subst, ◌∙◌}
 use Prim.Native.Nat.{ℕ, zero, ◌+◌}
 use native.Mathlib.Nat.{zero-add}
@@ -28,12 +28,8 @@ use denote.Struct.Lending.{Lends-nothing}
 use denote.Struct.Members.{Lone, Member, row_of, raw_tys, parts_at}
 use Rattle.intmap_table.specs.declared.linked.node.NodeForm.{NodeForm}
 use Rattle.intmap_table.specs.declared.linked.node.NodeForm.TheVariants.{Free, Held}
-use Rattle.intmap_table.specs.declared.linked.slot.SlotForm.{SlotForm}
-use Rattle.intmap_table.specs.declared.linked.slot.SlotForm.TheVariants.{Empty, Filled}
 use Rattle.intmap_table.specs.contracts.linked.node.NodeForm as N-type
-use Rattle.intmap_table.specs.contracts.linked.slot.SlotForm as S-type
 use Rattle.intmap_table.proofs.linked.node.NodeForm.TheLaws as N-laws
-use Rattle.intmap_table.proofs.linked.slot.SlotForm.TheLaws as S-laws
 use Rattle.intmap_table.proofs.Lending.OpensLemmas.{Cells, OpensAs, Opening, still, seen_as, framed, both}
 use Rattle.intmap_table.proofs.Lending.OpensStructLemmas.{member, Lends-left}
 
@@ -93,7 +89,6 @@ module _ {M : Type 1} {𝓤 : Ura M} (𝓛 : Logic 𝓤) (V : RattleType) (l : L
         (λ y k. y.1.1.1) (id⊢ 𝓤 _) (λ ws. id⊢ 𝓤 _) (zero-add (0 + (0 + O.count x)) ∙ zero-add (0 + O.count x) ∙ zero-add (O.count x))
         (λ y k. refl) (λ y k. k.1.1.1) (λ y k κ. id⊢ 𝓤 _)
 
-  -- nodes
   abbrev pub Nr : RattleType
   Nr = N-type.the_row R
 
@@ -119,32 +114,6 @@ module _ {M : Type 1} {𝓤 : Ura M} (𝓛 : Logic 𝓤) (V : RattleType) (l : L
   node_cells_in (Free h n) = []
   node_cells_in (Held h n y) = O.cells_in y
 
-  -- slots
-  abbrev pub Sr : RattleType
-  Sr = S-type.the_row R
-
-  abbrev pub SHr : RattleType
-  SHr = S-type.the_row R'
-
-  abbrev pub slot_tys : Tyss
-  slot_tys = rawss (layouts (enum.variants (S-type.the_type R)))
-
-  abbrev pub slot_count : SlotForm R.Denot → ℕ
-  slot_count Empty = 0
-  slot_count (Filled h n x) = O.count x
-
-  abbrev pub slot_put : SlotForm R.Denot → List V.Denot → SlotForm R.Denot
-  slot_put Empty ws = Empty
-  slot_put (Filled h n x) ws = Filled h n (O.put x ws)
-
-  abbrev pub slot_fill : SlotForm R'.Denot → SlotForm R.Denot
-  slot_fill Empty = Empty
-  slot_fill (Filled h n y) = Filled h n (O.fill y)
-
-  abbrev pub slot_cells_in : SlotForm R'.Denot → Cells V
-  slot_cells_in Empty = []
-  slot_cells_in (Filled h n y) = O.cells_in y
-
   module _ (L : Laws R) (within : Incl l R.lives) where
     pub node_out : (h n : ℕ) (x : R.Denot) (b o : ℕ) → ent 𝓤 (sem 𝓛 (part_at Nr full_share (Held h n x) b o)) (sem 𝓛 (Fields node_tys h n x b o))
     unfolding part_of
@@ -155,20 +124,8 @@ module _ {M : Type 1} {𝓤 : Ura M} (𝓛 : Logic 𝓤) (V : RattleType) (l : L
     unfolding part_of
     node_in h n x b o = live_in 𝓛 node_tys 1 ms refl (h, (n, (x, tt))) b o full_share
 
-    pub slot_out : (h n : ℕ) (x : R.Denot) (b o : ℕ) → ent 𝓤 (sem 𝓛 (part_at Sr full_share (Filled h n x) b o)) (sem 𝓛 (Fields slot_tys h n x b o))
-    unfolding part_of
-    slot_out h n x b o = Live-out 𝓛 slot_tys 1 ms refl (h, (n, (x, tt))) b o full_share
-        ((λ n ws p. subst Lone (sym p.0) tt), ((λ n ws p. subst Lone (sym p.0) tt), (L.single, tt)))
-
-    pub slot_in : (h n : ℕ) (x : R.Denot) (b o : ℕ) → ent 𝓤 (sem 𝓛 (Fields slot_tys h n x b o)) (sem 𝓛 (part_at Sr full_share (Filled h n x) b o))
-    unfolding part_of
-    slot_in h n x b o = live_in 𝓛 slot_tys 1 ms refl (h, (n, (x, tt))) b o full_share
-
     pub node_shares : Shares 𝓛 Nr l
     node_shares = Shares-less 𝓛 Nr Nr.lives l (N-laws.the_within R l within) ((N-laws.the_row_laws R L).shares 𝓛)
-
-    pub slot_shares : Shares 𝓛 Sr l
-    slot_shares = Shares-less 𝓛 Sr Sr.lives l (S-laws.the_within R l within) ((S-laws.the_row_laws R L).shares 𝓛)
 
     -- A node with a hole in the place of a value lies in memory as one with the value
     module _ (free_shown : (h n b o : ℕ) (κ : Lft) → ent 𝓤 (sem 𝓛 (shared_of Nr (Free h n) b o κ)) (sem 𝓛 (shared_of NHr (Free h n) b o κ)))
@@ -184,18 +141,3 @@ module _ {M : Type 1} {𝓤 : Ura M} (𝓛 : Logic 𝓤) (V : RattleType) (l : L
 
       abbrev pub node_opens : OpensAs 𝓛 V Nr NHr l
       node_opens = record { count = node_count; put = node_put; fill = node_fill; cells_in = node_cells_in; opens = node_open }
-
-    -- and so does a slot
-    module _ (empty_shown : (b o : ℕ) (κ : Lft) → ent 𝓤 (sem 𝓛 (shared_of Sr Empty b o κ)) (sem 𝓛 (shared_of SHr Empty b o κ)))
-        (filled_shown : (h n : ℕ) (y : R'.Denot) (b o : ℕ) (κ : Lft) → ent 𝓤 (sem 𝓛 (seen slot_tys h n y b o κ)) (sem 𝓛 (shared_of SHr (Filled h n y) b o κ))) where
-      abbrev pub slot_open : (x : SlotForm R.Denot) (b o : ℕ) → Opening 𝓛 V l (part_at Sr full_share x b o)
-          (λ ws. part_at Sr full_share (slot_put x ws) b o) (slot_count x) slot_cells_in (λ y. shared_of SHr y b o) (λ y. slot_fill y ≡ x)
-      slot_open Empty b o =
-          seen_as (still 𝓛 V l (part_at Sr full_share Empty b o) (shared_of Sr Empty b o) (λ κ ts. slot_shares Empty κ ts b o))
-          (λ y k. Empty) (id⊢ 𝓤 _) (λ ws. id⊢ 𝓤 _) refl (λ y k. refl) (λ y k. refl) (λ y k κ. empty_shown b o κ)
-      slot_open (Filled h n x) b o =
-          seen_as (fields_open slot_tys h n x b o) (λ y k. Filled h n y) (slot_out h n x b o) (λ ws. slot_in h n (O.put x ws) b o) refl
-          (λ y k. refl) (λ y k. ap (λ z. Filled h n z) k) (λ y k κ. filled_shown h n y b o κ)
-
-      abbrev pub slot_opens : OpensAs 𝓛 V Sr SHr l
-      slot_opens = record { count = slot_count; put = slot_put; fill = slot_fill; cells_in = slot_cells_in; opens = slot_open }

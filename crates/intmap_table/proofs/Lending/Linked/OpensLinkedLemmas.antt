@@ -22,7 +22,7 @@ use Rattle.std.specs.declared.cmp.PartialEq as eq
 use Rattle.intmap_table.specs.declared.key.IntKey as key
 use Rattle.intmap_table.specs.Apart.{contents_of}
 use Rattle.intmap_table.specs.Classes.{slot_number}
-use Rattle.intmap_table.specs.Tables.Nodes.{Node, Free, Held, Slot, Empty, Filled, rows_in}
+use Rattle.intmap_table.specs.Tables.Nodes.{Node, Free, Held, rows_in}
 use Rattle.intmap_table.specs.Tables.Rows.{Contents}
 use Rattle.intmap_table.specs.Tables.Slots.{joined}
 use Rattle.intmap_table.specs.Values.{lent_pairs, rows_with}
@@ -30,10 +30,10 @@ use Rattle.intmap_table.proofs.Lending.OpensLemmas.{OpensAs, any, seen_as, row_c
 use Rattle.intmap_table.proofs.Lending.ChosenLemmas.{drained}
 use Rattle.intmap_table.proofs.Lending.ChosenOpensLemmas.{chosen, whole_if}
 use Rattle.intmap_table.proofs.Lending.OpensPairLemmas.{V, Kr, Hr}
-use Rattle.intmap_table.proofs.Lending.Linked.PlacesLemmas.{in_node, in_slot, laid, order, AreOnce}
+use Rattle.intmap_table.proofs.Lending.Linked.PlacesLemmas.{in_node, laid, order, AreOnce}
 use Rattle.intmap_table.proofs.Lending.Linked.HomeLemmas.{Linked-once}
-use Rattle.intmap_table.proofs.Lending.Linked.MappedLemmas.{map_nodes, map_slots, rows-map, order-map, laid-map}
-use Rattle.intmap_table.proofs.Lending.Linked.SameKeysLemmas.{node_keys, slot_keys, AreRows-same_keys}
+use Rattle.intmap_table.proofs.Lending.Linked.MappedLemmas.{map_nodes, rows-map, order-map, laid-map}
+use Rattle.intmap_table.proofs.Lending.Linked.SameKeysLemmas.{node_keys, AreRows-same_keys}
 use Rattle.intmap_table.proofs.Lending.Linked.WrittenLemmas.{slots_with, nodes_with, values_laid, values-drained, in_memory, written-keys, rows-written}
 use Rattle.intmap_table.proofs.Lending.Linked.OpensNodeLemmas.{was}
 use Rattle.intmap_table.proofs.Lending.Linked.OpensMemoryLemmas.{Ir, Lr, good, code, view, inside_opens}
@@ -60,16 +60,11 @@ module _ {K V : Type 0} where
   contents-were [] = refl
   contents-were (r ∷ R) = λ i. contents-was r i ∷ contents-were R i
 
-  -- nodes and slots with holes have the links and keys that they had
+  -- nodes with holes have the links and keys that they had
   pub node_keys-was : (cs : List (Node (K × (Ptr × V)))) → node_keys (map_nodes was cs) ≡ node_keys cs
   node_keys-was [] = refl
   node_keys-was (Free n ∷ cs) = ap (λ L. Free n ∷ L) (node_keys-was cs)
   node_keys-was (Held n h ∷ cs) = ap (λ L. Held n h.0 ∷ L) (node_keys-was cs)
-
-  pub slot_keys-was : (S : List (Slot (K × (Ptr × V)))) → slot_keys (map_slots was S) ≡ slot_keys S
-  slot_keys-was [] = refl
-  slot_keys-was (Empty ∷ S) = ap (λ L. Empty ∷ L) (slot_keys-was S)
-  slot_keys-was (Filled n h ∷ S) = ap (λ L. Filled n h.0 ∷ L) (slot_keys-was S)
 
 module _ (K' A' : RattleType) (g : key.Ghosts K'.Denot) (e : eq.Ghosts K'.Denot) (a : allocator.Ghosts A'.Denot) (V' : RattleType)
     (LK : Laws K') (LV : Laws V') (LA : Laws A') {M : Type 1} {𝓤 : Ura M} (𝓛 : Logic 𝓤)
@@ -101,9 +96,9 @@ module _ (K' A' : RattleType) (g : key.Ghosts K'.Denot) (e : eq.Ghosts K'.Denot)
 
   -- the cells of the holes, place by place
   pub rowed : (h : IH) → joined (values_laid h.slots.items h.pool.nodes) ≡ IO.cells_in h
-  rowed h = ap joined (map-append values_of (map in_slot h.slots.items) (map in_node h.pool.nodes))
-      ∙ flat_map-append (λ s. s) (map values_of (map in_slot h.slots.items)) (map values_of (map in_node h.pool.nodes))
-      ∙ (λ i. joined-cells values_of in_slot h.slots.items i ++ joined-cells values_of in_node h.pool.nodes i)
+  rowed h = ap joined (map-append values_of (map in_node h.slots.items) (map in_node h.pool.nodes))
+      ∙ flat_map-append (λ s. s) (map values_of (map in_node h.slots.items)) (map values_of (map in_node h.pool.nodes))
+      ∙ (λ i. joined-cells values_of in_node h.slots.items i ++ joined-cells values_of in_node h.pool.nodes i)
 
   -- the values that were in these cells
   pub old : (h : IH) → map contents_of (values_laid h.slots.items h.pool.nodes) ≡ values_laid (IO.fill h).slots.items (IO.fill h).pool.nodes
@@ -113,7 +108,7 @@ module _ (K' A' : RattleType) (g : key.Ghosts K'.Denot) (e : eq.Ghosts K'.Denot)
   fills h i = record { rows = sym (rows-map was h.slots.items h.pool.nodes) i; total = h.pool.total }
 
   module _ (s : I) (ok : good K' A' g e a Kv s) where
-    abbrev pub S : List (Slot P)
+    abbrev pub S : List (Node P)
     S = s.slots.items
 
     abbrev pub cs : List (Node P)
@@ -141,8 +136,8 @@ module _ (K' A' : RattleType) (g : key.Ghosts K'.Denot) (e : eq.Ghosts K'.Denot)
     module _ (h : IH) (k : IO.fill h ≡ s) where
       -- slots with holes do, too
       pub goods_too : good K' A' g e a Hv h
-      goods_too = AreRows-same_keys (map_slots was h.slots.items) (map_nodes was h.pool.nodes) h.slots.items h.pool.nodes
-          (slot_keys-was h.slots.items) (node_keys-was h.pool.nodes) g.number_of h.pool.held h.pool.total h.bits h.mask
+      goods_too = AreRows-same_keys (map_nodes was h.slots.items) (map_nodes was h.pool.nodes) h.slots.items h.pool.nodes
+          (node_keys-was h.slots.items) (node_keys-was h.pool.nodes) g.number_of h.pool.held h.pool.total h.bits h.mask
           (subst (good K' A' g e a Kv) (sym k) ok)
 
       -- the holes are lent in the order of a walk

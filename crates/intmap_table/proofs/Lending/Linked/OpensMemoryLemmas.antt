@@ -23,13 +23,13 @@ use Rattle.intmap_table.specs.contracts.table.slots.Slots.TheInside as I-type
 use Rattle.intmap_table.specs.contracts.bits.Bits as B-type
 use Rattle.intmap_table.specs.Tables.Rows.{Contents}
 use Rattle.intmap_table.proofs.bits.Bits.TheLaws as B-laws
+use Rattle.intmap_table.proofs.linked.node.Node.TheLaws as N-laws
 use Rattle.intmap_table.proofs.linked.pool.Pool.TheLaws as P-laws
-use Rattle.intmap_table.proofs.linked.slot.Slot.TheLaws as S-laws
 use Rattle.intmap_table.proofs.Lending.OpensLemmas.{OpensAs}
 use Rattle.intmap_table.proofs.Lending.OpensVecLemmas.{vec_opens}
 use Rattle.intmap_table.proofs.Lending.OpensStructLemmas.{member, IsLaidAs, still_opens, first_part, last_part, struct_opens}
 use Rattle.intmap_table.proofs.Lending.OpensPairLemmas.{V, K, Kr, Hr, Pr, pair_laws}
-use Rattle.intmap_table.proofs.Lending.Linked.OpensNodeLemmas.{Sr, slot_opens}
+use Rattle.intmap_table.proofs.Lending.Linked.OpensNodeLemmas.{Nr, node_opens}
 use Rattle.intmap_table.proofs.Lending.Linked.OpensPoolLemmas.{A, Lr as Pool, words_live, number_opens, pool_opens}
 
 module _ (K' A' : RattleType) (g : key.Ghosts K'.Denot) (e : eq.Ghosts K'.Denot) (a : allocator.Ghosts A'.Denot) where
@@ -39,7 +39,7 @@ module _ (K' A' : RattleType) (g : key.Ghosts K'.Denot) (e : eq.Ghosts K'.Denot)
   -- slots of pairs whose values are of type R: the vector of them, all fields, and the slots of a table
   module _ (R : RattleType) where
     abbrev pub Svr : RattleType
-    Svr = V-type.the_row (Sr K' g e R) (A A') a
+    Svr = V-type.the_row (Nr K' g e R) (A A') a
 
     abbrev pub Ir : RattleType
     Ir = I-type.the_row (K K') R (A A') g e a
@@ -77,11 +77,11 @@ module _ (K' A' : RattleType) (g : key.Ghosts K'.Denot) (e : eq.Ghosts K'.Denot)
     bits_laws = B-laws.the_row_laws (A A') a (copied_laws 2 A' LA)
 
     module _ (l : Lft) (ik : Incl l K'.lives) (iv : Incl l V'.lives) (ia : Incl l A'.lives) where
-      abbrev pub SO : OpensAs 𝓛 (V V') (Sr K' g e Kv) (Sr K' g e Hv) l
-      SO = slot_opens K' g e V' LK LV 𝓛 l ik iv
+      abbrev pub SO : OpensAs 𝓛 (V V') (Nr K' g e Kv) (Nr K' g e Hv) l
+      SO = node_opens K' g e V' LK LV 𝓛 l ik iv
 
       abbrev pub slots_open : OpensAs 𝓛 (V V') (Svr Kv) (Svr Hv) l
-      slots_open = vec_opens 𝓛 (V V') (Sr K' g e Kv) (Sr K' g e Hv) l SO refl tt (A A') a (copied_laws 2 A' LA)
+      slots_open = vec_opens 𝓛 (V V') (Nr K' g e Kv) (Nr K' g e Hv) l SO refl tt (A A') a (copied_laws 2 A' LA)
           (words_live K' A' g e a V' LK LV LA 𝓛 l ik iv ia)
 
       abbrev pub PO : OpensAs 𝓛 (V V') (Pool K' A' g e a Kv) (Pool K' A' g e a Hv) l
@@ -103,7 +103,7 @@ module _ (K' A' : RattleType) (g : key.Ghosts K'.Denot) (e : eq.Ghosts K'.Denot)
             (
               bits_laws.single,
               (
-                (V-laws.the_row_laws (Sr K' g e Kv) (A A') a (S-laws.the_row_laws (Pr K' g e Kv) pairs) alloc).single,
+                (V-laws.the_row_laws (Nr K' g e Kv) (A A') a (N-laws.the_row_laws (Pr K' g e Kv) pairs) alloc).single,
                 ((P-laws.the_row_laws (Pr K' g e Kv) (A A') a pairs alloc).single, tt),
               ),
             ),

@@ -1,4 +1,4 @@
--- A node and a slot, whose values are lent. Assumes `Logic`.
+-- A node, whose value is lent. Assumes `Logic`.
 use mathlib.Core.Path.{◌≡◌, refl}
 use mathlib.Core.List.{List, [], ◌∷◌}
 use seplogic.Ra.Ura.{Ura}
@@ -16,40 +16,30 @@ use Rattle.std.specs.Map.{values_of}
 use Rattle.std.specs.declared.cmp.PartialEq as eq
 use Rattle.intmap_table.specs.declared.key.IntKey as key
 use Rattle.intmap_table.specs.declared.linked.node.Node as node_declared
-use Rattle.intmap_table.specs.declared.linked.slot.Slot as slot_declared
 use Rattle.intmap_table.specs.declared.linked.node.NodeForm.{NodeForm}
 use Rattle.intmap_table.specs.declared.linked.node.NodeForm.TheVariants as node_forms
-use Rattle.intmap_table.specs.declared.linked.slot.SlotForm.{SlotForm}
-use Rattle.intmap_table.specs.declared.linked.slot.SlotForm.TheVariants as slot_forms
 use Rattle.intmap_table.specs.contracts.linked.node.NodeForm as NF-type
-use Rattle.intmap_table.specs.contracts.linked.slot.SlotForm as SF-type
 use Rattle.intmap_table.specs.contracts.linked.node.Node as N-type
 use Rattle.intmap_table.specs.contracts.linked.node.Node.TheInside as NI-type
-use Rattle.intmap_table.specs.contracts.linked.slot.Slot as S-type
-use Rattle.intmap_table.specs.contracts.linked.slot.Slot.TheInside as SI-type
-use Rattle.intmap_table.specs.Tables.Nodes.{Node, Slot}
+use Rattle.intmap_table.specs.Tables.Nodes.{Node}
 use Rattle.intmap_table.proofs.linked.node.NodeForm.TheLaws as NF-laws
-use Rattle.intmap_table.proofs.linked.slot.SlotForm.TheLaws as SF-laws
 use Rattle.intmap_table.proofs.Lending.OpensLemmas.{OpensAs}
 use Rattle.intmap_table.proofs.Lending.OpensStructLemmas.{member, IsLaidAs, last_part, struct_opens, view_opens}
 use Rattle.intmap_table.proofs.Lending.OpensPairLemmas.{V, Kr, Hr, Pr, pair_within, pair_laws, pair_opens}
-use Rattle.intmap_table.proofs.Lending.Linked.PlacesLemmas.{in_node, in_slot}
-use Rattle.intmap_table.proofs.Lending.Linked.MappedLemmas.{map_node, map_slot}
-use Rattle.intmap_table.proofs.Lending.Linked.WrittenLemmas.{node_count, node_put, slot_count, slot_put}
-use Rattle.intmap_table.proofs.Lending.Linked.OpensFormsLemmas.{node_opens as node_form_opens, slot_opens as slot_form_opens}
+use Rattle.intmap_table.proofs.Lending.Linked.PlacesLemmas.{in_node}
+use Rattle.intmap_table.proofs.Lending.Linked.MappedLemmas.{map_node}
+use Rattle.intmap_table.proofs.Lending.Linked.WrittenLemmas.{node_count, node_put}
+use Rattle.intmap_table.proofs.Lending.Linked.OpensFormsLemmas.{node_opens as node_form_opens}
 
 -- a pair as it was before its value was lent
 abbrev pub was : {K V : Type 0} → K × (Ptr × V) → K × V
 was p = (p.0, p.1.1)
 
 module _ (K' : RattleType) (g : key.Ghosts K'.Denot) (e : eq.Ghosts K'.Denot) where
-  -- nodes and slots of pairs whose values are of type R, and what each is inside
+  -- nodes of pairs whose values are of type R, and what each is inside
   module _ (R : RattleType) where
     abbrev pub Nfr : RattleType
     Nfr = NF-type.the_row (Pr K' g e R)
-
-    abbrev pub Sfr : RattleType
-    Sfr = SF-type.the_row (Pr K' g e R)
 
     abbrev pub Nir : RattleType
     Nir = NI-type.the_row (Pr K' g e R)
@@ -57,29 +47,14 @@ module _ (K' : RattleType) (g : key.Ghosts K'.Denot) (e : eq.Ghosts K'.Denot) wh
     abbrev pub Nr : RattleType
     Nr = N-type.the_row (Pr K' g e R)
 
-    abbrev pub Sir : RattleType
-    Sir = SI-type.the_row (Pr K' g e R)
-
-    abbrev pub Sr : RattleType
-    Sr = S-type.the_row (Pr K' g e R)
-
     abbrev pub node_code : Coded (Node (K'.Denot × R.Denot))
     node_code = node_declared.the_code (Pr K' g e R).Denot (Pr K' g e R).coded
-
-    abbrev pub slot_code : Coded (Slot (K'.Denot × R.Denot))
-    slot_code = slot_declared.the_code (Pr K' g e R).Denot (Pr K' g e R).coded
 
     abbrev pub node_view : Nir.Denot → Node (K'.Denot × R.Denot)
     node_view = N-type.the_view (Pr K' g e R)
 
-    abbrev pub slot_view : Sir.Denot → Slot (K'.Denot × R.Denot)
-    slot_view = S-type.the_view (Pr K' g e R)
-
     abbrev pub node_good : Nir.Denot → Type 0
     node_good = N-type.the_invariant (Pr K' g e R)
-
-    abbrev pub slot_good : Sir.Denot → Type 0
-    slot_good = S-type.the_invariant (Pr K' g e R)
 
   module _ (V' : RattleType) (LK : Laws K') (LV : Laws V') {M : Type 1} {𝓤 : Ura M} (𝓛 : Logic 𝓤) where
     abbrev pub Kv : RattleType
@@ -104,9 +79,6 @@ module _ (K' : RattleType) (g : key.Ghosts K'.Denot) (e : eq.Ghosts K'.Denot) wh
 
       abbrev pub NF : OpensAs 𝓛 (V V') (Nfr Kv) (Nfr Hv) l
       NF = node_form_opens 𝓛 (V V') l (Pr K' g e Kv) (Pr K' g e Hv) PO PL (pair_within K' g e V' l ik iv) (λ h n b o κ. id⊢ 𝓤 _) (λ h n y b o κ. id⊢ 𝓤 _)
-
-      abbrev pub SF : OpensAs 𝓛 (V V') (Sfr Kv) (Sfr Hv) l
-      SF = slot_form_opens 𝓛 (V V') l (Pr K' g e Kv) (Pr K' g e Hv) PO PL (pair_within K' g e V' l ik iv) (λ b o κ. id⊢ 𝓤 _) (λ h n y b o κ. id⊢ 𝓤 _)
 
       abbrev pub node_fields : List Member
       node_fields = member (Nfr Kv) ∷ []
@@ -145,41 +117,3 @@ module _ (K' : RattleType) (g : key.Ghosts K'.Denot) (e : eq.Ghosts K'.Denot) wh
           node_put node_count (map_node was) (λ h. values_of (in_node h)) (λ n ws. node_puts n.form ws) (λ n ws ok. tt)
           (λ n. node_counts n.form) (λ h. node_fills h.form) (λ h. node_cells h.form)
           (λ h ok. view-Hides (Nir Hv) (Node H) (node_code Hv) (node_view Hv) (node_good Hv) M 𝓤 𝓛 (node_view Hv h) h (refl, tt))
-
-      abbrev pub slot_fields : List Member
-      slot_fields = member (Sfr Kv) ∷ []
-
-      pub slot_laid : IsLaidAs (Sir Kv) slot_fields (λ s. (s.form, tt))
-      unfolding part_of
-      slot_laid s b o = refl
-
-      abbrev pub slot_inside_opens : OpensAs 𝓛 (V V') (Sir Kv) (Sir Hv) l
-      slot_inside_opens =
-          struct_opens 𝓛 slot_fields (Sir Kv) (λ s. (s.form, tt)) slot_laid (V V') l (last_part 𝓛 (V V') l (Sfr Kv) 0 SF)
-          ((SF-laws.the_row_laws (Pr K' g e Kv) PL).single, tt) (λ y. record { form = y.0 })
-          (shared_of (Sir Hv)) (λ h. h.form) (λ y. record { form = y }) (λ s. refl) (λ y. refl) (λ y. refl) (λ y b o κ. id⊢ 𝓤 _)
-
-      pub slot_puts : (f : SlotForm P) (ws : List V'.Denot) → slot_view Kv (record { form = SF.put f ws }) ≡ slot_put (slot_view Kv (record { form = f })) ws
-      slot_puts slot_forms.Empty ws = refl
-      slot_puts (slot_forms.Filled h n p) [] = refl
-      slot_puts (slot_forms.Filled h n p) (w ∷ ws) = refl
-
-      pub slot_counts : (f : SlotForm P) → SF.count f ≡ slot_count (slot_view Kv (record { form = f }))
-      slot_counts slot_forms.Empty = refl
-      slot_counts (slot_forms.Filled h n p) = refl
-
-      pub slot_fills : (f : SlotForm H) → map_slot was (slot_view Hv (record { form = f })) ≡ slot_view Kv (record { form = SF.fill f })
-      slot_fills slot_forms.Empty = refl
-      slot_fills (slot_forms.Filled h n p) = refl
-
-      pub slot_cells : (f : SlotForm H) → SF.cells_in f ≡ values_of (in_slot (slot_view Hv (record { form = f })))
-      slot_cells slot_forms.Empty = refl
-      slot_cells (slot_forms.Filled h n p) = refl
-
-      -- a slot is lent as a slot of a hole
-      abbrev pub slot_opens : OpensAs 𝓛 (V V') (Sr Kv) (Sr Hv) l
-      slot_opens =
-          view_opens 𝓛 (V V') (Sir Kv) l slot_inside_opens (Slot P) (slot_code Kv) (slot_view Kv) (slot_good Kv) (shared_of (Sr Hv)) (slot_view Hv)
-          slot_put slot_count (map_slot was) (λ h. values_of (in_slot h)) (λ s ws. slot_puts s.form ws) (λ s ws ok. tt)
-          (λ s. slot_counts s.form) (λ h. slot_fills h.form) (λ h. slot_cells h.form)
-          (λ h ok. view-Hides (Sir Hv) (Slot H) (slot_code Hv) (slot_view Hv) (slot_good Hv) M 𝓤 𝓛 (slot_view Hv h) h (refl, tt))

@@ -6,32 +6,24 @@ use Rattle.std.specs.declared.option.Option.{Option}
 use Rattle.std.specs.declared.option.Option.TheVariants.{None, Some}
 use Rattle.std.proofs.Math.ListN.{get_or-map}
 use Rattle.intmap_table.specs.Tables.Slots.{joined}
-use Rattle.intmap_table.specs.Tables.Nodes.{Node, Free, Held, Slot, Empty, Filled, node_limit, node_at, onward, chain_in, chain_of, rows_in}
+use Rattle.intmap_table.specs.Tables.Nodes.{node_limit, Node, Free, Held, empty, node_at, onward, chain_in, chain_of, rows_in}
 use Rattle.intmap_table.proofs.Nodes.NodeLemmas.{node_at-below, held_limit}
 use Rattle.intmap_table.proofs.Lending.ChosenLemmas.{at_place, emptied, drained}
 
 module _ {P : Type 0} where
-  -- the link of a node that holds a pair, and that of a slot that does
+  -- the link of a node that holds a pair
   abbrev pub link : Node P → Option ℕ
   link (Free n) = None
   link (Held n p) = Some n
 
-  abbrev pub start : Slot P → Option ℕ
-  start Empty = None
-  start (Filled l p) = Some l
-
-  -- the pair that lies in a node or a slot itself
+  -- the pair that lies in a node itself
   abbrev pub in_node : Node P → List P
   in_node (Free n) = []
   in_node (Held n p) = p ∷ []
 
-  abbrev pub in_slot : Slot P → List P
-  in_slot Empty = []
-  in_slot (Filled l p) = p ∷ []
-
   -- what lies at each place
-  abbrev pub laid : List (Slot P) → List (Node P) → List (List P)
-  laid slots nodes = map in_slot slots ++ map in_node nodes
+  abbrev pub laid : List (Node P) → List (Node P) → List (List P)
+  laid slots nodes = map in_node slots ++ map in_node nodes
 
 -- the link of the node of this number
 abbrev pub link_at : List (Option ℕ) → ℕ → Option ℕ
@@ -61,8 +53,8 @@ walk_from m links i (s ∷ S) = slot_places m links i s ++ walk_from m links (su
 abbrev pub walk_order : List (Option ℕ) → List (Option ℕ) → List ℕ
 walk_order starts links = walk_from (length starts) links 0 starts
 
-abbrev pub order : {P : Type 0} → List (Slot P) → List (Node P) → List ℕ
-order slots nodes = walk_order (map start slots) (map link nodes)
+abbrev pub order : {P : Type 0} → List (Node P) → List (Node P) → List ℕ
+order slots nodes = walk_order (map link slots) (map link nodes)
 
 -- place t isn't in the list
 abbrev pub Absent : ℕ → List ℕ → Type 0
@@ -136,33 +128,33 @@ module _ {P : Type 0} where
 
   -- at the places of slots lie their rows
   walk_from-rows : (R : List (List P)) (m : ℕ) (cs : List (Node P)) → LieBehind m R cs
-      → (i : ℕ) (T : List (Slot P)) → ((k : ℕ) → k < length T → at_place R (i + k) ≡ in_slot (get_or T k Empty))
-      → at_each R (walk_from m (map link cs) i (map start T)) ≡ joined (rows_in T cs)
+      → (i : ℕ) (T : List (Node P)) → ((k : ℕ) → k < length T → at_place R (i + k) ≡ in_node (get_or T k empty))
+      → at_each R (walk_from m (map link cs) i (map link T)) ≡ joined (rows_in T cs)
   walk_from-rows R m cs lie i [] own = refl
-  walk_from-rows R m cs lie i (Empty ∷ T) own = walk_from-rows R m cs lie (suc i) T (λ k b. shifted R i k ∙ own (suc k) (omega (arith, b)))
-  walk_from-rows R m cs lie i (Filled l p ∷ T) own =
+  walk_from-rows R m cs lie i (Free n ∷ T) own = walk_from-rows R m cs lie (suc i) T (λ k b. shifted R i k ∙ own (suc k) (omega (arith, b)))
+  walk_from-rows R m cs lie i (Held l p ∷ T) own =
       let z : i ≡ i + 0 = omega arith in
       let first : at_place R i ≡ p ∷ [] = ap (at_place R) z ∙ own 0 (omega arith) in
       let further = walk_from-rows R m cs lie (suc i) T (λ k b. shifted R i k ∙ own (suc k) (omega (arith, b))) in
-      at_each-append R (i ∷ trail m (map link cs) (length (map link cs)) l) (walk_from m (map link cs) (suc i) (map start T))
+      at_each-append R (i ∷ trail m (map link cs) (length (map link cs)) l) (walk_from m (map link cs) (suc i) (map link T))
       ∙ (λ j. (first j ++ trail-chain_of R m cs lie l j) ++ further j)
 
-  in_slot-at : (S : List (Slot P)) (B : List (List P)) (k : ℕ) → k < length S → at_place (map in_slot S ++ B) k ≡ in_slot (get_or S k Empty)
-  in_slot-at [] B k b = absurd (omega (arith, b))
-  in_slot-at (s ∷ S) B zero b = refl
-  in_slot-at (s ∷ S) B (suc k) b = in_slot-at S B k (omega (arith, b))
+  in_node-at : (S : List (Node P)) (B : List (List P)) (k : ℕ) → k < length S → at_place (map in_node S ++ B) k ≡ in_node (get_or S k empty)
+  in_node-at [] B k b = absurd (omega (arith, b))
+  in_node-at (s ∷ S) B zero b = refl
+  in_node-at (s ∷ S) B (suc k) b = in_node-at S B k (omega (arith, b))
 
   -- nodes lie behind the slots
-  pub nodes_lie : (S : List (Slot P)) (cs : List (Node P)) → LieBehind (length (map start S)) (laid S cs) cs
-  nodes_lie S cs l = let e : length (map start S) ≡ length (map in_slot S) = length-map S start ∙ sym (length-map S in_slot) in
-      ap (λ m. at_place (laid S cs) (m + l)) e ∙ at_place-right (map in_slot S) (map in_node cs) l ∙ get_or-map in_node cs l (Free 0)
+  pub nodes_lie : (S : List (Node P)) (cs : List (Node P)) → LieBehind (length (map link S)) (laid S cs) cs
+  nodes_lie S cs l = let e : length (map link S) ≡ length (map in_node S) = length-map S link ∙ sym (length-map S in_node) in
+      ap (λ m. at_place (laid S cs) (m + l)) e ∙ at_place-right (map in_node S) (map in_node cs) l ∙ get_or-map in_node cs l (Free 0)
 
   -- slots lie before the nodes
-  pub slot_lies : (S : List (Slot P)) (cs : List (Node P)) (k : ℕ) → k < length S → at_place (laid S cs) k ≡ in_slot (get_or S k Empty)
-  slot_lies S cs k b = in_slot-at S (map in_node cs) k b
+  pub slot_lies : (S : List (Node P)) (cs : List (Node P)) (k : ℕ) → k < length S → at_place (laid S cs) k ≡ in_node (get_or S k empty)
+  slot_lies S cs k b = in_node-at S (map in_node cs) k b
 
   -- at all places, in the order of a walk, lie the pairs of the walk
-  pub order-rows : (S : List (Slot P)) (cs : List (Node P)) → at_each (laid S cs) (order S cs) ≡ joined (rows_in S cs)
+  pub order-rows : (S : List (Node P)) (cs : List (Node P)) → at_each (laid S cs) (order S cs) ≡ joined (rows_in S cs)
   order-rows S cs =
-      walk_from-rows (laid S cs) (length (map start S)) cs (nodes_lie S cs)
+      walk_from-rows (laid S cs) (length (map link S)) cs (nodes_lie S cs)
       0 S (λ k b. let z : 0 + k ≡ k = omega arith in ap (at_place (laid S cs)) z ∙ slot_lies S cs k b)

@@ -3,30 +3,27 @@ use Rattle.std.proofs.Common.{◌≡◌, ℕ, Bool, List, length, map, sym, ap, 
 use Rattle.std.proofs.lemmas.List.{length-map}
 use Rattle.intmap_table.specs.Classes.{IsCapacity, slot_number}
 use Rattle.intmap_table.specs.Tables.Slots.{AreMarked}
-use Rattle.intmap_table.specs.Tables.Nodes.{Node, Slot, Pool, rows_in, IsPool, AreLinked}
+use Rattle.intmap_table.specs.Tables.Nodes.{Node, Pool, rows_in, IsPool, AreLinked}
 use Rattle.intmap_table.specs.Tables.Rows.{AreRows}
 use Rattle.intmap_table.proofs.Lending.ChosenLemmas.{sizes}
 use Rattle.intmap_table.proofs.Lending.Linked.PlacesLemmas.{order}
-use Rattle.intmap_table.proofs.Lending.Linked.MappedLemmas.{map_slot, map_nodes, map_slots, map_pool, rows-map, order-map, sizes-map_rows, IsPool-map, IsPool-unmap, AreMarked-map, AreMarked-unmap, AreLinked-map, AreLinked-unmap}
+use Rattle.intmap_table.proofs.Lending.Linked.MappedLemmas.{map_node, map_nodes, map_pool, rows-map, order-map, sizes-map_rows, IsPool-map, IsPool-unmap, AreMarked-map, AreMarked-unmap, AreLinked-map, AreLinked-unmap}
 
 -- the key of a pair
 abbrev pub key : {K X : Type 0} → K × X → K
 key p = p.0
 
--- nodes and slots with keys in the place of pairs
+-- nodes with keys in the place of pairs
 abbrev pub node_keys : {K X : Type 0} → List (Node (K × X)) → List (Node K)
 node_keys cs = map_nodes key cs
-
-abbrev pub slot_keys : {K X : Type 0} → List (Slot (K × X)) → List (Slot K)
-slot_keys S = map_slots key S
 
 module _ {K X Y : Type 0} where
   -- the same nodes are free
   pub IsPool-same_keys : (cs : List (Node (K × X))) (ds : List (Node (K × Y))) → node_keys cs ≡ node_keys ds → (f n : ℕ) → IsPool cs f n → IsPool ds f n
   IsPool-same_keys cs ds same f n is = IsPool-unmap key ds f n (subst (λ ks. IsPool ks f n) same (IsPool-map key cs f n is))
 
-  module _ (S : List (Slot (K × X))) (cs : List (Node (K × X))) (T : List (Slot (K × Y))) (ds : List (Node (K × Y)))
-      (slots : slot_keys S ≡ slot_keys T) (nodes : node_keys cs ≡ node_keys ds) where
+  module _ (S : List (Node (K × X))) (cs : List (Node (K × X))) (T : List (Node (K × Y))) (ds : List (Node (K × Y)))
+      (slots : node_keys S ≡ node_keys T) (nodes : node_keys cs ≡ node_keys ds) where
     -- a walk comes to the same places
     pub order-same_keys : order S cs ≡ order T ds
     order-same_keys = sym (order-map key S cs) ∙ (λ i. order (slots i) (nodes i)) ∙ order-map key T ds
@@ -40,14 +37,14 @@ module _ {K X Y : Type 0} where
     pub AreRows-same_keys : (number : K → ℕ) (held total : ℕ) (marks : List Bool) (mask : ℕ)
         → AreRows number S (record { nodes = cs; held = held; total = total }) marks mask → AreRows number T (record { nodes = ds; held = held; total = total }) marks mask
     AreRows-same_keys number held total marks mask are =
-        let long : length S ≡ length T = sym (length-map S (map_slot key)) ∙ ap length slots ∙ length-map T (map_slot key) in
+        let long : length S ≡ length T = sym (length-map S (map_node key)) ∙ ap length slots ∙ length-map T (map_node key) in
         let a : Pool (K × X) = record { nodes = cs; held = held; total = total } in
         let b : Pool (K × Y) = record { nodes = ds; held = held; total = total } in
         let pools : ◌≡◌ {A = Pool K} (map_pool key a) (map_pool key b) = λ i. record { nodes = nodes i; held = held; total = total } in
         let home : ℕ → K → ℕ = λ n k. slot_number number k n in
-        let linked : AreLinked (home (length T)) (slot_keys T) (map_pool key b) =
-        subst (λ n. AreLinked (home n) (slot_keys T) (map_pool key b)) long (subst (λ ks. AreLinked (home (length S)) ks (map_pool key b)) slots
-        (subst (AreLinked (home (length S)) (slot_keys S)) pools (AreLinked-map key (home (length S)) S a are.linked))) in
+        let linked : AreLinked (home (length T)) (node_keys T) (map_pool key b) =
+        subst (λ n. AreLinked (home n) (node_keys T) (map_pool key b)) long (subst (λ ks. AreLinked (home (length S)) ks (map_pool key b)) slots
+        (subst (AreLinked (home (length S)) (node_keys S)) pools (AreLinked-map key (home (length S)) S a are.linked))) in
         let rows : map (map key) (rows_in S cs) ≡ map (map key) (rows_in T ds) =
         sym (rows-map key S cs) ∙ (λ i. rows_in (slots i) (nodes i)) ∙ rows-map key T ds in
         record {

@@ -3,13 +3,13 @@ use Rattle.std.proofs.Common.{◌≡◌, ℕ, ◌+◌, List, [], ◌∷◌, ◌+
 use Rattle.std.proofs.lemmas.List.{length-map}
 use Rattle.std.specs.Map.{values_of}
 use Rattle.intmap_table.specs.Tables.Slots.{joined}
-use Rattle.intmap_table.specs.Tables.Nodes.{Node, Free, Held, Slot, Empty, Filled, rows_in}
+use Rattle.intmap_table.specs.Tables.Nodes.{Node, Free, Held, rows_in}
 use Rattle.intmap_table.specs.Values.{with_values, rows_with}
 use Rattle.intmap_table.proofs.Lending.OpensLemmas.{row_count, row_put, row_put-append}
 use Rattle.intmap_table.proofs.Lending.ChosenLemmas.{drained, refilled, sizes, map-drained}
-use Rattle.intmap_table.proofs.Lending.Linked.PlacesLemmas.{in_node, in_slot, laid, order, AreOnce, at_each, drained-once, order-rows}
+use Rattle.intmap_table.proofs.Lending.Linked.PlacesLemmas.{in_node, laid, order, AreOnce, at_each, drained-once, order-rows}
 use Rattle.intmap_table.proofs.Lending.Linked.RefilledLemmas.{joined-one, sizes-refilled, drained-refilled, rows_with-joined, drained-each_with, joined-rows_with, sizes-rows_with}
-use Rattle.intmap_table.proofs.Lending.Linked.SameKeysLemmas.{node_keys, slot_keys, order-same_keys, sizes-same_keys}
+use Rattle.intmap_table.proofs.Lending.Linked.SameKeysLemmas.{node_keys, order-same_keys, sizes-same_keys}
 
 module _ {K V : Type 0} where
   -- how many values a node takes, and the node with others
@@ -22,21 +22,8 @@ module _ {K V : Type 0} where
   node_put (Held n p) [] = Held n p
   node_put (Held n p) (w ∷ ws) = Held n (p.0, w)
 
-  -- how many values a slot takes, and the slot with others
-  abbrev pub slot_count : Slot (K × V) → ℕ
-  slot_count Empty = 0
-  slot_count (Filled n p) = 1
-
-  abbrev pub slot_put : Slot (K × V) → List V → Slot (K × V)
-  slot_put Empty ws = Empty
-  slot_put (Filled n p) [] = Filled n p
-  slot_put (Filled n p) (w ∷ ws) = Filled n (p.0, w)
-
   abbrev pub put_nodes : List (Node (K × V)) → List V → List (Node (K × V))
   put_nodes = row_put node_count node_put
-
-  abbrev pub put_slots : List (Slot (K × V)) → List V → List (Slot (K × V))
-  put_slots = row_put slot_count slot_put
 
   in_nodes-put : (cs : List (Node (K × V))) (ws : List V) → map in_node (put_nodes cs ws) ≡ rows_with (map in_node cs) ws
   unfolding with_values
@@ -45,17 +32,10 @@ module _ {K V : Type 0} where
   in_nodes-put (Held n p ∷ cs) [] = ap (λ R. (p ∷ []) ∷ R) (in_nodes-put cs [])
   in_nodes-put (Held n p ∷ cs) (w ∷ ws) = ap (λ R. ((p.0, w) ∷ []) ∷ R) (in_nodes-put cs ws)
 
-  in_slots-put : (S : List (Slot (K × V))) (ws : List V) → map in_slot (put_slots S ws) ≡ rows_with (map in_slot S) ws
-  unfolding with_values
-  in_slots-put [] ws = refl
-  in_slots-put (Empty ∷ S) ws = ap (λ R. [] ∷ R) (in_slots-put S ws)
-  in_slots-put (Filled n p ∷ S) [] = ap (λ R. (p ∷ []) ∷ R) (in_slots-put S [])
-  in_slots-put (Filled n p ∷ S) (w ∷ ws) = ap (λ R. ((p.0, w) ∷ []) ∷ R) (in_slots-put S ws)
-
-  slots-count : (S : List (Slot (K × V))) → row_count slot_count S ≡ row_count length (map in_slot S)
-  slots-count [] = refl
-  slots-count (Empty ∷ S) = ap (λ n. 0 + n) (slots-count S)
-  slots-count (Filled n p ∷ S) = ap (λ n. 1 + n) (slots-count S)
+  nodes-count : (S : List (Node (K × V))) → row_count node_count S ≡ row_count length (map in_node S)
+  nodes-count [] = refl
+  nodes-count (Free n ∷ S) = ap (λ k. 0 + k) (nodes-count S)
+  nodes-count (Held n p ∷ S) = ap (λ k. 1 + k) (nodes-count S)
 
   -- links and keys stay
   pub node_keys-put : (cs : List (Node (K × V))) (ws : List V) → node_keys (put_nodes cs ws) ≡ node_keys cs
@@ -64,35 +44,29 @@ module _ {K V : Type 0} where
   node_keys-put (Held n p ∷ cs) [] = ap (λ L. Held n p.0 ∷ L) (node_keys-put cs [])
   node_keys-put (Held n p ∷ cs) (w ∷ ws) = ap (λ L. Held n p.0 ∷ L) (node_keys-put cs ws)
 
-  pub slot_keys-put : (S : List (Slot (K × V))) (ws : List V) → slot_keys (put_slots S ws) ≡ slot_keys S
-  slot_keys-put [] ws = refl
-  slot_keys-put (Empty ∷ S) ws = ap (λ L. Empty ∷ L) (slot_keys-put S ws)
-  slot_keys-put (Filled n p ∷ S) [] = ap (λ L. Filled n p.0 ∷ L) (slot_keys-put S [])
-  slot_keys-put (Filled n p ∷ S) (w ∷ ws) = ap (λ L. Filled n p.0 ∷ L) (slot_keys-put S ws)
-
   -- slots and nodes with other values, of which the slots take the first
-  abbrev pub slots_with : List (Slot (K × V)) → List V → List (Slot (K × V))
-  slots_with S ws = put_slots S (take (row_count slot_count S) ws)
+  abbrev pub slots_with : List (Node (K × V)) → List V → List (Node (K × V))
+  slots_with S ws = put_nodes S (take (row_count node_count S) ws)
 
-  abbrev pub nodes_with : List (Slot (K × V)) → List (Node (K × V)) → List V → List (Node (K × V))
-  nodes_with S cs ws = put_nodes cs (drop (row_count slot_count S) ws)
+  abbrev pub nodes_with : List (Node (K × V)) → List (Node (K × V)) → List V → List (Node (K × V))
+  nodes_with S cs ws = put_nodes cs (drop (row_count node_count S) ws)
 
   rows_with-put : (R : List (List (K × V))) (ws : List V) → rows_with R ws ≡ row_put length with_values R ws
   rows_with-put [] ws = refl
   rows_with-put (r ∷ R) ws = ap (λ Q. with_values r (take (length r) ws) ∷ Q) (rows_with-put R (drop (length r) ws))
 
   -- what lies at each place has these values in turn
-  laid-with : (S : List (Slot (K × V))) (cs : List (Node (K × V))) (ws : List V) → laid (slots_with S ws) (nodes_with S cs ws) ≡ rows_with (laid S cs) ws
+  laid-with : (S : List (Node (K × V))) (cs : List (Node (K × V))) (ws : List V) → laid (slots_with S ws) (nodes_with S cs ws) ≡ rows_with (laid S cs) ws
   laid-with S cs ws =
-      let n = row_count slot_count S in
-      let m = row_count length (map in_slot S) in
-      (λ i. in_slots-put S (take n ws) i ++ in_nodes-put cs (drop n ws) i)
-      ∙ (λ i. rows_with (map in_slot S) (take (slots-count S i) ws) ++ rows_with (map in_node cs) (drop (slots-count S i) ws))
-      ∙ (λ i. rows_with-put (map in_slot S) (take m ws) i ++ rows_with-put (map in_node cs) (drop m ws) i)
-      ∙ row_put-append length with_values (map in_slot S) (map in_node cs) ws ∙ sym (rows_with-put (laid S cs) ws)
+      let n = row_count node_count S in
+      let m = row_count length (map in_node S) in
+      (λ i. in_nodes-put S (take n ws) i ++ in_nodes-put cs (drop n ws) i)
+      ∙ (λ i. rows_with (map in_node S) (take (nodes-count S i) ws) ++ rows_with (map in_node cs) (drop (nodes-count S i) ws))
+      ∙ (λ i. rows_with-put (map in_node S) (take m ws) i ++ rows_with-put (map in_node cs) (drop m ws) i)
+      ∙ row_put-append length with_values (map in_node S) (map in_node cs) ws ∙ sym (rows_with-put (laid S cs) ws)
 
   -- the values at each place
-  abbrev pub values_laid : List (Slot (K × V)) → List (Node (K × V)) → List (List V)
+  abbrev pub values_laid : List (Node (K × V)) → List (Node (K × V)) → List (List V)
   values_laid S cs = map values_of (laid S cs)
 
   sizes-values : (R : List (List (K × V))) → sizes (map values_of R) ≡ sizes R
@@ -100,7 +74,7 @@ module _ {K V : Type 0} where
   sizes-values (r ∷ R) = λ i. length-map r (λ p. p.1) i ∷ sizes-values R i
 
   -- in a walk each place stands once
-  module _ (S : List (Slot (K × V))) (cs : List (Node (K × V))) (once : AreOnce (order S cs)) where
+  module _ (S : List (Node (K × V))) (cs : List (Node (K × V))) (once : AreOnce (order S cs)) where
     abbrev O : List ℕ
     O = order S cs
 
@@ -116,8 +90,8 @@ module _ {K V : Type 0} where
     abbrev pub in_memory : List V → List V
     in_memory ws = joined (refilled O (values_laid S cs) ws)
 
-    pub written-keys : (us : List V) → (slot_keys (slots_with S us) ≡ slot_keys S) × (node_keys (nodes_with S cs us) ≡ node_keys cs)
-    written-keys us = (slot_keys-put S (take (row_count slot_count S) us), node_keys-put cs (drop (row_count slot_count S) us))
+    pub written-keys : (us : List V) → (node_keys (slots_with S us) ≡ node_keys S) × (node_keys (nodes_with S cs us) ≡ node_keys cs)
+    written-keys us = (node_keys-put S (take (row_count node_count S) us), node_keys-put cs (drop (row_count node_count S) us))
 
     joined-written : (ws : List V) → length ws ≡ length (joined (rows_in S cs))
         → joined (rows_in (slots_with S (in_memory ws)) (nodes_with S cs (in_memory ws))) ≡ with_values (joined (rows_in S cs)) ws

@@ -7,4 +7,4 @@ pub returns-clause-slot : goal.returns-clause-slot
 returns-clause-slot g c =
     let some = capacity-positive c.args.slots c.requires in
     let same : c.args.slots - 1 + 1 ≡ c.args.slots = omega (arith, some) in
-    c.masked_index_of.ensures.slot ∙ ap (λ n. slot_number g.K.IntKey.number_of c.args.key.now n) same
+    (rw c.number.ensures.value at c.index_of_number.ensures.slot) ∙ ap (λ n. slot_number g.K.IntKey.number_of c.args.key.now n) same

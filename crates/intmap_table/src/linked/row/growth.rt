@@ -5,10 +5,9 @@ ghost use Rattle.intmap_table.specs.Tables.Growing.{place_in, put_in};
 ghost use Rattle.intmap_table.specs.Tables.Putting.{put_last};
 ghost use Rattle.intmap_table.specs.Tables.Rows.{put_second};
 
-use crate::linked::node::NOWHERE;
+use crate::linked::node::{NOWHERE, Node};
 use crate::linked::pool::Pool;
 use crate::linked::row::insertion::push_further;
-use crate::linked::slot::Slot;
 use std::alloc::Allocator;
 
 /// Where among the pairs of its slot a pair goes.
@@ -23,7 +22,7 @@ pub(crate) enum Order {
 /// the slot holds a pair, the pool has room for another.
 #[inline(always)]
 pub(crate) fn put_in<P, A: Allocator>(
-    slot: &mut Slot<P>,
+    slot: &mut Node<P>,
     pool: &mut Pool<P, A>,
     order: Order,
     pair: P,
@@ -49,7 +48,7 @@ pub(crate) fn put_in<P, A: Allocator>(
 
 /// Puts a pair last in a slot that holds some, and returns its place. There is room for it.
 #[inline(always)]
-fn put_last<P, A: Allocator>(slot: &mut Slot<P>, pool: &mut Pool<P, A>, pair: P) -> usize
+fn put_last<P, A: Allocator>(slot: &mut Node<P>, pool: &mut Pool<P, A>, pair: P) -> usize
     requires leads { IsSlot pool.old.nodes slot.old }
     requires filled { 0 < length (row_in pool.old.nodes slot.old) }
     requires ready { pool.old.held < pool.old.total }
@@ -67,7 +66,7 @@ fn put_last<P, A: Allocator>(slot: &mut Slot<P>, pool: &mut Pool<P, A>, pair: P)
 /// Puts a pair behind the first one of a slot that holds some, and returns its place. There is room
 /// for it.
 #[inline(never)]
-fn put_behind_first<P, A: Allocator>(slot: &mut Slot<P>, pool: &mut Pool<P, A>, pair: P) -> usize
+fn put_behind_first<P, A: Allocator>(slot: &mut Node<P>, pool: &mut Pool<P, A>, pair: P) -> usize
     requires leads { IsSlot pool.old.nodes slot.old }
     requires filled { 0 < length (row_in pool.old.nodes slot.old) }
     requires ready { pool.old.held < pool.old.total }
@@ -89,7 +88,7 @@ fn put_behind_first<P, A: Allocator>(slot: &mut Slot<P>, pool: &mut Pool<P, A>, 
 /// Puts a pair before the first one of a slot that holds some, and returns its place. There is room
 /// for it.
 #[inline(never)]
-fn put_before_first<P, A: Allocator>(slot: &mut Slot<P>, pool: &mut Pool<P, A>, pair: P) -> usize
+fn put_before_first<P, A: Allocator>(slot: &mut Node<P>, pool: &mut Pool<P, A>, pair: P) -> usize
     requires leads { IsSlot pool.old.nodes slot.old }
     requires filled { 0 < length (row_in pool.old.nodes slot.old) }
     requires ready { pool.old.held < pool.old.total }

@@ -3,14 +3,13 @@ ghost use Rattle.std.specs.Prelude.{◌≡◌, ◌+◌, ◌^◌, ◌<◌, ◌≤
 ghost use Rattle.std.specs.List.{AllZip};
 ghost use Rattle.intmap_table.specs.Classes.{slot_number};
 ghost use Rattle.intmap_table.specs.Cloning.{IsPairClone};
-ghost use Rattle.intmap_table.specs.Tables.Nodes.{Empty, chain_of, node_limit, nowhere, row_in, rows_in, AreLinked, IsChain, IsSlot};
+ghost use Rattle.intmap_table.specs.Tables.Nodes.{node_limit, nowhere, empty, chain_of, row_in, rows_in, AreLinked, IsChain, IsSlot};
 ghost use Rattle.intmap_table.specs.Tables.Rows.{AreRows, IsChainClone, IsRowClone};
 
 use crate::bits::{BITS, Bits};
 use crate::key::IntKey;
-use crate::linked::node::{NODE_LIMIT, NOWHERE};
+use crate::linked::node::{NODE_LIMIT, NOWHERE, Node};
 use crate::linked::pool::Pool;
-use crate::linked::slot::Slot;
 use crate::table::slots::{Slots, add_empty};
 use crate::table::stored::Stored;
 use std::alloc::{AllocError, Allocator};
@@ -65,40 +64,41 @@ fn clone_chain<K: IntKey, X: Clone, A: Allocator>(
     Ok(first)
 }
 
-/// A slot with clones of the pairs of another. Those behind the first one are put into new nodes of
-/// `made`.
+/// A slot with clones of the pairs of another, which holds some. Those behind the first one are put
+/// into new nodes of `made`.
 #[inline(always)]
 fn clone_slot<K: IntKey, X: Clone, A: Allocator>(
-    slot: &Slot<(Stored<K>, X)>,
+    slot: &Node<(Stored<K>, X)>,
     pool: &Pool<(Stored<K>, X), A>,
     made: &mut Pool<(Stored<K>, X), A>,
-) -> Result<Slot<(Stored<K>, X)>, AllocError>
+) -> Result<Node<(Stored<K>, X)>, AllocError>
     requires leads { IsSlot pool.now.nodes slot.now }
+    requires some { 0 < length (row_in pool.now.nodes slot.now) }
     requires none { made.old.held ≡ length made.old.nodes }
     ensures none { OnOk result (made.new.held ≡ length made.new.nodes) }
     ensures row { IfOk result (λ copy.
         IsRowClone X.is_clone (row_in pool.now.nodes slot.now) made.old made.new copy) }
 {
     let Some((link, pair)) = slot.get() else {
-        return Ok(Slot::empty());
+        unreachable!();
     };
     let copy = clone_pair(pair)?;
     if link >= NODE_LIMIT {
-        return Ok(Slot::filled(NOWHERE, copy));
+        return Ok(Node::held(NOWHERE, copy));
     }
     let link = clone_chain(pool, link, made)?;
-    Ok(Slot::filled(link, copy))
+    Ok(Node::held(link, copy))
 }
 
 /// Adds slots without a pair, 64 of them unless that is too many, if none has this index yet. There
 /// may be `count` slots, for which there is room.
 #[inline(always)]
-fn add_up_to<P: Drop, A: Allocator>(slots: &mut Vec<Slot<P>, A>, index: usize, count: usize)
+fn add_up_to<P: Drop, A: Allocator>(slots: &mut Vec<Node<P>, A>, index: usize, count: usize)
     requires within { index < count }
     requires limit { count ≤ 2 ^ 63 }
     requires few { length slots.old.items ≤ count }
     requires room { count ≤ vec_capacity slots.old }
-    ensures items { (n : ℕ) × (slots.new.items ≡ slots.old.items ++ replicate n Empty) }
+    ensures items { (n : ℕ) × (slots.new.items ≡ slots.old.items ++ replicate n empty) }
     ensures within { index < length slots.new.items }
     ensures few { length slots.new.items ≤ count }
     ensures capacity { vec_capacity slots.old ≤ vec_capacity slots.new }
@@ -111,9 +111,9 @@ fn add_up_to<P: Drop, A: Allocator>(slots: &mut Vec<Slot<P>, A>, index: usize, c
 /// Adds clones of all slots, for which there is room. The bits mark those that hold a pair.
 fn clone_rows<K: IntKey, X: Clone, A: Allocator>(
     bits: &Bits<A>,
-    slots: &[Slot<(Stored<K>, X)>],
+    slots: &[Node<(Stored<K>, X)>],
     pool: &Pool<(Stored<K>, X), A>,
-    made: &mut Vec<Slot<(Stored<K>, X)>, A>,
+    made: &mut Vec<Node<(Stored<K>, X)>, A>,
     nodes: &mut Pool<(Stored<K>, X), A>,
 ) -> Result<(), AllocError>
     requires rows { (mask : ℕ) × AreRows K.number_of slots.now pool.now bits.now mask }

@@ -13,8 +13,8 @@ ghost use Rattle.intmap_table.specs.Writes.{TakesPairMut, Writes, WritesAt};
 use crate::kept::Kept;
 use crate::key::IntKey;
 use crate::linked::closures;
+use crate::linked::node::Node;
 use crate::linked::pool::Pool;
-use crate::linked::slot::Slot;
 use crate::table::slots::Slots;
 use crate::table::slots::pairs::unmark_if;
 use crate::table::stored::Stored;
@@ -25,7 +25,7 @@ use std::alloc::Allocator;
 /// alone. Returns the word without the bits of the slots that the calls emptied.
 #[inline(always)]
 fn retain_marked<K: IntKey, V: Drop, A: Allocator, F: FnMut(K, &V) -> bool>(
-    slots: &mut Vec<Slot<(Stored<K>, Kept<V>)>, A>,
+    slots: &mut Vec<Node<(Stored<K>, Kept<V>)>, A>,
     pool: &mut Pool<(Stored<K>, Kept<V>), A>,
     from: usize,
     word: u64,

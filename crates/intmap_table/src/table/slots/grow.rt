@@ -6,18 +6,17 @@ ghost use Rattle.std.specs.Prelude.{◌≡◌, ◌==◌, ◌+◌, ◌*◌, ◌/�
 ghost use Rattle.intmap_table.specs.Classes.{IsCapacity, slot_number};
 ghost use Rattle.intmap_table.specs.Walk.{slot_of};
 ghost use Rattle.intmap_table.specs.declared.linked.row.growth.Order.TheVariants.{First, Second};
-ghost use Rattle.intmap_table.specs.Tables.Nodes.{chain_of, further, node_limit, row_in, rows_in, AreHome, AreLinked, Empty, IsChain, IsSlot, Spares};
+ghost use Rattle.intmap_table.specs.Tables.Nodes.{node_limit, empty, chain_of, further, row_in, rows_in, AreHome, AreLinked, IsChain, IsSlot, Spares};
 ghost use Rattle.intmap_table.specs.Tables.Growing.{blank};
 ghost use Rattle.intmap_table.specs.Tables.Rows.{row_at, AreRows, IsGrown, HasMoved};
 ghost use Rattle.intmap_table.specs.Tables.Slots.{joined, AreMarked};
 
 use crate::bits::Bits;
 use crate::key::IntKey;
-use crate::linked::chain::take_behind;
-use crate::linked::node::{NODE_LIMIT, NOWHERE};
+use crate::linked::chain::pop_front;
+use crate::linked::node::{NODE_LIMIT, NOWHERE, Node};
 use crate::linked::pool::Pool;
 use crate::linked::row::growth::Order;
-use crate::linked::slot::Slot;
 use crate::linked::turn::turn;
 use crate::steps::Steps;
 use crate::table::masked_index_of;
@@ -40,7 +39,7 @@ fn any_goes_to<K: IntKey, X, A: Allocator>(
 {
     let mut link = from;
     while let Some((next, pair)) = pool.get(link) {
-        if masked_index_of(pair.0.key(), mask) == target {
+        if masked_index_of(&pair.0, mask) == target {
             return true;
         }
         link = next;
@@ -50,7 +49,7 @@ fn any_goes_to<K: IntKey, X, A: Allocator>(
 
 /// Whether one of the pairs of a slot goes to slot `target` among `mask + 1`.
 fn goes_to<K: IntKey, X, A: Allocator>(
-    slot: &Slot<(Stored<K>, X)>,
+    slot: &Node<(Stored<K>, X)>,
     pool: &Pool<(Stored<K>, X), A>,
     mask: usize,
     target: usize,
@@ -63,7 +62,7 @@ fn goes_to<K: IntKey, X, A: Allocator>(
     let Some((link, first)) = slot.get() else {
         return false;
     };
-    if masked_index_of(first.0.key(), mask) == target {
+    if masked_index_of(&first.0, mask) == target {
         return true;
     }
     any_goes_to(pool, link, mask, target)
@@ -72,7 +71,7 @@ fn goes_to<K: IntKey, X, A: Allocator>(
 /// The slot of a key of old slot `index` in a table of `mask + 1` slots, a multiple of the old
 /// number. It is the old slot, or one behind the old ones.
 #[inline(always)]
-fn moved_index_of<K: IntKey>(key: &K, mask: usize, index: usize, old_mask: usize) -> usize
+fn moved_index_of<K: IntKey>(key: &Stored<K>, mask: usize, index: usize, old_mask: usize) -> usize
     requires grown { IsGrown (old_mask + 1) (mask + 1) }
     requires own { slot_number K.number_of key.now (old_mask + 1) ≡ index }
     ensures slot { slot_number K.number_of key.now (mask + 1) ≡ result }
@@ -104,7 +103,7 @@ fn further_order(first_target: usize, target: usize) -> Order
 /// one that haven't moved.
 #[inline(always)]
 fn move_row<K: IntKey, X, A: Allocator>(
-    slots: &mut Vec<Slot<(Stored<K>, X)>, A>,
+    slots: &mut Vec<Node<(Stored<K>, X)>, A>,
     bits: &mut Bits<A>,
     pool: &mut Pool<(Stored<K>, X), A>,
     old_pool: &mut Pool<(Stored<K>, X), A>,
@@ -118,50 +117,50 @@ fn move_row<K: IntKey, X, A: Allocator>(
     requires grown { IsGrown (old_mask + 1) (mask + 1) }
     requires old { index ≤ old_mask }
     requires within { index < length slots.old.items }
-    requires leads { IsSlot old_pool.old.nodes (slice_index_or slots.old.items index Empty) }
+    requires leads { IsSlot old_pool.old.nodes (slice_index_or slots.old.items index empty) }
     requires some { 0
-        < length (row_in old_pool.old.nodes (slice_index_or slots.old.items index Empty)) }
+        < length (row_in old_pool.old.nodes (slice_index_or slots.old.items index empty)) }
     requires own { AreHome (λ p. slot_number K.number_of p.0 (old_mask + 1)) index
-        (row_in old_pool.old.nodes (slice_index_or slots.old.items index Empty)) }
+        (row_in old_pool.old.nodes (slice_index_or slots.old.items index empty)) }
     requires are { AreRows K.number_of (blank index (old_mask + 1) slots.old.items) pool.old
         bits.old mask }
     requires free { (j : ℕ) → j % (old_mask + 1) ≡ index → slice_index_or
         (rows_in (blank index (old_mask + 1) slots.old.items) pool.old.nodes) j [] ≡ [] }
     requires room { pool.old.held + length
-        (row_in old_pool.old.nodes (slice_index_or slots.old.items index Empty))
+        (row_in old_pool.old.nodes (slice_index_or slots.old.items index empty))
         ≤ pool.old.total + 1 }
     ensures are { AreRows K.number_of (blank (index + 1) (old_mask + 1) slots.new.items) pool.new
         bits.new mask }
     ensures placed { (L : List (K × X)) → HasMoved K.number_of L (mask + 1)
         (rows_in (blank index (old_mask + 1) slots.old.items) pool.old.nodes)
         → HasMoved K.number_of
-        (L ++ row_in old_pool.old.nodes (slice_index_or slots.old.items index Empty)) (mask + 1)
+        (L ++ row_in old_pool.old.nodes (slice_index_or slots.old.items index empty)) (mask + 1)
         (rows_in (blank (index + 1) (old_mask + 1) slots.new.items) pool.new.nodes) }
     ensures from { from.new ≡ index + 1 }
     ensures len { length slots.new.items ≡ length slots.old.items }
     ensures left { (j : ℕ) → index < j → j ≤ old_mask
-        → slice_index_or slots.new.items j Empty ≡ slice_index_or slots.old.items j Empty }
+        → slice_index_or slots.new.items j empty ≡ slice_index_or slots.old.items j empty }
     ensures spares { Spares old_pool.old.nodes old_pool.new.nodes
-        (row_in old_pool.old.nodes (slice_index_or slots.old.items index Empty)) }
+        (row_in old_pool.old.nodes (slice_index_or slots.old.items index empty)) }
     ensures held { pool.new.held + 1 ≤ pool.old.held
-        + length (row_in old_pool.old.nodes (slice_index_or slots.old.items index Empty)) }
+        + length (row_in old_pool.old.nodes (slice_index_or slots.old.items index empty)) }
     ensures total { pool.old.total ≤ pool.new.total }
     ensures counted { placed.new ≡ placed.old
-        + length (row_in old_pool.old.nodes (slice_index_or slots.old.items index Empty)) }
+        + length (row_in old_pool.old.nodes (slice_index_or slots.old.items index empty)) }
 {
     let Some((link, first)) = slots[index].get() else {
         unreachable!();
     };
-    let first_target = moved_index_of(first.0.key(), mask, index, old_mask);
-    let first = slots[index].take();
+    let first_target = moved_index_of(&first.0, mask, index, old_mask);
+    let (_, first) = slots[index].take();
     *from = index + 1;
     put_at(slots, bits, pool, first_target, Order::First, first, placed);
     *rest = turn(old_pool, link);
     while *rest < NODE_LIMIT {
         let next = old_pool.pair(*rest);
-        let target = moved_index_of(next.0.key(), mask, index, old_mask);
+        let target = moved_index_of(&next.0, mask, index, old_mask);
         let order = further_order(first_target, target);
-        let pair = take_behind(rest, old_pool);
+        let pair = pop_front(rest, old_pool);
         put_at(slots, bits, pool, target, order, pair, placed);
     }
 }
@@ -171,7 +170,7 @@ fn move_row<K: IntKey, X, A: Allocator>(
 /// The old slots from `from` on haven't moved, and `rest` leads through what is left of the one
 /// before. The crate for Rust reads both if a key's `number` panics, and moves the pairs back.
 fn move_rows<K: IntKey, X, A: Allocator>(
-    slots: &mut Vec<Slot<(Stored<K>, X)>, A>,
+    slots: &mut Vec<Node<(Stored<K>, X)>, A>,
     bits: &mut Bits<A>,
     pool: &mut Pool<(Stored<K>, X), A>,
     old_bits: &Bits<A>,

@@ -5,10 +5,9 @@ ghost use Rattle.intmap_table.specs.Tables.Slots.{joined};
 
 use crate::bits::{Bits, MarksLeft};
 use crate::key::IntKey;
-use crate::linked::chain::take_behind;
-use crate::linked::node::{NODE_LIMIT, NOWHERE};
+use crate::linked::chain::pop_front;
+use crate::linked::node::{NODE_LIMIT, NOWHERE, Node};
 use crate::linked::pool::Pool;
-use crate::linked::slot::Slot;
 use crate::table::slots::Slots;
 use crate::table::stored::Stored;
 use std::alloc::Allocator;
@@ -22,7 +21,7 @@ pub(crate) struct IntoRows<K: IntKey, X, A: Allocator> {
     from: usize,
     left: MarksLeft,
     bits: Bits<A>,
-    slots: Vec<Slot<(Stored<K>, X)>, A>,
+    slots: Vec<Node<(Stored<K>, X)>, A>,
     pool: Pool<(Stored<K>, X), A>,
 }
 
@@ -70,10 +69,10 @@ impl<K: IntKey, X, A: Allocator> IntoRows<K, X, A> {
         ensures { YieldsFirst (λ rest. rest) self.old result self.new }
     {
         if self.link < NODE_LIMIT {
-            return Some(take_behind(&mut self.link, &mut self.pool));
+            return Some(pop_front(&mut self.link, &mut self.pool));
         }
         let index = self.bits.next_in(&mut self.left, self.from)?;
-        let (link, pair) = self.slots[index].leave();
+        let (link, pair) = self.slots[index].take();
         self.link = link;
         self.from = index + 1;
         Some(pair)

@@ -3,18 +3,17 @@ ghost use Rattle.std.specs.Prelude.{◌≡◌, ◌+◌, ◌<◌, ◌≤◌, ℕ,
 ghost use Rattle.intmap_table.specs.Bindings.{swap_out, value_of};
 ghost use Rattle.intmap_table.specs.Classes.{same_key, slot_number};
 ghost use Rattle.intmap_table.specs.Reach.{through_first};
-ghost use Rattle.intmap_table.specs.Tables.Nodes.{Empty, Filled, further};
+ghost use Rattle.intmap_table.specs.Tables.Nodes.{Held, empty, further};
 ghost use Rattle.intmap_table.specs.Tables.Putting.{put_last};
 ghost use Rattle.intmap_table.specs.Tables.Rows.{row_at};
 
 use crate::bits::Bits;
 use crate::key::IntKey;
-use crate::linked::node::{NODE_LIMIT, NOWHERE};
+use crate::linked::node::{NODE_LIMIT, NOWHERE, Node};
 use crate::linked::row::{self, insertion, removal};
-use crate::linked::slot::Slot;
 use crate::steps::Steps;
 use crate::table::slots::Slots;
-use crate::table::stored::Stored;
+use crate::table::stored::{Sought, Stored};
 use std::alloc::Allocator;
 
 /// Clears the bit of a slot if it holds no pair.
@@ -30,16 +29,16 @@ pub(super) fn unmark_if<A: Allocator>(bits: &mut Bits<A>, is_empty: bool, index:
 
 /// Removes the only pair of a slot, and clears the bit of the slot.
 #[inline(always)]
-fn take_only<P, A: Allocator>(slot: &mut Slot<P>, bits: &mut Bits<A>, index: usize) -> P
-    requires filled { (l : ℕ) × (p : P) × (slot.old ≡ Filled l p) }
+fn take_only<P, A: Allocator>(slot: &mut Node<P>, bits: &mut Bits<A>, index: usize) -> P
+    requires filled { (l : ℕ) × (p : P) × (slot.old ≡ Held l p) }
     requires within { index < length bits.old }
-    ensures pair { (l : ℕ) × (slot.old ≡ Filled l result) }
-    ensures slot { slot.new ≡ Empty }
+    ensures pair { (l : ℕ) × (slot.old ≡ Held l result) }
+    ensures slot { slot.new ≡ empty }
     ensures bits { bits.new ≡ slice_set bits.old index false }
 {
     // read before the slot is written, so that the write can't delay it
     let word = bits.word(index);
-    let pair = slot.take();
+    let (_, pair) = slot.take();
     bits.clear_in(word, index);
     pair
 }
@@ -101,7 +100,7 @@ impl<K: IntKey, X, A: Allocator> Slots<K, X, A> {
     /// Whether the first pair of a slot has the key. If there is a first pair, its key is compared,
     /// which is one step.
     #[inline(always)]
-    pub(crate) fn first_is(&self, index: usize, key: &K, steps: &mut Steps) -> bool
+    pub(crate) fn first_is(&self, index: usize, key: &Sought<K>, steps: &mut Steps) -> bool
         requires { index < length self.now.rows }
         ensures value { MatchBool result
             (position (λ p. same_key K.number_of key.now p.0) (row_at self.now index) ≡ Some 0)
@@ -144,7 +143,7 @@ impl<K: IntKey, X, A: Allocator> Slots<K, X, A> {
             unreachable!();
         };
         if link < NODE_LIMIT {
-            return removal::take_of_several(slot, link, &mut self.pool, place);
+            return removal::swap_remove_of_several(slot, link, &mut self.pool, place);
         }
         take_only(slot, &mut self.bits, index)
     }
@@ -153,7 +152,7 @@ impl<K: IntKey, X, A: Allocator> Slots<K, X, A> {
     /// takes its place. The keys are compared from the front, up to the one sought. Each comparison
     /// is one step.
     #[inline(always)]
-    pub(crate) fn remove(&mut self, index: usize, key: K, steps: &mut Steps) -> Option<X>
+    pub(crate) fn remove(&mut self, index: usize, key: Sought<K>, steps: &mut Steps) -> Option<X>
         requires { index < length self.old.rows }
         ensures value { result ≡ value_of K.number_of (row_at self.old index) key }
         ensures rows { self.new.rows ≡ set self.old.rows index (swap_out
@@ -204,65 +203,39 @@ impl<K: IntKey, X, A: Allocator> Slots<K, X, A> {
         insertion::replace_first(&mut self.slots[index], &mut self.pool, new)
     }
 
-    /// Replaces the pair of a key by one with this value, if it is behind the first one of its slot.
-    /// The last pair of the slot takes its place, and the new one is put last. It returns the old
-    /// value, or the new one if the key isn't there.
-    pub(crate) fn replace_further(
-        &mut self,
-        index: usize,
-        key: K,
-        value: X,
-        steps: &mut Steps,
-    ) -> Result<X, X>
-        requires within { index < length self.old.rows }
-        requires own { slot_number K.number_of key (length self.old.rows) ≡ index }
-        requires other { value_of K.number_of (take 1 (row_at self.old index)) key ≡ None }
-        ensures value { IfOk result
-            (λ old. value_of K.number_of (row_at self.old index) key ≡ Some old) }
-        ensures rows { OnOk result (self.new.rows ≡ set self.old.rows index
-            (put_last K.number_of (row_at self.old index) key value)) }
-        ensures known { OnOk result (K.is_valid key) }
-        ensures missing { OnErr result (value_of K.number_of (row_at self.old index) key ≡ None) }
-        ensures err { OnErr result (self.new ≡ self.old) }
-        ensures value_returned { IfErr result (λ returned. returned ≡ value) }
-        ensures total { self.new.total ≡ self.old.total }
-        ensures counted { steps.new ≡ steps.old + length (through_first
-            (λ p. same_key K.number_of key p.0) (drop 1 (row_at self.old index))) }
-    {
-        let slot = &mut self.slots[index];
-        let old = insertion::replace_further(slot, &mut self.pool, key, value, steps)?;
-        Ok(old)
-    }
-
-    /// Puts the pair of a key and a value last in a slot whose first pair has another key. If the
-    /// key is present, the last pair of the slot takes the place of its pair, and the old value is
-    /// returned. If an allocation fails, the value is returned.
+    /// Puts the pair of a key and a value last in a slot whose first pair, if there is one, has
+    /// another key. If the key is present, the last pair takes the place of its pair, and the old
+    /// value is returned. An absent key is added only if `adds` is true. If it isn't added, or if an
+    /// allocation fails, the value is returned.
     #[inline(always)]
     pub(crate) fn put(
         &mut self,
         index: usize,
-        key: K,
+        key: Sought<K>,
         value: X,
+        adds: bool,
         steps: &mut Steps,
     ) -> Result<Option<X>, X>
-        requires some { 0 < length (row_at self.old index) }
+        requires within { index < length self.old.rows }
+        requires some { adds ≡ true → 0 < length (row_at self.old index) }
         requires own { slot_number K.number_of key (length self.old.rows) ≡ index }
         requires other { value_of K.number_of (take 1 (row_at self.old index)) key ≡ None }
         ensures value { IfOk result
             (λ old. old ≡ value_of K.number_of (row_at self.old index) key) }
         ensures rows { OnOk result (self.new.rows ≡ set self.old.rows index
             (put_last K.number_of (row_at self.old index) key value)) }
-        ensures known { K.is_valid key }
+        ensures known { OnOk result (K.is_valid key) }
+        ensures adds { IfOk result (λ old. old ≡ None → adds ≡ true) }
         ensures missing { OnErr result (value_of K.number_of (row_at self.old index) key ≡ None) }
         ensures err { OnErr result (self.new ≡ self.old) }
         ensures value_returned { IfErr result (λ returned. returned ≡ value) }
         ensures total { self.old.total ≤ self.new.total }
-        ensures succeeds { further self.old.rows < self.old.total → IsOk result }
+        ensures succeeds { adds ≡ true → further self.old.rows < self.old.total → IsOk result }
         ensures counted { steps.new ≡ steps.old + length (through_first
             (λ p. same_key K.number_of key p.0) (drop 1 (row_at self.old index))) }
     {
         let slot = &mut self.slots[index];
-        let old = insertion::put(slot, &mut self.pool, key, value, steps)?;
+        let old = insertion::put(slot, &mut self.pool, key, value, adds, steps)?;
         Ok(old)
     }
 
@@ -279,7 +252,7 @@ impl<K: IntKey, X, A: Allocator> Slots<K, X, A> {
             unreachable!();
         };
         if link < NODE_LIMIT {
-            return removal::take_first_of_several(slot, link, &mut self.pool);
+            return removal::pop_front_of_several(slot, link, &mut self.pool);
         }
         take_only(slot, &mut self.bits, index)
     }

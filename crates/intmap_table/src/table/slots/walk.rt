@@ -4,8 +4,8 @@ ghost use Rattle.std.specs.Iterator.{YieldsFirstBy, item_count};
 
 use crate::bits::Indices;
 use crate::key::IntKey;
+use crate::linked::node::Node;
 use crate::linked::pool::Pool;
-use crate::linked::slot::Slot;
 use crate::table::stored::Stored;
 use std::alloc::{AllocError, Allocator};
 use std::marker::Model;
@@ -16,7 +16,7 @@ use std::marker::Model;
 pub struct Pairs<'a, K: IntKey, X, A: Allocator> {
     pub(super) link: usize,
     pub(super) filled: Indices<'a>,
-    pub(super) slots: &'a [Slot<(Stored<K>, X)>],
+    pub(super) slots: &'a [Node<(Stored<K>, X)>],
     pub(super) pool: &'a Pool<(Stored<K>, X), A>,
 }
 

@@ -1,5 +1,5 @@
 //! A value of one slot is lent to be written, at a place or by its key, and all pairs are dropped.
-ghost use Rattle.std.specs.Prelude.{◌≡◌, ◌+◌, ◌<◌, ◌≤◌, [], ℕ, length, slice_index_or};
+ghost use Rattle.std.specs.Prelude.{◌≡◌, ◌+◌, ◌<◌, [], ℕ, length, slice_index_or};
 ghost use Rattle.intmap_table.specs.Bindings.{value_of};
 ghost use Rattle.intmap_table.specs.Classes.{same_key, slot_number};
 ghost use Rattle.intmap_table.specs.Reach.{through_first};
@@ -10,31 +10,31 @@ ghost use Rattle.intmap_table.specs.Tables.Slots.{AreMarked};
 use crate::bits::Bits;
 use crate::kept::Kept;
 use crate::key::IntKey;
-use crate::linked::chain::{node_in, seek};
+use crate::linked::chain::{search, seek};
+use crate::linked::node::Node;
 use crate::linked::pool::Pool;
 use crate::linked::row::removal;
-use crate::linked::slot::Slot;
 use crate::steps::Steps;
 use crate::table::slots::{Slots, add_empty};
-use crate::table::stored::Stored;
+use crate::table::stored::{Sought, Stored};
 use std::alloc::Allocator;
 use std::mem;
 
 /// Drops the pairs of a slot, from its front.
-fn drop_row<P: Drop, A: Allocator>(slot: &mut Slot<P>, pool: &mut Pool<P, A>)
+fn drop_row<P: Drop, A: Allocator>(slot: &mut Node<P>, pool: &mut Pool<P, A>)
     requires { IsSlot pool.old.nodes slot.old }
     ensures row { IsSlotSet pool.old slot.old [] pool.new slot.new }
     ensures total { pool.new.total ≡ pool.old.total }
 {
-    while !slot.is_empty() {
-        removal::take_front(slot, pool);
+    while let Some((link, _)) = slot.get() {
+        removal::pop_front(slot, link, pool);
     }
 }
 
 /// Drops the pairs of all slots, slot after slot. The bits mark those that hold a pair.
 fn drop_rows<K: IntKey, X: Drop, A: Allocator>(
     bits: &Bits<A>,
-    slots: &mut Vec<Slot<(Stored<K>, X)>, A>,
+    slots: &mut Vec<Node<(Stored<K>, X)>, A>,
     pool: &mut Pool<(Stored<K>, X), A>,
 )
     requires marks { AreMarked (rows_in slots.old.items pool.old.nodes) bits.now }
@@ -87,7 +87,7 @@ impl<K: IntKey, V, A: Allocator> Slots<K, Kept<V>, A> {
     pub(crate) fn value_mut_of(
         &mut self,
         index: usize,
-        key: &K,
+        key: &Sought<K>,
         steps: &mut Steps,
     ) -> Option<&mut V>
         requires { index < length self.old.rows }
@@ -104,10 +104,10 @@ impl<K: IntKey, V, A: Allocator> Slots<K, Kept<V>, A> {
         if first.0.matches(key, steps) {
             return Some(self.slots[index].value_mut().get_mut());
         }
-        let Some(at) = node_in(&self.pool, link, key, steps) else {
+        let Ok(spot) = search(&self.pool, link, key, steps) else {
             return None;
         };
-        Some(self.pool.value_mut(at).get_mut())
+        Some(self.pool.value_mut(spot.at).get_mut())
     }
 }
 

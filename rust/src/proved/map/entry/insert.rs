@@ -5,6 +5,7 @@ use crate::memory::prelude::*;
 use crate::proved::map::entry::{Entry, OccupiedEntry, VacantEntry};
 use crate::proved::map::refusal::Refused;
 use crate::proved::table::IntKey;
+use crate::proved::table::table::stored::Sought;
 use crate::memory::alloc::Allocator;
 impl<'a, K: IntKey, V, A: Allocator + Copy> VacantEntry<'a, K, V, A> {
     /// Inserts the pair of the key and the value as [`insert`](VacantEntry::insert) does, and
@@ -12,7 +13,7 @@ impl<'a, K: IntKey, V, A: Allocator + Copy> VacantEntry<'a, K, V, A> {
     #[inline(always)]
     pub fn insert_entry(self, value: V) -> Result<OccupiedEntry<'a, K, V, A>, Refused<V>> {
         let VacantEntry { map, key, slot } = self;
-        let at = match map.add(slot, key, value) {
+        let at = match map.add(slot, Sought::new(key), value) {
             Ok(at) => at,
             Err(refused) => return Err(refused),
         };

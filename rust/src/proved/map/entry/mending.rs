@@ -8,6 +8,7 @@ use crate::memory::alloc::Allocator;
 use crate::proved::map::map::IntMap;
 use crate::proved::table::IntKey;
 use crate::proved::table::table::locate::Location;
+use crate::proved::table::table::stored::Sought;
 
 /// Where a pair lies: its slot, and its place there from the front.
 pub struct Place {
@@ -58,7 +59,7 @@ impl<'a, K: IntKey, V, A: Allocator + Copy> VacantEntry<'a, K, V, A> {
     pub fn insert_first(self, value: V) -> Result<&'a mut V, (Self, V)> {
         let VacantEntry { map, key, slot } = self;
         if map.takes_first(slot) {
-            map.add_first(slot, key, value);
+            map.add_first(slot, Sought::new(key), value);
             return Ok(map.value_mut_in(slot, 0));
         }
         Err((VacantEntry { map, key, slot }, value))

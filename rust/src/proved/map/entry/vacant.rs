@@ -5,6 +5,7 @@ use crate::proved::map::entry::VacantEntry;
 use crate::proved::map::map::IntMap;
 use crate::proved::map::refusal::Refused;
 use crate::proved::table::IntKey;
+use crate::proved::table::table::stored::Sought;
 use crate::memory::alloc::Allocator;
 
 impl<'a, K: IntKey, V, A: Allocator + Copy> VacantEntry<'a, K, V, A> {

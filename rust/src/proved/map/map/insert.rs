@@ -7,6 +7,7 @@ use crate::proved::map::refusal::{Cause, Refused};
 use crate::proved::table::IntKey;
 use crate::proved::table::kept::Kept;
 use crate::proved::table::table::locate::Location;
+use crate::proved::table::table::stored::Sought;
 use crate::memory::alloc::Allocator;
 
 /// Where the pair of a key can be put at once: into its slot, which holds no pair, or into the place
@@ -36,7 +37,8 @@ impl<K: IntKey, V, A: Allocator + Copy> IntMap<K, V, A> {
     /// changes.
     #[inline(always)]
     pub fn insert(&mut self, key: K, value: V) -> Result<Option<V>, Refused<V>> {
-        match self.spot_for(key) {
+        let key = Sought::new(key);
+        match self.spot_for(&key) {
             Spot::Vacant(slot) => {
                 self.add_first(slot, key, value);
                 Ok(None)
@@ -49,12 +51,12 @@ impl<K: IntKey, V, A: Allocator + Copy> IntMap<K, V, A> {
     /// Where the pair of a key can be put at once. If the slot of the key holds a pair, the first
     /// one there is compared.
     #[inline(always)]
-    pub(in crate::proved::map) fn spot_for(&mut self, key: K) -> Spot {
-        let slot = self.table.slot_of(&key);
+    pub(in crate::proved::map) fn spot_for(&mut self, key: &Sought<K>) -> Spot {
+        let slot = self.table.slot_of(key);
         if self.takes_first(slot) {
             return Spot::Vacant(slot);
         }
-        if self.table.first_is(slot, &key, &mut self.compared) {
+        if self.table.first_is(slot, key, &mut self.compared) {
             return Spot::First(slot);
         }
         Spot::Other(slot)
@@ -74,7 +76,7 @@ impl<K: IntKey, V, A: Allocator + Copy> IntMap<K, V, A> {
 
     /// Adds the pair of a key to its slot, which holds none. The map needn't grow.
     #[inline(always)]
-    pub(in crate::proved::map) fn add_first(&mut self, slot: usize, key: K, value: V) {
+    pub(in crate::proved::map) fn add_first(&mut self, slot: usize, key: Sought<K>, value: V) {
         self.table.fill(slot, key, Kept::new(value));
         self.len += 1;
     }
@@ -83,7 +85,7 @@ impl<K: IntKey, V, A: Allocator + Copy> IntMap<K, V, A> {
     /// The last pair of the slot takes its place, and the pair of the key and this value is put
     /// last. It allocates nothing.
     #[inline(always)]
-    pub(in crate::proved::map) fn replace_first(&mut self, slot: usize, key: K, value: V) -> V {
+    pub(in crate::proved::map) fn replace_first(&mut self, slot: usize, key: Sought<K>, value: V) -> V {
         self.table
             .replace_first(slot, key, Kept::new(value))
             .into_value()
@@ -95,53 +97,34 @@ impl<K: IntKey, V, A: Allocator + Copy> IntMap<K, V, A> {
     pub(in crate::proved::map) fn insert_otherwise(
         &mut self,
         slot: usize,
-        key: K,
+        key: Sought<K>,
         value: V,
     ) -> Result<Option<V>, Refused<V>> {
-        if !self.takes_one_more() {
-            return self.insert_growing(slot, key, value);
-        }
+        let adds = self.takes_one_more();
+        let again = key.copied();
         match self
             .table
-            .put(slot, key, Kept::new(value), &mut self.compared)
+            .put(slot, key, Kept::new(value), adds, &mut self.compared)
         {
             Ok(Some(old)) => Ok(Some(old.into_value())),
             Ok(None) => {
                 self.len += 1;
                 Ok(None)
             }
-            Err(kept) => Err(Refused {
-                value: kept.into_value(),
-                cause: Cause::Memory,
-            }),
+            Err(kept) => {
+                let value = kept.into_value();
+                if adds {
+                    return Err(Refused {
+                        value,
+                        cause: Cause::Memory,
+                    });
+                }
+                match self.add_growing(slot, again, value) {
+                    Ok(_) => Ok(None),
+                    Err(refused) => Err(refused),
+                }
+            }
         }
-    }
-
-    /// Inserts the pair of a key and a value as `insert_otherwise` does, if a new key makes the map
-    /// grow.
-    fn insert_growing(&mut self, slot: usize, key: K, value: V) -> Result<Option<V>, Refused<V>> {
-        let value = match self.replace_further(slot, key, value) {
-            Ok(old) => return Ok(Some(old)),
-            Err(value) => value,
-        };
-        if let Err(refused) = self.add_growing(slot, key, value) {
-            return Err(refused);
-        }
-        Ok(None)
-    }
-
-    /// Replaces the pair of a key, if it is behind the first one of its slot, and returns the old
-    /// value. If the key is absent, it returns the new value, and only the count of compared keys
-    /// changes.
-    fn replace_further(&mut self, slot: usize, key: K, value: V) -> Result<V, V> {
-        let kept = match self
-            .table
-            .replace_further(slot, key, Kept::new(value), &mut self.compared)
-        {
-            Ok(old) => return Ok(old.into_value()),
-            Err(kept) => kept,
-        };
-        Err(kept.into_value())
     }
 
     /// Inserts the pair if the key is absent, and returns whether it inserted it. If the key is
@@ -149,7 +132,8 @@ impl<K: IntKey, V, A: Allocator + Copy> IntMap<K, V, A> {
     ///
     /// For a new key it does what [`insert`](IntMap::insert) does, and fails as that does.
     pub fn insert_checked(&mut self, key: K, value: V) -> Result<bool, Refused<V>> {
-        let Err(slot) = self.locate(key) else {
+        let key = Sought::new(key);
+        let Err(slot) = self.locate(&key) else {
             return Ok(false);
         };
         if let Err(refused) = self.add(slot, key, value) {
@@ -160,7 +144,12 @@ impl<K: IntKey, V, A: Allocator + Copy> IntMap<K, V, A> {
 
     /// Adds the pair of an absent key in its slot, and returns where it is. It compares no key.
     #[inline(always)]
-    pub(in crate::proved::map) fn add(&mut self, slot: usize, key: K, value: V) -> Result<Location<K>, Refused<V>> {
+    pub(in crate::proved::map) fn add(
+        &mut self,
+        slot: usize,
+        key: Sought<K>,
+        value: V,
+    ) -> Result<Location<K>, Refused<V>> {
         if !self.takes_one_more() {
             // taken apart, since the compiler otherwise writes the location byte by byte
             match self.add_growing(slot, key, value) {
@@ -183,7 +172,12 @@ impl<K: IntKey, V, A: Allocator + Copy> IntMap<K, V, A> {
     /// Adds the pair of an absent key, if the slots don't take one more, and returns where it is.
     /// All memory is allocated before a pair moves.
     #[inline(never)]
-    fn add_growing(&mut self, slot: usize, key: K, value: V) -> Result<Location<K>, Refused<V>> {
+    fn add_growing(
+        &mut self,
+        slot: usize,
+        key: Sought<K>,
+        value: V,
+    ) -> Result<Location<K>, Refused<V>> {
         if self.len == usize::MAX {
             return Err(Refused {
                 value,

@@ -4,38 +4,18 @@ use crate::memory::prelude::*;
 use crate::proved::table::kept::Kept;
 use crate::proved::table::key::IntKey;
 use crate::proved::table::linked::chain::seek_behind;
-use crate::proved::table::linked::node::{NODE_LIMIT, NOWHERE};
+use crate::proved::table::linked::node::{NODE_LIMIT, NOWHERE, Node};
 use crate::proved::table::linked::pool::Pool;
 use crate::proved::table::linked::row::removal;
-use crate::proved::table::linked::slot::Slot;
 use crate::proved::table::table::closure_calls::keeps_pair;
 use crate::proved::table::table::stored::Stored;
 use crate::memory::alloc::Allocator;
-
-/// Removes the pair of node `at`, which is behind the first pair of a slot. The link to this node
-/// is in node `before`, or in the slot if `before` is no node. This link then leads to `next`.
-#[inline(always)]
-fn unlink<P, A: Allocator>(
-    slot: &mut Slot<P>,
-    pool: &mut Pool<P, A>,
-    before: usize,
-    at: usize,
-    next: usize,
-) -> P {
-    let pair = pool.release(at);
-    if before >= NODE_LIMIT {
-        slot.set_link(next);
-        return pair;
-    }
-    pool.set_link(before, next);
-    pair
-}
 
 /// Keeps the pairs behind the first one of a slot for which the closure returns true, in their
 /// order.
 #[inline(never)]
 fn retain_behind<K: IntKey, V, A: Allocator, F: FnMut(K, &V) -> bool>(
-    slot: &mut Slot<(Stored<K>, Kept<V>)>,
+    slot: &mut Node<(Stored<K>, Kept<V>)>,
     link: usize,
     pool: &mut Pool<(Stored<K>, Kept<V>), A>,
     f: &mut F,
@@ -46,7 +26,7 @@ fn retain_behind<K: IntKey, V, A: Allocator, F: FnMut(K, &V) -> bool>(
         if keeps_pair(pair, f) {
             before = at;
         } else {
-            unlink(slot, pool, before, at, next);
+            removal::unlink(slot, pool, before, at);
         }
         at = next;
     }
@@ -56,7 +36,7 @@ fn retain_behind<K: IntKey, V, A: Allocator, F: FnMut(K, &V) -> bool>(
 /// called once at each pair, from the front, and a pair is unlinked at once when it returns false.
 #[inline(always)]
 pub(in crate::proved::table) fn retain<K: IntKey, V, A: Allocator, F: FnMut(K, &V) -> bool>(
-    slot: &mut Slot<(Stored<K>, Kept<V>)>,
+    slot: &mut Node<(Stored<K>, Kept<V>)>,
     pool: &mut Pool<(Stored<K>, Kept<V>), A>,
     f: &mut F,
 ) {
@@ -67,13 +47,13 @@ pub(in crate::proved::table) fn retain<K: IntKey, V, A: Allocator, F: FnMut(K, &
             }
             return;
         }
-        removal::take_front_linked(slot, link, pool);
+        removal::pop_front(slot, link, pool);
     }
 }
 
 /// Calls the closure at each pair of a slot in turn, with a mutable reference to its value.
 pub(in crate::proved::table) fn write_each<K: IntKey, V, A: Allocator, F: FnMut(K, &mut V)>(
-    slot: &mut Slot<(Stored<K>, Kept<V>)>,
+    slot: &mut Node<(Stored<K>, Kept<V>)>,
     pool: &mut Pool<(Stored<K>, Kept<V>), A>,
     f: &mut F,
 ) {
@@ -93,7 +73,7 @@ pub(in crate::proved::table) fn write_each<K: IntKey, V, A: Allocator, F: FnMut(
 /// them.
 #[inline(never)]
 fn extract_behind<K: IntKey, V, A: Allocator, F: FnMut(K, &mut V) -> bool>(
-    slot: &mut Slot<(Stored<K>, Kept<V>)>,
+    slot: &mut Node<(Stored<K>, Kept<V>)>,
     link: usize,
     pool: &mut Pool<(Stored<K>, Kept<V>), A>,
     place: &mut usize,
@@ -102,7 +82,7 @@ fn extract_behind<K: IntKey, V, A: Allocator, F: FnMut(K, &mut V) -> bool>(
     let (mut before, mut at) = seek_behind(pool, link, *place - 1);
     while let Some((next, _)) = pool.get(at) {
         if pool.pick(at, f) {
-            return Some(unlink(slot, pool, before, at, next));
+            return Some(removal::unlink(slot, pool, before, at));
         }
         before = at;
         at = next;
@@ -115,7 +95,7 @@ fn extract_behind<K: IntKey, V, A: Allocator, F: FnMut(K, &mut V) -> bool>(
 /// picks. Those behind it move up, and the place moves on to the first of them.
 #[inline(always)]
 pub(in crate::proved::table) fn extract<K: IntKey, V, A: Allocator, F: FnMut(K, &mut V) -> bool>(
-    slot: &mut Slot<(Stored<K>, Kept<V>)>,
+    slot: &mut Node<(Stored<K>, Kept<V>)>,
     pool: &mut Pool<(Stored<K>, Kept<V>), A>,
     place: &mut usize,
     f: &mut F,
@@ -127,7 +107,7 @@ pub(in crate::proved::table) fn extract<K: IntKey, V, A: Allocator, F: FnMut(K, 
         return extract_behind(slot, link, pool, place, f);
     }
     if slot.pick(f) {
-        return Some(removal::take_front_linked(slot, link, pool));
+        return Some(removal::pop_front(slot, link, pool));
     }
     *place = 1;
     if link >= NODE_LIMIT {

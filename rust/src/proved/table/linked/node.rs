@@ -1,4 +1,4 @@
-//! One node, and links.
+//! One node, which is a place for a pair, and links. A slot is a node, and so is what a pool has.
 
 use crate::memory::prelude::*;
 use crate::proved::table::kept::Kept;
@@ -41,17 +41,36 @@ enum NodeForm<P> {
     Held(u16, u32, P),
 }
 
-/// A place for a pair behind the first one of its slot.
+/// A place for a pair. A slot is one, with the first of its pairs, and a pool has more, with those
+/// behind the first ones. One that holds a pair has the link to the node behind it. In a pool one
+/// that holds none has the link to the next such node; in a slot nobody reads that link.
 pub(in crate::proved::table) struct Node<P> {
     form: NodeForm<P>,
 }
 
 impl<P> Node<P> {
+    /// A node without a pair, as a slot is made.
+    #[inline(always)]
+    pub(in crate::proved::table) fn empty() -> Node<P> {
+        Node {
+            form: NodeForm::Free(0, 0),
+        }
+    }
+
     /// A node with a pair, and the link to the node behind it.
     #[inline(always)]
     pub(in crate::proved::table) fn held(link: usize, pair: P) -> Node<P> {
         Node {
             form: NodeForm::Held(high_part(link), low_part(link), pair),
+        }
+    }
+
+    /// Whether it holds no pair.
+    #[inline(always)]
+    pub(in crate::proved::table) fn is_empty(&self) -> bool {
+        match &self.form {
+            NodeForm::Free(_, _) => true,
+            NodeForm::Held(_, _, _) => false,
         }
     }
 
@@ -110,6 +129,15 @@ impl<P> Node<P> {
         let form = NodeForm::Free(high_part(free), low_part(free));
         match mem::replace(&mut self.form, form) {
             NodeForm::Held(_, _, pair) => pair,
+            NodeForm::Free(_, _) => unreachable!(),
+        }
+    }
+
+    /// Removes the pair of a slot and the link with it, and returns both.
+    #[inline(always)]
+    pub(in crate::proved::table) fn take(&mut self) -> (usize, P) {
+        match mem::replace(&mut self.form, NodeForm::Free(0, 0)) {
+            NodeForm::Held(high, low, pair) => (link_of(high, low), pair),
             NodeForm::Free(_, _) => unreachable!(),
         }
     }

@@ -7,19 +7,19 @@ pub(in crate::proved::table) mod removal;
 
 use crate::memory::prelude::*;
 use crate::proved::table::key::IntKey;
-use crate::proved::table::linked::chain::{chain_len, find_in, node_in, seek};
+use crate::proved::table::linked::chain::{last_in, search, seek};
+use crate::proved::table::linked::node::Node;
 use crate::proved::table::linked::pool::Pool;
-use crate::proved::table::linked::slot::Slot;
 use crate::proved::table::steps::Steps;
-use crate::proved::table::table::stored::Stored;
+use crate::proved::table::table::stored::{Sought, Stored};
 use crate::memory::alloc::Allocator;
 
 /// The place of the key's pair. The keys are compared from the front, up to the one sought.
 #[inline(always)]
 pub(in crate::proved::table) fn find<K: IntKey, X, A: Allocator>(
-    slot: &Slot<(Stored<K>, X)>,
+    slot: &Node<(Stored<K>, X)>,
     pool: &Pool<(Stored<K>, X), A>,
-    key: &K,
+    key: &Sought<K>,
     steps: &mut Steps,
 ) -> Option<usize> {
     let Some((link, first)) = slot.get() else {
@@ -28,18 +28,18 @@ pub(in crate::proved::table) fn find<K: IntKey, X, A: Allocator>(
     if first.0.matches(key, steps) {
         return Some(0);
     }
-    let Some(place) = find_in(pool, link, key, steps) else {
+    let Ok(spot) = search(pool, link, key, steps) else {
         return None;
     };
-    Some(place + 1)
+    Some(spot.place + 1)
 }
 
 /// The key's pair. The keys are compared from the front, up to the one sought.
 #[inline(always)]
 pub(in crate::proved::table) fn pair_of<'a, K: IntKey, X, A: Allocator>(
-    slot: &'a Slot<(Stored<K>, X)>,
+    slot: &'a Node<(Stored<K>, X)>,
     pool: &'a Pool<(Stored<K>, X), A>,
-    key: &K,
+    key: &Sought<K>,
     steps: &mut Steps,
 ) -> Option<&'a (Stored<K>, X)> {
     let Some((link, first)) = slot.get() else {
@@ -48,18 +48,18 @@ pub(in crate::proved::table) fn pair_of<'a, K: IntKey, X, A: Allocator>(
     if first.0.matches(key, steps) {
         return Some(first);
     }
-    let Some(at) = node_in(pool, link, key, steps) else {
+    let Ok(spot) = search(pool, link, key, steps) else {
         return None;
     };
-    Some(pool.pair(at))
+    Some(pool.pair(spot.at))
 }
 
 /// Whether the first pair has the key. If there is a first pair, its key is compared.
 #[inline(always)]
 pub(in crate::proved::table) fn first_is<K: IntKey, X, A: Allocator>(
-    slot: &Slot<(Stored<K>, X)>,
+    slot: &Node<(Stored<K>, X)>,
     _pool: &Pool<(Stored<K>, X), A>,
-    key: &K,
+    key: &Sought<K>,
     steps: &mut Steps,
 ) -> bool {
     match slot.get() {
@@ -69,9 +69,9 @@ pub(in crate::proved::table) fn first_is<K: IntKey, X, A: Allocator>(
 }
 
 /// The number of pairs.
-pub(in crate::proved::table) fn len<P, A: Allocator>(slot: &Slot<P>, pool: &Pool<P, A>) -> usize {
+pub(in crate::proved::table) fn len<P, A: Allocator>(slot: &Node<P>, pool: &Pool<P, A>) -> usize {
     match slot.get() {
-        Some((link, _)) => chain_len(pool, link) + 1,
+        Some((link, _)) => last_in(pool, link).1 + 1,
         None => 0,
     }
 }
@@ -79,7 +79,7 @@ pub(in crate::proved::table) fn len<P, A: Allocator>(slot: &Slot<P>, pool: &Pool
 /// The pair at a place.
 #[inline(always)]
 pub(in crate::proved::table) fn pair_at<'a, P, A: Allocator>(
-    slot: &'a Slot<P>,
+    slot: &'a Node<P>,
     pool: &'a Pool<P, A>,
     place: usize,
 ) -> &'a P {

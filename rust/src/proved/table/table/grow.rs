@@ -4,7 +4,7 @@ use crate::memory::prelude::*;
 use crate::proved::table::key::IntKey;
 use crate::proved::table::steps::Steps;
 use crate::proved::table::table::locate::Location;
-use crate::proved::table::table::stored::Stored;
+use crate::proved::table::table::stored::{Sought, Stored};
 use crate::proved::table::table::{Table, index_of};
 use crate::memory::alloc::{AllocError, Allocator};
 
@@ -16,12 +16,12 @@ impl<K: IntKey, X, A: Allocator + Copy> Table<K, X, A> {
         &mut self,
         capacity: usize,
         slot: usize,
-        key: K,
+        key: Sought<K>,
         value: X,
         placed: &mut Steps,
     ) -> Result<Location<K>, X> {
         let target = index_of(&key, capacity);
-        let pair = (Stored::new(key), value);
+        let pair = (Stored::new(key.copied()), value);
         let pushed = self
             .slots
             .grow_and_push(capacity, slot, target, pair, placed);
@@ -30,7 +30,7 @@ impl<K: IntKey, X, A: Allocator + Copy> Table<K, X, A> {
             Err((_, value)) => return Err(value),
         };
         Ok(Location {
-            key,
+            key: key.key(),
             slot: target,
             place,
         })

@@ -6,7 +6,7 @@ use crate::proved::table::key::IntKey;
 use crate::proved::table::steps::Steps;
 use crate::proved::table::table::Table;
 use crate::proved::table::table::closure_calls::hand_value;
-use crate::proved::table::table::stored::Stored;
+use crate::proved::table::table::stored::{Sought, Stored};
 use crate::memory::alloc::Allocator;
 
 /// Where the pair of a key is: its slot, and its place there from the front.
@@ -21,18 +21,23 @@ impl<K: IntKey, X, A: Allocator> Table<K, X, A> {
     /// Where the pair of the key is, or the slot of the key if the key is absent. The keys of the
     /// slot are compared from the front, up to the one sought. Each comparison is one step.
     #[inline(always)]
-    pub fn locate(&self, key: K, steps: &mut Steps) -> Result<Location<K>, usize> {
-        let slot = self.index_of(&key);
-        let Some(place) = self.slots.find(slot, &key, steps) else {
+    pub fn locate(&self, key: &Sought<K>, steps: &mut Steps) -> Result<Location<K>, usize> {
+        let slot = self.index_of(key);
+        let Some(place) = self.slots.find(slot, key, steps) else {
             return Err(slot);
         };
-        Ok(Location { key, slot, place })
+        Ok(Location {
+            key: key.key(),
+            slot,
+            place,
+        })
     }
 
     /// The pair of the key, or `None` if the key is absent. The keys are compared as by
     /// [`locate`](Table::locate).
     #[inline(always)]
     pub fn pair_of(&self, key: K, steps: &mut Steps) -> Option<(&K, &X)> {
+        let key = Sought::new(key);
         let slot = self.index_of(&key);
         let Some(pair) = self.slots.pair_of(slot, &key, steps) else {
             return None;
@@ -71,6 +76,7 @@ impl<K: IntKey, X, A: Allocator> Table<K, X, A> {
     /// to the one sought. Each comparison is one step.
     #[inline(always)]
     pub fn remove(&mut self, key: K, steps: &mut Steps) -> Option<X> {
+        let key = Sought::new(key);
         let slot = self.index_of(&key);
         self.slots.remove(slot, key, steps)
     }
@@ -81,6 +87,7 @@ impl<K: IntKey, V, A: Allocator> Table<K, Kept<V>, A> {
     /// compared as by [`locate`](Table::locate).
     #[inline(always)]
     pub fn value_mut_of(&mut self, key: K, steps: &mut Steps) -> Option<&mut V> {
+        let key = Sought::new(key);
         let slot = self.index_of(&key);
         self.slots.value_mut_of(slot, &key, steps)
     }
@@ -94,7 +101,8 @@ impl<K: IntKey, V, A: Allocator> Table<K, Kept<V>, A> {
         match hand_value(kept, f) {
             Ok(handed) => Some(handed),
             Err(back) => {
-                self.slots.put_back(at.slot, (Stored::new(at.key), back));
+                self.slots
+                    .put_back(at.slot, (Stored::new(Sought::new(at.key)), back));
                 None
             }
         }

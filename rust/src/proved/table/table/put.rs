@@ -5,13 +5,13 @@ use crate::memory::prelude::*;
 use crate::proved::table::key::IntKey;
 use crate::proved::table::steps::Steps;
 use crate::proved::table::table::Table;
-use crate::proved::table::table::stored::Stored;
+use crate::proved::table::table::stored::{Sought, Stored};
 use crate::memory::alloc::Allocator;
 
 impl<K: IntKey, X, A: Allocator> Table<K, X, A> {
     /// The slot of the key.
     #[inline(always)]
-    pub fn slot_of(&self, key: &K) -> usize {
+    pub fn slot_of(&self, key: &Sought<K>) -> usize {
         self.index_of(key)
     }
 
@@ -23,14 +23,14 @@ impl<K: IntKey, X, A: Allocator> Table<K, X, A> {
 
     /// Puts the pair of a key into its slot, which holds none. It allocates nothing.
     #[inline(always)]
-    pub fn fill(&mut self, slot: usize, key: K, value: X) {
+    pub fn fill(&mut self, slot: usize, key: Sought<K>, value: X) {
         self.slots.fill(slot, (Stored::new(key), value));
     }
 
     /// Whether the first pair of the key's slot has the key. If there is a first pair, its key is
     /// compared, which is one step.
     #[inline(always)]
-    pub fn first_is(&self, slot: usize, key: &K, steps: &mut Steps) -> bool {
+    pub fn first_is(&self, slot: usize, key: &Sought<K>, steps: &mut Steps) -> bool {
         self.slots.first_is(slot, key, steps)
     }
 
@@ -38,33 +38,26 @@ impl<K: IntKey, X, A: Allocator> Table<K, X, A> {
     /// takes its place, and the pair of the key and this value is put last. It returns the old
     /// value, and allocates nothing.
     #[inline(always)]
-    pub fn replace_first(&mut self, slot: usize, key: K, value: X) -> X {
+    pub fn replace_first(&mut self, slot: usize, key: Sought<K>, value: X) -> X {
         let (_, old) = self.slots.replace_first(slot, (Stored::new(key), value));
         old
     }
 
-    /// Replaces the value of a key, if its pair is behind the first one of its slot: the last pair
-    /// of the slot takes the place of the old pair, and the new one is put last. It returns the old
-    /// value, or the new one if the key is absent. It compares keys from the second pair on, up to
-    /// the one sought, and allocates nothing.
-    pub fn replace_further(
-        &mut self,
-        slot: usize,
-        key: K,
-        value: X,
-        steps: &mut Steps,
-    ) -> Result<X, X> {
-        let old = self.slots.replace_further(slot, key, value, steps)?;
-        Ok(old)
-    }
-
-    /// Puts the pair of a key and a value last in its slot, whose first pair has another key. If
-    /// the key is present, the last pair of the slot takes the place of the old pair, and the old
-    /// value is returned. If an allocation fails, the value is returned and nothing changes. It
+    /// Puts the pair of a key and a value last in its slot, whose first pair, if there is one, has
+    /// another key. If the key is present, the last pair of the slot takes the place of the old
+    /// pair, and the old value is returned. An absent key is added only if `adds` is true. If it
+    /// isn't added, or if an allocation fails, the value is returned and nothing changes. It
     /// compares keys from the second pair on, up to the one sought.
     #[inline(always)]
-    pub fn put(&mut self, slot: usize, key: K, value: X, steps: &mut Steps) -> Result<Option<X>, X> {
-        let old = self.slots.put(slot, key, value, steps)?;
+    pub fn put(
+        &mut self,
+        slot: usize,
+        key: Sought<K>,
+        value: X,
+        adds: bool,
+        steps: &mut Steps,
+    ) -> Result<Option<X>, X> {
+        let old = self.slots.put(slot, key, value, adds, steps)?;
         Ok(old)
     }
 }

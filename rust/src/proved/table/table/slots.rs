@@ -19,12 +19,11 @@ mod writing;
 use crate::memory::prelude::*;
 use crate::proved::table::bits::{Bits, MarksLeft};
 use crate::proved::table::key::IntKey;
-use crate::proved::table::linked::node::NOWHERE;
+use crate::proved::table::linked::node::{NOWHERE, Node};
 use crate::proved::table::linked::pool::Pool;
 use crate::proved::table::linked::row;
-use crate::proved::table::linked::slot::Slot;
 use crate::proved::table::steps::Steps;
-use crate::proved::table::table::stored::Stored;
+use crate::proved::table::table::stored::{Sought, Stored};
 use crate::memory::alloc::{AllocError, Allocator};
 use walk::Pairs;
 
@@ -34,7 +33,7 @@ pub(in crate::proved::table) struct Slots<K, X, A: Allocator> {
     /// Their number less one: a mask with exactly the bits that the number of a slot may have.
     mask: usize,
     bits: Bits<A>,
-    slots: Vec<Slot<(Stored<K>, X)>, A>,
+    slots: Vec<Node<(Stored<K>, X)>, A>,
     pool: Pool<(Stored<K>, X), A>,
 }
 
@@ -68,7 +67,7 @@ impl<K: IntKey, X, A: Allocator> Slots<K, X, A> {
     /// The place of the key's pair in a slot. The keys are compared from the front, up to the one
     /// sought. Each comparison is one step.
     #[inline(always)]
-    pub(in crate::proved::table) fn find(&self, index: usize, key: &K, steps: &mut Steps) -> Option<usize> {
+    pub(in crate::proved::table) fn find(&self, index: usize, key: &Sought<K>, steps: &mut Steps) -> Option<usize> {
         row::find(&self.slots[index], &self.pool, key, steps)
     }
 
@@ -78,7 +77,7 @@ impl<K: IntKey, X, A: Allocator> Slots<K, X, A> {
     pub(in crate::proved::table) fn pair_of(
         &self,
         index: usize,
-        key: &K,
+        key: &Sought<K>,
         steps: &mut Steps,
     ) -> Option<&(Stored<K>, X)> {
         row::pair_of(&self.slots[index], &self.pool, key, steps)
@@ -139,8 +138,8 @@ impl<K: IntKey, X, A: Allocator> Slots<K, X, A> {
 
 /// Adds slots without a pair, so that there are `count`. There is room for them.
 #[inline(never)]
-fn add_empty<P, A: Allocator>(slots: &mut Vec<Slot<P>, A>, count: usize) {
-    let make = || -> Slot<P> { Slot::empty() };
+fn add_empty<P, A: Allocator>(slots: &mut Vec<Node<P>, A>, count: usize) {
+    let make = || -> Node<P> { Node::empty() };
     if slots.resize_with(count, make).is_err() {
         unreachable!();
     }

@@ -11,12 +11,49 @@ pub struct Stored<K> {
     key: K,
 }
 
-impl<K: IntKey> Stored<K> {
-    /// Stores a key.
+/// A key that is looked for, with its number, which is asked for once.
+pub struct Sought<K> {
+    key: K,
+    number: u64,
+}
+
+impl<K: IntKey> Sought<K> {
+    /// The key, once its number is known.
     #[inline(always)]
-    pub(in crate::proved::table) fn new(key: K) -> Stored<K> {
-        let _number = key.number();
-        Stored { key }
+    pub fn new(key: K) -> Sought<K> {
+        Sought {
+            key,
+            number: key.number(),
+        }
+    }
+
+    /// The key.
+    #[inline(always)]
+    pub fn key(&self) -> K {
+        self.key
+    }
+
+    /// A copy of the key, with the number that is known.
+    #[inline(always)]
+    pub fn copied(&self) -> Sought<K> {
+        Sought {
+            key: self.key,
+            number: self.number,
+        }
+    }
+
+    /// Its number.
+    #[inline(always)]
+    pub(in crate::proved::table) fn number(&self) -> u64 {
+        self.number
+    }
+}
+
+impl<K: IntKey> Stored<K> {
+    /// Stores a key that was looked for.
+    #[inline(always)]
+    pub(in crate::proved::table) fn new(key: Sought<K>) -> Stored<K> {
+        Stored { key: key.key }
     }
 
     /// A copy of the stored key. It counts no step, since nothing is compared.
@@ -27,9 +64,9 @@ impl<K: IntKey> Stored<K> {
 
     /// Whether this is the sought key. It counts one step.
     #[inline(always)]
-    pub(in crate::proved::table) fn matches(&self, key: &K, steps: &mut Steps) -> bool {
+    pub(in crate::proved::table) fn matches(&self, key: &Sought<K>, steps: &mut Steps) -> bool {
         steps.tick();
-        self.key.number() == key.number()
+        self.key.number() == key.number
     }
 
     /// The key, to be returned or to compute its slot.

@@ -10,7 +10,7 @@ use Rattle.intmap.proofs.entry.VacantEntry.insert.Goals as goal
 
 pub returns-in-Err : goal.returns-in-Err
 returns-in-Err g c =
-    let due = c.in-Err.ensures.refused in (
+    let due = rw c.new.ensures.value at c.in-Err.ensures.refused in (
       ap (λ m. inr m) c.in-Err.ensures.err,
       record {
         writes_back = tt;
@@ -26,19 +26,19 @@ returns-in-Err g c =
 pub value_mut_in-requires : goal.value_mut_in-requires
 value_mut_in-requires g c =
     let told = c.in-Ok.ensures in
-    IsFound-located_in g.K.IntKey.number_of g.K.IntKey.is_valid g.met.K.IntKey.number_injective c.add.new.self c.args.self.key c.in-Ok.at c.add.ensures.valid_after told.known told.key told.at
+    IsFound-located_in g.K.IntKey.number_of g.K.IntKey.is_valid g.met.K.IntKey.number_injective c.add.new.self c.args.self.key c.in-Ok.at c.add.ensures.valid_after (rw c.new.ensures.value at told.known) (rw c.new.ensures.value at told.key) told.at
 
 pub returns : goal.returns
 returns g c =
     let number = g.K.IntKey.number_of in let valid = g.K.IntKey.is_valid in let n : MapState g.row.K.Denot g.row.V.Denot = c.add.new.self in
     let m : MapState g.row.K.Denot g.row.V.Denot = c.args.self.map.now in let k = c.args.self.key in let told = c.in-Ok.ensures in
-    let after = written-added number valid m n k c.args.value c.args.self.missing c.add.ensures.valid told.inserted told.state in (
-      ap (λ f. inl (c.value_mut_in.result.ghost_name, f)) (fun_ext (λ v. written-located_in number valid g.met.K.IntKey.number_injective n k c.in-Ok.at c.add.ensures.valid_after told.known told.key told.at v ∙ after v)),
+    let after = written-added number valid m n k c.args.value c.args.self.missing c.add.ensures.valid (rw c.new.ensures.value at told.inserted) (rw c.new.ensures.value at told.state) in (
+      ap (λ f. inl (c.value_mut_in.result.ghost_name, f)) (fun_ext (λ v. written-located_in number valid g.met.K.IntKey.number_injective n k c.in-Ok.at c.add.ensures.valid_after (rw c.new.ensures.value at told.known) (rw c.new.ensures.value at told.key) told.at v ∙ after v)),
       record {
         writes_back = tt;
-        value = let found = value_of-located_in number valid g.met.K.IntKey.number_injective n k c.in-Ok.at c.add.ensures.valid_after told.known told.key told.at c.value_mut_in.result.now c.value_mut_in.ensures.value in let is = told.inserted.updates.1 in cc;
+        value = let found = value_of-located_in number valid g.met.K.IntKey.number_injective n k c.in-Ok.at c.add.ensures.valid_after (rw c.new.ensures.value at told.known) (rw c.new.ensures.value at told.key) told.at c.value_mut_in.result.now c.value_mut_in.ensures.value in let is = (rw c.new.ensures.value at told.inserted).updates.1 in cc;
         absent = c.args.self.missing;
-        inserted = IsInsertion-lent number valid m n k c.args.value c.args.self.missing c.add.ensures.valid told.inserted told.state;
+        inserted = IsInsertion-lent number valid m n k c.args.value c.args.self.missing c.add.ensures.valid (rw c.new.ensures.value at told.inserted) (rw c.new.ensures.value at told.state);
         value_returned = tt;
         refused = tt;
         succeeds = λ free. refl;

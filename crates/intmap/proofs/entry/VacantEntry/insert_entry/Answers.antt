@@ -12,7 +12,7 @@ use Rattle.intmap.proofs.entry.VacantEntry.insert_entry.Goals.{In-Ok}
 
 pub returns-in-Err : goal.returns-in-Err
 returns-in-Err g c =
-    let due = c.in-Err.ensures.refused in (
+    let due = rw c.new.ensures.value at c.in-Err.ensures.refused in (
       (refl, (λ w. tt), c.in-Err.ensures.err),
       record {
         written = tt;
@@ -28,7 +28,7 @@ returns-in-Err g c =
 pub invariant_of-result : goal.invariant_of-result
 invariant_of-result g c =
     let told = c.in-Ok.ensures in
-    record { found = IsFound-located_in g.K.IntKey.number_of g.K.IntKey.is_valid g.met.K.IntKey.number_injective c.add.new.self c.args.self.key c.in-Ok.at c.add.ensures.valid_after told.known told.key told.at }
+    record { found = IsFound-located_in g.K.IntKey.number_of g.K.IntKey.is_valid g.met.K.IntKey.number_injective c.add.new.self c.args.self.key c.in-Ok.at c.add.ensures.valid_after (rw c.new.ensures.value at told.known) (rw c.new.ensures.value at told.key) told.at }
 
 pub returns : goal.returns
 returns g c =
@@ -36,16 +36,16 @@ returns g c =
     let m : MapState g.row.K.Denot g.row.V.Denot = c.args.self.map.now in
     let k = c.args.self.key in
     let told = c.in-Ok.ensures in
-    let same = next_capacity-inserted number g.K.IntKey.is_valid m c.add.new.self k c.args.value c.args.self.missing c.add.ensures.valid c.in-Ok.ensures.inserted in (
+    let same = next_capacity-inserted number g.K.IntKey.is_valid m c.add.new.self k c.args.value c.args.self.missing c.add.ensures.valid (rw c.new.ensures.value at c.in-Ok.ensures.inserted) in (
       (refl, (λ w. refl), tt),
       record {
         written = record {
           same_reference = refl;
-          map = c.in-Ok.ensures.state ∙ ap (with_pair number m k c.args.value) same;
-          key = the_key-same _ (Some k) _ refl (key_at-located_in number g.K.IntKey.is_valid g.met.K.IntKey.number_injective c.add.new.self k c.in-Ok.at c.add.ensures.valid_after told.known told.key told.at);
+          map = (rw c.new.ensures.value at c.in-Ok.ensures.state) ∙ ap (with_pair number m k c.args.value) same;
+          key = the_key-same _ (Some k) _ refl (key_at-located_in number g.K.IntKey.is_valid g.met.K.IntKey.number_injective c.add.new.self k c.in-Ok.at c.add.ensures.valid_after (rw c.new.ensures.value at told.known) (rw c.new.ensures.value at told.key) told.at);
         };
         absent = c.args.self.missing;
-        inserted = c.in-Ok.ensures.inserted;
+        inserted = (rw c.new.ensures.value at c.in-Ok.ensures.inserted);
         err = tt;
         value_returned = tt;
         refused = tt;

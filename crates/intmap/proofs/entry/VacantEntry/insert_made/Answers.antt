@@ -19,28 +19,28 @@ returns-in-Err-add g c =
         err = inr (record {
           refused = c.in-Err-add.refused;
           value = ap Ok told.value_returned ∙ sym c.in-Ok.is;
-          due = told.refused;
+          due = (rw c.new.ensures.value at told.refused);
           error = c.from.ensures;
         });
-        succeeds = λ free. absurd (NeedsNoMemory-never_refused g.K.IntKey.number_of (entry_list (Vacant c.args.self)) c.args.self.key c.add.ensures.valid.capacity free c.in-Err-add.refused.cause told.refused);
+        succeeds = λ free. absurd (NeedsNoMemory-never_refused g.K.IntKey.number_of (entry_list (Vacant c.args.self)) c.args.self.key c.add.ensures.valid.capacity free c.in-Err-add.refused.cause (rw c.new.ensures.value at told.refused));
       },
     )
 
 pub value_mut_in-requires : goal.value_mut_in-requires
 value_mut_in-requires g c =
     let told = c.in-Ok-add.ensures in
-    IsFound-located_in g.K.IntKey.number_of g.K.IntKey.is_valid g.met.K.IntKey.number_injective c.add.new.self c.args.self.key c.in-Ok-add.at c.add.ensures.valid_after told.known told.key told.at
+    IsFound-located_in g.K.IntKey.number_of g.K.IntKey.is_valid g.met.K.IntKey.number_injective c.add.new.self c.args.self.key c.in-Ok-add.at c.add.ensures.valid_after (rw c.new.ensures.value at told.known) (rw c.new.ensures.value at told.key) told.at
 
 pub returns : goal.returns
 returns g c =
     let number = g.K.IntKey.number_of in let valid = g.K.IntKey.is_valid in let n : MapState g.row.K.Denot g.row.V.Denot = c.add.new.self in
     let m : MapState g.row.K.Denot g.row.V.Denot = c.args.self.map.now in let k = c.args.self.key in let told = c.in-Ok-add.ensures in
-    let after = written-added number valid m n k c.in-Ok.value c.args.self.missing c.add.ensures.valid told.inserted told.state in (
-      ap (λ f. inl (c.value_mut_in.result.ghost_name, f)) (fun_ext (λ v. written-located_in number valid g.met.K.IntKey.number_injective n k c.in-Ok-add.at c.add.ensures.valid_after told.known told.key told.at v ∙ after v)),
+    let after = written-added number valid m n k c.in-Ok.value c.args.self.missing c.add.ensures.valid (rw c.new.ensures.value at told.inserted) (rw c.new.ensures.value at told.state) in (
+      ap (λ f. inl (c.value_mut_in.result.ghost_name, f)) (fun_ext (λ v. written-located_in number valid g.met.K.IntKey.number_injective n k c.in-Ok-add.at c.add.ensures.valid_after (rw c.new.ensures.value at told.known) (rw c.new.ensures.value at told.key) told.at v ∙ after v)),
       record {
         writes_back = tt;
-        value = c.in-Ok.is ∙ ap Ok (let found = value_of-located_in number valid g.met.K.IntKey.number_injective n k c.in-Ok-add.at c.add.ensures.valid_after told.known told.key told.at c.value_mut_in.result.now c.value_mut_in.ensures.value in let is = told.inserted.updates.1 in cc);
-        inserted = IsInsertion-lent number valid m n k c.in-Ok.value c.args.self.missing c.add.ensures.valid told.inserted told.state;
+        value = c.in-Ok.is ∙ ap Ok (let found = value_of-located_in number valid g.met.K.IntKey.number_injective n k c.in-Ok-add.at c.add.ensures.valid_after (rw c.new.ensures.value at told.known) (rw c.new.ensures.value at told.key) told.at c.value_mut_in.result.now c.value_mut_in.ensures.value in let is = (rw c.new.ensures.value at told.inserted).updates.1 in cc);
+        inserted = IsInsertion-lent number valid m n k c.in-Ok.value c.args.self.missing c.add.ensures.valid (rw c.new.ensures.value at told.inserted) (rw c.new.ensures.value at told.state);
         err = tt;
         succeeds = λ free. tt;
       },

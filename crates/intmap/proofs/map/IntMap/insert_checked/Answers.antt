@@ -10,10 +10,10 @@ use Rattle.intmap.proofs.map.IntMap.insert_checked.Goals as goal
 -- the key is present
 pub returns-in_default : goal.returns-in_default
 returns-in_default g c =
-    let had = some_from (value_of g.K.IntKey.number_of c.args.self.now.walk c.args.key) (sym c.locate.ensures.bound ∙ ap is_ok c.in_default.is) in
+    rw (← c.new-key.ensures.value) (let had = some_from (value_of g.K.IntKey.number_of c.args.self.now.walk c.new-key.result) (sym c.locate.ensures.bound ∙ ap is_ok c.in_default.is) in
     rw (had.1, c.locate.ensures.state) record {
       new = refl;
-      inserted = IsInsertion-kept g.K.IntKey.number_of g.K.IntKey.is_valid c.args.self.now _ c.args.key had.0 had.1 refl refl c.locate.ensures.valid;
+      inserted = IsInsertion-kept g.K.IntKey.number_of g.K.IntKey.is_valid c.args.self.now _ c.new-key.result had.0 had.1 refl refl c.locate.ensures.valid;
       state = refl;
       err = tt;
       value_returned = tt;
@@ -21,13 +21,13 @@ returns-in_default g c =
       succeeds = λ free. refl;
       valid = c.locate.ensures.valid;
       valid_after = c.locate.ensures.valid;
-    }
+    })
 
 -- it is absent, and its insertion failed
 pub returns-in-Err-add : goal.returns-in-Err-add
 returns-in-Err-add g c =
-    let told = c.in-Err-add.ensures in let found = c.in-Err.ensures in
-    let due = RefusalIsDue-searched g.K.IntKey.number_of c.args.self.now c.args.key c.args.key c.in-Err-add.refused.cause (rw found.state at told.refused) in
+    rw (← c.new-key.ensures.value) (let told = c.in-Err-add.ensures in let found = c.in-Err.ensures in
+    let due = RefusalIsDue-searched g.K.IntKey.number_of c.args.self.now c.new-key.result c.new-key.result c.in-Err-add.refused.cause (rw found.state at told.refused) in
     record {
       new = tt;
       inserted = tt;
@@ -35,18 +35,18 @@ returns-in-Err-add g c =
       err = told.err ∙ found.state;
       value_returned = told.value_returned;
       refused = due;
-      succeeds = λ free. absurd (NeedsNoMemory-never_refused g.K.IntKey.number_of (list_of c.args.self.now) c.args.key found.valid.capacity free c.in-Err-add.refused.cause due);
+      succeeds = λ free. absurd (NeedsNoMemory-never_refused g.K.IntKey.number_of (list_of c.args.self.now) c.new-key.result found.valid.capacity free c.in-Err-add.refused.cause due);
       valid = found.valid;
       valid_after = c.add.ensures.valid_after;
-    }
+    })
 
 -- or did not
 pub returns : goal.returns
 returns g c =
-    let told = c.in_default-add.ensures in let found = c.in-Err.ensures in
+    rw (← c.new-key.ensures.value) (let told = c.in_default-add.ensures in let found = c.in-Err.ensures in
     rw found.missing record {
       new = refl;
-      inserted = IsInsertion-searched g.K.IntKey.number_of g.K.IntKey.is_valid c.args.self.now c.add.new.self c.args.key c.args.key c.args.value (rw found.state at told.inserted);
+      inserted = IsInsertion-searched g.K.IntKey.number_of g.K.IntKey.is_valid c.args.self.now c.add.new.self c.new-key.result c.new-key.result c.args.value (rw found.state at told.inserted);
       state = rw found.state at told.state;
       err = tt;
       value_returned = tt;
@@ -54,4 +54,4 @@ returns g c =
       succeeds = λ free. refl;
       valid = found.valid;
       valid_after = c.add.ensures.valid_after;
-    }
+    })

@@ -4,12 +4,13 @@ use Rattle.intmap.specs.Spots.{TakesOneMore}
 use Rattle.intmap.proofs.InsertionLemmas.{IsInsertion-added, IsInsertion-replaced}
 use Rattle.intmap.proofs.RefusalLemmas.{RefusalIsDue-memory}
 use Rattle.intmap.proofs.MapLemmas.{placed-same, IsConsistent-replaced}
-use Rattle.intmap.proofs.SpotLemmas.{IsConsistent-one_more, MapState-counted}
+use Rattle.intmap.proofs.SpotLemmas.{IsConsistent-one_more, MapState-counted, RefusalIsDue-counted}
 use Rattle.intmap.proofs.map.IntMap.insert_otherwise.Goals as goal
-use Rattle.intmap.proofs.map.IntMap.insert_otherwise.Goals.{After-put, In-Ok-Some, In-Ok-None}
+use Rattle.intmap.proofs.map.IntMap.insert_otherwise.Goals.{In-Ok-Some, In-Ok-None}
 
-takes : (g : _) (c : After-put g) → TakesOneMore c.self.inside.table.walk c.self.inside.table.capacity c.self.inside.factor
-takes g c = rw (← c.self.view_is) at c.if-not-takes_one_more.ensures
+-- an absent key was added, so the slots took one more
+takes : (g : _) (c : In-Ok-None g) → TakesOneMore c.self.inside.table.walk c.self.inside.table.capacity c.self.inside.factor
+takes g c = rw (c.in-Ok-None.ensures.adds c.in-Ok-None.field-0-is, ← c.self.view_is) at c.takes_one_more-adds.ensures
 
 -- the key is present
 bound : (g : _) (c : In-Ok-Some g) → value_of g.K.IntKey.number_of c.self.inside.table.walk c.args.key ≡ Some c.in-Ok-Some.old
@@ -41,11 +42,11 @@ returns-in-Ok-Some-clause-valid_after g c = (invariant_of-self g c).map
 pub invariant_of-self-in-Ok-None : goal.invariant_of-self-in-Ok-None
 invariant_of-self-in-Ok-None g c =
     let at = goal.at.invariant_of-self-in-Ok-None g c in let told = c.in-Ok-None.ensures in
-    IsConsistent-one_more _ _ _ _ _ _ _ _ c.self.invariant c.put.new.self.capacity c.args.key c.new.result told.capacity told.known (missing g at.In-Ok-None) (takes g at.After-put) told.walk
+    IsConsistent-one_more _ _ _ _ _ _ _ _ c.self.invariant c.put.new.self.capacity c.args.key c.new.result told.capacity told.known (missing g at.In-Ok-None) (takes g at.In-Ok-None) told.walk
 
 pub returns-in-Ok-None-clause-inserted : goal.returns-in-Ok-None-clause-inserted
 returns-in-Ok-None-clause-inserted g c =
-    let at = goal.at.returns-in-Ok-None-clause-inserted g c in let told = c.in-Ok-None.ensures in let more = takes g at.After-put in
+    let at = goal.at.returns-in-Ok-None-clause-inserted g c in let told = c.in-Ok-None.ensures in let more = takes g at.In-Ok-None in
     rw (← c.self.view_is) (IsInsertion-added g.K.IntKey.number_of g.K.IntKey.is_valid _ _ c.args.key c.args.value (missing g at.In-Ok-None) c.self.invariant.map (invariant_of-self-in-Ok-None g c).map (rw told.capacity (rw c.new.ensures at told.walk))
     more.count (rw told.capacity more.stays))
 
@@ -57,7 +58,16 @@ returns-in-Ok-None-clause-state g c =
 pub returns-in-Ok-None-clause-valid_after : goal.returns-in-Ok-None-clause-valid_after
 returns-in-Ok-None-clause-valid_after g c = (invariant_of-self-in-Ok-None g c).map
 
-pub returns-in-Err-clause-refused : goal.returns-in-Err-clause-refused
-returns-in-Err-clause-refused g c =
-    let more = takes g (goal.at.returns-in-Err-clause-refused g c).After-put in let told = c.in-Err.ensures in
-    rw (← c.self.view_is) (RefusalIsDue-memory g.K.IntKey.number_of _ c.args.key told.missing c.self.inside.table.capacity more.count c.self.invariant.map.capacity more.stays (λ _. told.memory))
+pub returns-then-adds-clause-refused : goal.returns-then-adds-clause-refused
+returns-then-adds-clause-refused g c =
+    let more : TakesOneMore c.self.inside.table.walk c.self.inside.table.capacity c.self.inside.factor = rw (← c.self.view_is) at c.if-adds.ensures in let told = c.in-Err.ensures in
+    rw (← c.self.view_is) (RefusalIsDue-memory g.K.IntKey.number_of _ c.args.key told.missing c.self.inside.table.capacity more.count c.self.invariant.map.capacity more.stays (λ _. told.memory c.if-adds.true))
+
+pub returns-in-Ok-clause-state : goal.returns-in-Ok-clause-state
+returns-in-Ok-clause-state g c =
+    let told = c.in-Err.ensures in
+    rw (← c.self.view_is) (rw (c.copied-again.ensures, c.into_value-value.ensures, told.value_returned, c.new.ensures, told.err, told.counted) at c.in-Ok.ensures.state)
+
+pub returns-in-Err-add_growing-clause-refused : goal.returns-in-Err-add_growing-clause-refused
+returns-in-Err-add_growing-clause-refused g c =
+    rw (← c.self.view_is) (RefusalIsDue-counted g.K.IntKey.number_of _ c.put.new.steps c.args.key c.in-Err-add_growing.refused.cause (rw (c.copied-again.ensures, c.in-Err.ensures.err) at c.in-Err-add_growing.ensures.refused))

@@ -11,4 +11,4 @@ returns-clause-key g c =
 
 pub returns-clause-bound : goal.returns-clause-bound
 returns-clause-bound g c =
-    rw (← c.self.view_is) (is_ok-located g.K.IntKey.number_of c.self.inside.table.walk c.self.inside.table.capacity c.args.key c.locate.result c.locate.ensures.found c.locate.ensures.missing)
+    rw (← c.self.view_is) (is_ok-located g.K.IntKey.number_of c.self.inside.table.walk c.self.inside.table.capacity c.args.key.now c.locate.result c.locate.ensures.found c.locate.ensures.missing)

@@ -1,13 +1,15 @@
-use Rattle.std.proofs.Common.{◌+◌, length, ap, ◌∙◌, arith}
-use Rattle.intmap_table.specs.Tables.Nodes.{Held}
+use Rattle.std.proofs.Common.{◌+◌, length, ap, arith}
 use Rattle.intmap_table.proofs.Nodes.BehindLemmas.{Behind-next}
-use Rattle.intmap_table.proofs.Nodes.PathLemmas.{IsNext, Chain-next, Chain-beyond, Chain-nowhere, Chain-first, Chain-some}
+use Rattle.intmap_table.proofs.Nodes.PathLemmas.{IsNext, Chain-next, Chain-first, Chain-some, NodeAt-ends}
 use Rattle.intmap_table.proofs.linked.chain.last_from.Goals as goal
 use Rattle.intmap_table.proofs.linked.chain.last_from.Goals.{At-loop-next}
 
 -- the node's pair is the first of those that are left
 next : (g : _) (c : At-loop-next g) → IsNext c.args.pool.now.nodes c.loop-next.last c.loop-next.next c.loop-next.invariant.link.0
 next g c = Chain-next c.args.pool.now.nodes c.loop-next.last c.loop-next.next c.loop-next.invariant.link.0 c.loop-next.invariant.leads c.loop-next.invariant.link.1
+
+pub link-next-requires : goal.link-next-requires
+link-next-requires g c = Chain-first c.args.pool.now.nodes c.args.at c.requires.leads c.requires.some
 
 pub loop-next-init : goal.loop-next-init
 loop-next-init g c = record { behind = λ from i h. (i, omega arith, h); leads = c.requires.leads; link = c.link-next.ensures.link }
@@ -36,9 +38,7 @@ loop-next-preserved g c =
       link = c.link-next-in-loop-next.ensures.link;
     }
 
-pub returns-clause-link : goal.returns-clause-link
-returns-clause-link g c =
-    let n = next g (goal.at.returns-clause-link g c).At-loop-next in
-    let none = Chain-beyond c.args.pool.now.nodes c.loop-next.next n.is (omega (arith, c.loop-next-test.false)) in
-    let loop = c.loop-next.invariant in
-    (loop.link.0, loop.link.1 ∙ ap (λ m. Held m loop.link.0) (Chain-nowhere c.args.pool.now.nodes c.loop-next.next n.is none))
+pub returns : goal.returns
+returns g c from i h =
+    let loop = c.loop-next.invariant in let end = loop.behind from i h in
+    (end.0, end.1, NodeAt-ends c.args.pool.now.nodes from end.0 c.loop-next.last c.loop-next.next loop.link.0 end.2.reached loop.link.1 (omega (arith, c.loop-next-test.false)), end.2)

@@ -1,40 +1,40 @@
-use Rattle.std.proofs.Common.{arith}
-use Rattle.intmap_table.proofs.Nodes.PathLemmas.{Chain-first, NodeAt-start, NodeAt-next, NodeAt-behind, NodeAt-last, NodeAt-limit, NodeAt-smaller}
+use Rattle.std.proofs.Common.{length, ap, arith}
+use Rattle.intmap_table.proofs.Nodes.BehindLemmas.{Behind-start, Behind-next, Behind-end}
+use Rattle.intmap_table.proofs.Nodes.PathLemmas.{Chain-first, Chain-some, Chain-next, Chain-beyond, NodeAt-len, NodeAt-limit}
 use Rattle.intmap_table.proofs.linked.chain.last_in.Goals as goal
 
-pub link-next-requires : goal.link-next-requires
-link-next-requires g c = Chain-first c.args.pool.now.nodes c.args.from c.requires.leads c.requires.some
-
 pub loop-next-init : goal.loop-next-init
-loop-next-init g c = record { reached = NodeAt-start c.args.pool.now.nodes c.args.from c.requires.leads; link = c.link-next.ensures.link }
+loop-next-init g c = Behind-start c.args.pool.now.nodes c.args.from c.requires
 
-pub overflow_add-place : goal.overflow_add-place
-overflow_add-place g c =
-    let loop = c.loop-next.invariant in
-    let l = NodeAt-limit c.args.pool.now.nodes c.args.from c.loop-next.place c.loop-next.last c.loop-next.next loop.link.0 loop.reached c.requires.leads loop.link.1 in
-    omega (arith, l)
+pub link-next-requires : goal.link-next-requires
+link-next-requires g c =
+    let leads = c.loop-next.invariant.reached.is in
+    Chain-first c.args.pool.now.nodes c.loop-next.next leads (Chain-some c.args.pool.now.nodes c.loop-next.next leads (omega (arith, c.loop-next-test.true)))
 
-pub link-next-requires-in-loop-next : goal.link-next-requires-in-loop-next
-link-next-requires-in-loop-next g c =
-    let loop = c.loop-next.invariant in
-    NodeAt-behind c.args.pool.now.nodes c.args.from c.loop-next.place c.loop-next.last c.loop-next.next loop.link.0 loop.reached loop.link.1 (omega (arith, c.loop-next-test.true))
-
-pub loop-next-smaller : goal.loop-next-smaller
-loop-next-smaller g c =
-    let loop = c.loop-next.invariant in
-    NodeAt-smaller c.args.pool.now.nodes c.args.from c.loop-next.place c.loop-next.last c.loop-next.next c.link-next-in-loop-next.result loop.link.0 c.link-next-in-loop-next.ensures.link.0 loop.reached loop.link.1 c.link-next-in-loop-next.ensures.link.1
+pub overflow_add-count : goal.overflow_add-count
+overflow_add-count g c = let limit = NodeAt-limit c.args.pool.now.nodes c.args.from c.loop-next.count c.loop-next.next c.loop-next.invariant.reached in omega (arith, limit)
 
 pub loop-next-preserved : goal.loop-next-preserved
 loop-next-preserved g c =
-    let loop = c.loop-next.invariant in
-    record { reached = NodeAt-next c.args.pool.now.nodes c.args.from c.loop-next.place c.loop-next.last c.loop-next.next loop.link.0 loop.reached loop.link.1; link = c.link-next-in-loop-next.ensures.link }
+    let link = c.link-next.ensures.link in
+    Behind-next c.args.pool.now.nodes c.args.from c.loop-next.count c.loop-next.next c.link-next.result link.0 c.loop-next.invariant.reached link.1
+
+pub loop-next-smaller : goal.loop-next-smaller
+loop-next-smaller g c =
+    let link = c.link-next.ensures.link in
+    let n = ap length (Chain-next c.args.pool.now.nodes c.loop-next.next c.link-next.result link.0 c.loop-next.invariant.reached.is link.1).pairs in
+    omega (arith, n)
 
 pub returns-clause-last : goal.returns-clause-last
 returns-clause-last g c =
-    let loop = c.loop-next.invariant in
-    NodeAt-last c.args.pool.now.nodes c.args.from c.loop-next.place c.loop-next.last c.loop-next.next loop.link.0 loop.reached loop.link.1 (omega (arith, c.loop-next-test.false))
+    Behind-end c.args.pool.now.nodes c.args.from c.loop-next.count c.loop-next.last c.loop-next.next c.loop-next.invariant
+    (Chain-beyond c.args.pool.now.nodes c.loop-next.next c.loop-next.invariant.reached.is (omega (arith, c.loop-next-test.false)))
+
+pub returns-clause-len : goal.returns-clause-len
+returns-clause-len g c =
+    let len = NodeAt-len c.args.pool.now.nodes c.args.from c.loop-next.count c.loop-next.next c.loop-next.invariant.reached in
+    let none = ap length (Chain-beyond c.args.pool.now.nodes c.loop-next.next c.loop-next.invariant.reached.is (omega (arith, c.loop-next-test.false))) in
+    omega (arith, len, none)
 
 pub returns-clause-limit : goal.returns-clause-limit
-returns-clause-limit g c =
-    let loop = c.loop-next.invariant in
-    NodeAt-limit c.args.pool.now.nodes c.args.from c.loop-next.place c.loop-next.last c.loop-next.next loop.link.0 loop.reached c.requires.leads loop.link.1
+returns-clause-limit g c = NodeAt-limit c.args.pool.now.nodes c.args.from c.loop-next.count c.loop-next.next c.loop-next.invariant.reached

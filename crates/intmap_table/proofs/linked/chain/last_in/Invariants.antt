@@ -1,13 +1,11 @@
-use Rattle.std.proofs.Common.{length, ◌≡◌}
-use Rattle.intmap_table.specs.Tables.Nodes.{Held, chain_of, node_at, IsNodeAt}
+use Rattle.std.proofs.Common.{length}
+use Rattle.intmap_table.specs.Tables.Behind.{IsBehind}
+use Rattle.intmap_table.specs.Tables.Nodes.{chain_of}
 use Rattle.intmap_table.proofs.linked.chain.last_in.Given as goal
 
--- the node is reached, and the link is its own
+-- the link is that of the last node that was passed
 abbrev pub invariant-loop-next : goal.invariant-loop-next
-invariant-loop-next g l = record {
-  reached : IsNodeAt l.pool.nodes l.from l.place l.last;
-  link : (p : g.row.P.Denot) × (node_at l.pool.nodes l.last ≡ Held l.next p);
-}
+invariant-loop-next g l = IsBehind l.pool.nodes l.from l.count l.last l.next
 
 abbrev pub decreases-loop-next : goal.decreases-loop-next
 decreases-loop-next g l = length (chain_of l.pool.nodes l.next)

@@ -2,7 +2,7 @@ use Rattle.std.proofs.Common.{◌≡◌, ◌∷◌, length, [], Some, None, refl
 use Rattle.intmap_table.specs.Picking.{AsksAt, ExtractsBehind, PicksAt}
 use Rattle.intmap_table.specs.Taking.{TakesEach}
 use Rattle.intmap_table.specs.Writes.{TakesPairMut}
-use Rattle.intmap_table.specs.Tables.Nodes.{Filled, IsChain, IsChainSet, IsSlot, chain_of, row_in}
+use Rattle.intmap_table.specs.Tables.Nodes.{Held, IsChain, IsChainSet, IsSlot, chain_of, row_in}
 use Rattle.intmap_table.proofs.TakingLemmas.{TakesEach-first, TakesEach-next}
 use Rattle.intmap_table.proofs.ExtractLemmas.{ExtractsBehind-end}
 use Rattle.intmap_table.proofs.Nodes.PathLemmas.{Chain-beyond}
@@ -36,7 +36,7 @@ pick-requires g c = (
 
 -- what the slot has once its first pair was asked about
 module _ (g : _) (c : After-pick g) where
-  both : Filled c.pick.ensures.0 c.pick.ensures.1 ≡ Filled c.in-Some.link c.in-Some.field-0-1.now
+  both : Held c.pick.ensures.0 c.pick.ensures.1 ≡ Held c.in-Some.link c.in-Some.field-0-1.now
   both = sym c.pick.ensures.3 ∙ c.in-Some.ensures.some
 
   link : c.pick.ensures.0 ≡ c.in-Some.link
@@ -48,11 +48,11 @@ module _ (g : _) (c : After-pick g) where
   call : PicksAt g.F.FnMut c.args.f.now c.in-Some.field-0-1.now c.pick.result c.pick.new.f c.pick.ensures.2
   call = subst (λ p. PicksAt g.F.FnMut c.args.f.now p c.pick.result c.pick.new.f c.pick.ensures.2) pair c.pick.ensures.5
 
-  slot : c.pick.new.self ≡ Filled c.in-Some.link c.pick.ensures.2
-  slot = c.pick.ensures.4 ∙ ap (λ l. Filled l c.pick.ensures.2) link
+  slot : c.pick.new.self ≡ Held c.in-Some.link c.pick.ensures.2
+  slot = c.pick.ensures.4 ∙ ap (λ l. Held l c.pick.ensures.2) link
 
-pub take_front_linked-requires-clause-filled : goal.take_front_linked-requires-clause-filled
-take_front_linked-requires-clause-filled g c = (c.pick.ensures.2, slot g (goal.at.take_front_linked-requires-clause-filled g c).After-pick)
+pub pop_front-requires-clause-filled : goal.pop_front-requires-clause-filled
+pop_front-requires-clause-filled g c = (c.pick.ensures.2, slot g (goal.at.pop_front-requires-clause-filled g c).After-pick)
 
 pub returns-then-pick-clause-step : goal.returns-then-pick-clause-step
 returns-then-pick-clause-step g c =
@@ -61,13 +61,13 @@ returns-then-pick-clause-step g c =
     let pool = c.args.pool.now in
     let p = c.in-Some.field-0-1.now in
     let chain = chain_of pool.nodes c.in-Some.link in
-    let two : Filled c.in-Some.link c.take_front_linked.result ≡ Filled c.in-Some.link c.pick.ensures.2 = sym c.take_front_linked.ensures.value ∙ slot g at in
-    let same : c.take_front_linked.result ≡ c.pick.ensures.2 = cc in
+    let two : Held c.in-Some.link c.pop_front.result ≡ Held c.in-Some.link c.pick.ensures.2 = sym c.pop_front.ensures.value ∙ slot g at in
+    let same : c.pop_front.result ≡ c.pick.ensures.2 = cc in
     let front = front g first in (
       chain,
-      rw c.in-Some.ensures.some (c.take_front_linked.ensures.row p),
-      subst (λ L. ExtractsBehind (PicksAt g.F.FnMut) c.args.f.now L c.args.place.now (Some c.take_front_linked.result) c.pick.new.f chain c.args.place.now) (sym (row g first))
-          (first_goes (PicksAt g.F.FnMut) (TakesPairMut g.F.FnMut) c.args.f.now c.pick.new.f p c.pick.ensures.2 chain c.take_front_linked.result c.args.place.now front (rw c.if-pick.true at (call g at)) same),
+      rw c.in-Some.ensures.some (c.pop_front.ensures.row p),
+      subst (λ L. ExtractsBehind (PicksAt g.F.FnMut) c.args.f.now L c.args.place.now (Some c.pop_front.result) c.pick.new.f chain c.args.place.now) (sym (row g first))
+          (first_goes (PicksAt g.F.FnMut) (TakesPairMut g.F.FnMut) c.args.f.now c.pick.new.f p c.pick.ensures.2 chain c.pop_front.result c.args.place.now front (rw c.if-pick.true at (call g at)) same),
       omega (arith, front),
     )
 

@@ -1,10 +1,8 @@
-use Rattle.std.proofs.Common.{◌-◌, ◌≡◌, length, refl, sym, ap, ◌∙◌, subst, arith}
+use Rattle.std.proofs.Common.{◌≡◌, length, refl, sym, ap, ◌∙◌, subst, arith}
 use Rattle.intmap_table.specs.Picking.{PicksAt}
 use Rattle.intmap_table.specs.Writes.{TakesPairMut}
 use Rattle.intmap_table.specs.Tables.Nodes.{Held, node_at, row_in, IsChanged}
-use Rattle.intmap_table.proofs.Nodes.AlongLemmas.{node_changed}
-use Rattle.intmap_table.proofs.Nodes.PickedLemmas.{Picked-start, Picked-asks, Picked-few, Picked-walked, Picked-stays, Picked-goes, Picked-end}
-use Rattle.intmap_table.proofs.Nodes.BehindLemmas.{Started-behind}
+use Rattle.intmap_table.proofs.Nodes.PickedLemmas.{Picked-start, Picked-asks, Picked-few, Picked-behind, Picked-stays, Picked-goes, Picked-end}
 use Rattle.intmap_table.proofs.linked.closures.extract_behind.Goals as goal
 use Rattle.intmap_table.proofs.linked.closures.extract_behind.Goals.{After-pick}
 
@@ -29,7 +27,7 @@ loop-next-init g c = record {
     c.requires.filled.1,
     Picked-start (PicksAt g.F.FnMut) (TakesPairMut g.F.FnMut) c.args.pool.now c.args.link c.requires.filled.0 c.args.f.now c.args.place.now c.args.slot.now c.seek_behind-before.result.0 c.seek_behind-before.result.1
         c.requires.filled.1 c.requires.behind
-        (Started-behind c.args.pool.now c.args.link (c.args.place.now - 1) c.seek_behind-before.result.0 c.seek_behind-before.result.1 c.seek_behind-before.ensures) c.requires.callable,
+        c.seek_behind-before.ensures c.requires.callable,
   );
   total = refl;
 }
@@ -45,21 +43,16 @@ pick-requires g c = (
   Picked-asks (PicksAt g.F.FnMut) (TakesPairMut g.F.FnMut) _ _ _ _ c.args.place.now _ _ _ _ _ _ c.loop-next.invariant.walked.2 c.in-Some.next c.in-Some.field-0-1.now c.in-Some.ensures.some,
 )
 
-pub unlink-requires-clause-walked : goal.unlink-requires-clause-walked
-unlink-requires-clause-walked g c =
-    let at = (goal.at.unlink-requires-clause-walked g c).After-pick in
-    Picked-walked (PicksAt g.F.FnMut) (TakesPairMut g.F.FnMut) _ _ _ _ c.args.place.now _ _ _ _ _ _ c.loop-next.invariant.walked.2 c.in-Some.next c.pick.ensures.1 (held g at) c.pick.ensures.2 c.pick.new.self c.pick.new.f (changed g at)
-
-pub unlink-requires-clause-held : goal.unlink-requires-clause-held
-unlink-requires-clause-held g c =
-    let at = (goal.at.unlink-requires-clause-held g c).After-pick in
-    (c.pick.ensures.2, node_changed c.loop-next.pool c.loop-next.at c.in-Some.next c.pick.ensures.1 c.pick.ensures.2 c.pick.new.self (held g at) (changed g at))
+pub unlink-requires : goal.unlink-requires
+unlink-requires g c =
+    let at = (goal.at.unlink-requires g c).After-pick in
+    Picked-behind (PicksAt g.F.FnMut) (TakesPairMut g.F.FnMut) _ _ _ _ c.args.place.now _ _ _ _ _ _ c.loop-next.invariant.walked.2 c.in-Some.next c.pick.ensures.1 (held g at) c.pick.ensures.2 c.pick.new.self c.pick.new.f (changed g at)
 
 pub returns-then-pick-clause-step : goal.returns-then-pick-clause-step
 returns-then-pick-clause-step g c =
     let at = (goal.at.returns-then-pick-clause-step g c).After-pick in
     Picked-goes (PicksAt g.F.FnMut) (TakesPairMut g.F.FnMut) _ _ _ _ c.args.place.now _ _ _ _ _ _ c.loop-next.invariant.walked.2 c.in-Some.next c.pick.ensures.1 (held g at) c.pick.ensures.2 c.pick.new.self c.pick.new.f (changed g at) (rw c.if-pick.true at c.pick.ensures.5)
-    c.unlink.result c.unlink.new.pool c.unlink.new.slot c.unlink.ensures.walks c.requires.behind c.args.slot.now c.loop-next.invariant.walked.1
+    c.unlink.result c.unlink.new.pool c.unlink.new.slot c.unlink.ensures.cut c.requires.behind c.args.slot.now c.loop-next.invariant.walked.1
 
 pub returns-then-pick-clause-on : goal.returns-then-pick-clause-on
 returns-then-pick-clause-on g c = c.loop-next.invariant.walked.2.on

@@ -1,7 +1,7 @@
 use Rattle.std.proofs.Common.{◌≡◌, true, [], ◌∷◌, ◌++◌, sym, ap, ◌∙◌, subst, refl, arith}
 use Rattle.intmap_table.specs.Retaining.{KeepsAt, TakesPair, Retains}
 use Rattle.intmap_table.specs.Taking.{TakesEach}
-use Rattle.intmap_table.specs.Tables.Nodes.{Filled, chain_of, row_in, IsSlot, IsSlotSet}
+use Rattle.intmap_table.specs.Tables.Nodes.{Held, chain_of, row_in, IsSlot, IsSlotSet}
 use Rattle.intmap_table.proofs.LeadsLemmas.{Leads}
 use Rattle.intmap_table.proofs.TakingLemmas.{TakesEach-first, TakesEach-next}
 use Rattle.intmap_table.proofs.Nodes.PathLemmas.{Chain-beyond}
@@ -59,7 +59,7 @@ returns-then-link-lt-NODE_LIMIT-clause-row g c =
     let loop = c.loop-link.invariant in
     let pool = c.loop-link.pool in
     let first = c.in-Some.first.now in
-    let both : Filled c.in-Some.link run.0 ≡ Filled c.in-Some.link first = sym run.1 ∙ c.in-Some.ensures.some in
+    let both : Held c.in-Some.link run.0 ≡ Held c.in-Some.link first = sym run.1 ∙ c.in-Some.ensures.some in
     let same : run.0 ≡ first = cc in
     let call = rw c.if-keeps_pair.true at c.keeps_pair.ensures in (
       first ∷ run.2,
@@ -71,8 +71,8 @@ returns-then-link-lt-NODE_LIMIT-clause-row g c =
 pub loop-link-smaller : goal.loop-link-smaller
 loop-link-smaller g c =
     let at = (goal.at.loop-link-smaller g c).In-Some in
-    let out = c.take_front_linked.ensures.row c.in-Some.first.now in
-    smaller_rest (row_in c.loop-link.pool.nodes c.loop-link.slot) c.in-Some.first.now (chain_of c.loop-link.pool.nodes c.in-Some.link) (row_in c.take_front_linked.new.pool.nodes c.take_front_linked.new.slot) (left g at) out.pairs
+    let out = c.pop_front.ensures.row c.in-Some.first.now in
+    smaller_rest (row_in c.loop-link.pool.nodes c.loop-link.slot) c.in-Some.first.now (chain_of c.loop-link.pool.nodes c.in-Some.link) (row_in c.pop_front.new.pool.nodes c.pop_front.new.slot) (left g at) out.pairs
 
 pub loop-link-preserved : goal.loop-link-preserved
 loop-link-preserved g c =
@@ -82,16 +82,16 @@ loop-link-preserved g c =
     let first = c.in-Some.first.now in
     let chain = chain_of pool.nodes c.in-Some.link in
     let all = row_in c.args.pool.now.nodes c.args.slot.now in
-    let out = c.take_front_linked.ensures.row first in
+    let out = c.pop_front.ensures.row first in
     let now = out.pairs in
-    let set : IsSlotSet pool c.loop-link.slot (row_in c.take_front_linked.new.pool.nodes c.take_front_linked.new.slot) c.take_front_linked.new.pool c.take_front_linked.new.slot = rw (c.in-Some.ensures.some, now) out in
+    let set : IsSlotSet pool c.loop-link.slot (row_in c.pop_front.new.pool.nodes c.pop_front.new.slot) c.pop_front.new.pool c.pop_front.new.slot = rw (c.in-Some.ensures.some, now) out in
     let call = rw c.if-keeps_pair.false at c.keeps_pair.ensures in
     let total = loop.total in
-    let more = c.take_front_linked.ensures.total in
+    let more = c.pop_front.ensures.total in
     let split = loop.gone.1 ∙ ap (λ L. loop.gone.0 ++ L) (left g at) in
     record {
       gone = (loop.gone.0 ++ first ∷ [], subst (λ L. all ≡ (loop.gone.0 ++ first ∷ []) ++ L) (sym now) (gone_more all loop.gone.0 first chain split));
-      row = Slot-then c.args.pool.now c.args.slot.now loop.gone.0 (row_in pool.nodes c.loop-link.slot) (row_in c.take_front_linked.new.pool.nodes c.take_front_linked.new.slot) pool c.loop-link.slot c.take_front_linked.new.pool c.take_front_linked.new.slot
+      row = Slot-then c.args.pool.now c.args.slot.now loop.gone.0 (row_in pool.nodes c.loop-link.slot) (row_in c.pop_front.new.pool.nodes c.pop_front.new.slot) pool c.loop-link.slot c.pop_front.new.pool c.pop_front.new.slot
           loop.gone.1 loop.row set;
       callable = subst (TakesEach (KeepsAt g.F.FnMut) (TakesPair g.F.FnMut) c.keeps_pair.new.f) (sym now)
           (TakesEach-next (KeepsAt g.F.FnMut) (TakesPair g.F.FnMut) c.loop-link.f c.keeps_pair.new.f first c.keeps_pair.result chain (callable g at) c.keeps_pair.ensures);

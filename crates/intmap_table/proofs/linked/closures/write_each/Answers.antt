@@ -1,7 +1,7 @@
 use Rattle.std.proofs.Common.{◌≡◌, ◌<◌, [], ◌∷◌, length, refl, sym, ap, ◌∙◌, subst}
 use Rattle.intmap_table.specs.Taking.{TakesEach}
 use Rattle.intmap_table.specs.Writes.{TakesPairMut, Writes, WritesAt}
-use Rattle.intmap_table.specs.Tables.Nodes.{Filled, Held, nowhere, chain_of, row_in}
+use Rattle.intmap_table.specs.Tables.Nodes.{nowhere, Held, chain_of, row_in}
 use Rattle.intmap_table.proofs.TakingLemmas.{TakesEach-first, TakesEach-next}
 use Rattle.intmap_table.proofs.WritesLemmas.{Writes-append}
 use Rattle.intmap_table.proofs.Nodes.AlongLemmas.{Along-start, Along-asks, Along-changed, Along-end}
@@ -28,7 +28,7 @@ write-requires g c =
 
 -- what the slot has once its first value was written
 module _ (g : _) (c : After-write g) where
-  both : Filled c.write.ensures.0 c.write.ensures.1 ≡ Filled c.in-Some.link c.in-Some.field-0-1.now
+  both : Held c.write.ensures.0 c.write.ensures.1 ≡ Held c.in-Some.link c.in-Some.field-0-1.now
   both = sym c.write.ensures.3 ∙ c.in-Some.ensures.some
 
   link : c.write.ensures.0 ≡ c.in-Some.link
@@ -40,8 +40,8 @@ module _ (g : _) (c : After-write g) where
   call : WritesAt g.F.FnMut c.args.f.now c.in-Some.field-0-1.now c.write.ensures.2 c.write.new.f
   call = subst (λ p. WritesAt g.F.FnMut c.args.f.now p c.write.ensures.2 c.write.new.f) pair c.write.ensures.5
 
-  slot : c.write.new.self ≡ Filled c.in-Some.link (c.in-Some.field-0-1.now.0, c.write.ensures.2)
-  slot = c.write.ensures.4 ∙ ap (λ l. Filled l (c.write.ensures.1.0, c.write.ensures.2)) link ∙ ap (λ p. Filled c.in-Some.link (p.0, c.write.ensures.2)) pair
+  slot : c.write.new.self ≡ Held c.in-Some.link (c.in-Some.field-0-1.now.0, c.write.ensures.2)
+  slot = c.write.ensures.4 ∙ ap (λ l. Held l (c.write.ensures.1.0, c.write.ensures.2)) link ∙ ap (λ p. Held c.in-Some.link (p.0, c.write.ensures.2)) pair
 
 pub loop-next-init : goal.loop-next-init
 loop-next-init g c =
@@ -90,7 +90,7 @@ returns-clause-row g c =
     let w = c.loop-next.invariant.walked in
     let old = c.in-Some.field-0-1.now in
     let end = Along-end (WritesAt g.F.FnMut) (TakesPairMut g.F.FnMut) (Writes (WritesAt g.F.FnMut)) _ _ _ _ _ _ _ _ _ _ _ w.2 c.in_default-get.ensures.none c.args.slot.now old c.in-Some.ensures.some in
-    let both : Filled w.2.walked.link w.0 ≡ Filled c.in-Some.link (old.0, c.write.ensures.2) = sym w.2.walked.slot ∙ slot g at in
+    let both : Held w.2.walked.link w.0 ≡ Held c.in-Some.link (old.0, c.write.ensures.2) = sym w.2.walked.slot ∙ slot g at in
     let first : w.0 ≡ (old.0, c.write.ensures.2) = cc in (
       w.0 ∷ w.2.done,
       end.0,

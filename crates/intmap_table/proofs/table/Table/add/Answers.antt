@@ -17,7 +17,7 @@ missing : (g : _) (c : After-push g) → value_of g.K.IntKey.number_of (joined c
 missing g c = rw (← c.self.view_is) at c.requires.missing
 
 pushed : (g : _) (c : In-Ok g) → c.push.new.self.rows ≡ set c.self.inside.slots.rows c.args.slot (get_or c.self.inside.slots.rows c.args.slot [] ++ (c.args.key, c.args.value) ∷ [])
-pushed g c = rw c.new.ensures.value at c.in-Ok.ensures.ok
+pushed g c = rw (c.new.ensures.value, c.copied.ensures) at c.in-Ok.ensures.ok
 
 pub returns-in-Err-clause-memory : goal.returns-in-Err-clause-memory
 returns-in-Err-clause-memory g c =
@@ -32,7 +32,7 @@ invariant_of-self-2 g c =
 pub returns-clause-at : goal.returns-clause-at
 returns-clause-at g c =
     let w = goal.at.returns-clause-at g c in
-    rw (pushed g w.In-Ok, c.in-Ok.ensures.place) (IsAt-added _ _ _ _ (here g w.After-push) (missing g w.After-push) c.args.value)
+    rw (pushed g w.In-Ok, c.in-Ok.ensures.place, c.key.ensures.value) (IsAt-added _ _ _ _ (here g w.After-push) (missing g w.After-push) c.args.value)
 
 pub returns-clause-walk : goal.returns-clause-walk
 returns-clause-walk g c =

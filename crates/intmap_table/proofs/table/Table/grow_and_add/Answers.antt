@@ -12,7 +12,7 @@ use Rattle.intmap_table.proofs.table.Table.grow_and_add.Goals.{In-Ok}
 
 module _ (g : _) (c : In-Ok g) where
   moved : HasMoved g.K.IntKey.number_of (joined c.self.inside.slots.rows ++ (c.args.key, c.args.value) ∷ []) c.args.capacity c.grow_and_push-pushed.new.self.rows
-  moved = record { capacity = c.requires.capacity; len = c.in-Ok.ensures.len; rows = rw c.new.ensures.value at c.in-Ok.ensures.rows }
+  moved = record { capacity = c.requires.capacity; len = c.in-Ok.ensures.len; rows = rw (c.new.ensures.value, c.copied.ensures) at c.in-Ok.ensures.rows }
 
   missing : value_of g.K.IntKey.number_of (joined c.self.inside.slots.rows) c.args.key ≡ None
   missing = rw (← c.self.view_is) at c.requires.missing
@@ -29,10 +29,12 @@ pub grow_and_push-pushed-requires-clause-grown : goal.grow_and_push-pushed-requi
 grow_and_push-pushed-requires-clause-grown g c = IsGrown-from _ _ c.self.invariant.capacity c.requires.capacity (rw (← c.self.view_is) at c.requires.larger)
 
 pub invariant_of-self-2 : goal.invariant_of-self-2
-invariant_of-self-2 g c = IsTable-moved g.K.IntKey.number_of _ _ _ (moved g c)
+invariant_of-self-2 g c = IsTable-moved g.K.IntKey.number_of _ _ _ (moved g (goal.at.invariant_of-self-2 g c).In-Ok)
 
 pub returns-clause-walk : goal.returns-clause-walk
-returns-clause-walk g c = walk g c
+returns-clause-walk g c = walk g (goal.at.returns-clause-walk g c).In-Ok
 
 pub returns-clause-at : goal.returns-clause-at
-returns-clause-at g c = IsAt-new _ _ _ _ _ _ (moved g c) _ c.index_of-target.ensures.slot (missing g c) _ c.in-Ok.ensures.place
+returns-clause-at g c =
+    let at = (goal.at.returns-clause-at g c).In-Ok in
+    rw c.key.ensures.value (IsAt-new _ _ _ _ _ _ (moved g at) _ c.index_of-target.ensures.slot (missing g at) _ c.in-Ok.ensures.place)

@@ -25,7 +25,7 @@ returns-in_err-old-clause-memory g c =
 pub returns-in_err-old-clause-succeeds : goal.returns-in_err-old-clause-succeeds
 returns-in_err-old-clause-succeeds g c =
     let all = further-joined g.K.IntKey.number_of c.self.inside.slots.rows c.self.invariant in
-    rw (← c.self.view_is) (λ room. absurd (false≢true (c.in_err-old.ensures.succeeds (omega (arith, all, room)))))
+    rw (← c.self.view_is) (λ adds room. absurd (false≢true (c.in_err-old.ensures.succeeds adds (omega (arith, all, room)))))
 
 pub returns-in_err-old-clause-counted : goal.returns-in_err-old-clause-counted
 returns-in_err-old-clause-counted g c = rw (← c.self.view_is) (rw (slot_of-joined g.K.IntKey.number_of c.self.inside.slots.rows c.self.invariant c.args.slot) c.put.ensures.counted)

@@ -6,10 +6,10 @@ use Rattle.intmap_table.proofs.Tables.TableLemmas.{IsSlot, reach-here, value_of-
 use Rattle.intmap_table.proofs.table.Table.remove.Goals as goal
 use Rattle.intmap_table.proofs.table.Table.remove.Goals.{After-index_of-slot}
 
-here : (g : _) (c : After-index_of-slot g) → IsSlot g.K.IntKey.number_of c.self.inside.slots.rows c.index_of-slot.result c.args.key
+here : (g : _) (c : After-index_of-slot g) → IsSlot g.K.IntKey.number_of c.self.inside.slots.rows c.index_of-slot.result c.new-key.result
 here g c = record {
   table = c.self.invariant;
-  slot = c.index_of-slot.ensures.slot ∙ ap (λ (t : Grid _ _). slot_number g.K.IntKey.number_of c.args.key t.capacity) (sym c.self.view_is);
+  slot = c.index_of-slot.ensures.slot ∙ ap (λ (t : Grid _ _). slot_number g.K.IntKey.number_of c.new-key.result t.capacity) (sym c.self.view_is);
 }
 
 pub invariant_of-self : goal.invariant_of-self
@@ -20,12 +20,12 @@ invariant_of-self g c =
 pub returns-clause-value : goal.returns-clause-value
 returns-clause-value g c =
     let at = here g (goal.at.returns-clause-value g c).After-index_of-slot in
-    rw (← c.self.view_is) (c.remove.ensures.value ∙ sym (value_of-here _ _ _ _ at))
+    rw (← c.self.view_is, ← c.new-key.ensures.value) (c.remove.ensures.value ∙ sym (value_of-here _ _ _ _ at))
 
 pub returns-clause-walk : goal.returns-clause-walk
 returns-clause-walk g c =
     let at = here g (goal.at.returns-clause-walk g c).After-index_of-slot in
-    rw (← c.self.view_is) (ap joined c.remove.ensures.rows ∙ walk-taken _ _ _ _ at)
+    rw (← c.self.view_is, ← c.new-key.ensures.value) (ap joined c.remove.ensures.rows ∙ walk-taken _ _ _ _ at)
 
 pub returns-clause-capacity : goal.returns-clause-capacity
 returns-clause-capacity g c = rw (← c.self.view_is) (ap length c.remove.ensures.rows ∙ length-set _ _ _)
@@ -33,5 +33,5 @@ returns-clause-capacity g c = rw (← c.self.view_is) (ap length c.remove.ensure
 pub returns-clause-counted : goal.returns-clause-counted
 returns-clause-counted g c =
     let at = here g (goal.at.returns-clause-counted g c).After-index_of-slot in
-    c.remove.ensures.counted ∙ ap (λ n. c.args.steps.now + n)
-    (sym (reach-here _ _ _ _ at) ∙ ap (λ (t : Grid _ _). reach g.K.IntKey.number_of t.walk t.capacity c.args.key) c.self.view_is)
+    rw (← c.new-key.ensures.value) (c.remove.ensures.counted ∙ ap (λ n. c.args.steps.now + n)
+    (sym (reach-here _ _ _ _ at) ∙ ap (λ (t : Grid _ _). reach g.K.IntKey.number_of t.walk t.capacity c.new-key.result) c.self.view_is))

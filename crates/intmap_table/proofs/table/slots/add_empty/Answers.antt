@@ -1,7 +1,7 @@
 use Rattle.std.proofs.Common.{rules, arith, ◌≡◌, ◌≤◌, ◌-◌, ℕ, [], ◌∷◌, ◌++◌, List, length, replicate, take, refl, ap, sym, ◌∙◌}
 use Rattle.std.proofs.lemmas.List.{length-append, take_all}
 use Rattle.std.specs.List.{FoldsTo, AppendsResults}
-use Rattle.intmap_table.specs.Tables.Nodes.{Empty}
+use Rattle.intmap_table.specs.Tables.Nodes.{empty}
 use Rattle.intmap_table.proofs.Tables.MemoryLemmas.{OnOk-at}
 use Rattle.intmap_table.proofs.table.slots.add_empty.Goals as goal
 
@@ -24,4 +24,4 @@ returns-clause-items g c =
     let ran = OnOk-at c.resize_with.result _ accepted c.resize_with.ensures.items in
     let len = OnOk-at c.resize_with.result _ accepted c.resize_with.ensures.len in
     let items : length c.resize_with.new.self.items ≡ c.args.count = omega (arith, len) in
-    added c.args.slots.now.items c.resize_with.new.self.items c.args.count ran c.requires.more items Empty (λ f f' x called. search rules)
+    added c.args.slots.now.items c.resize_with.new.self.items c.args.count ran c.requires.more items empty (λ f f' x called. search rules)

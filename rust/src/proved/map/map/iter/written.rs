@@ -7,6 +7,7 @@ use crate::memory::alloc::{Allocator, Global};
 use crate::proved::map::map::IntMap;
 use crate::proved::table::kept::Kept;
 use crate::proved::table::steps::Steps;
+use crate::proved::table::table::stored::Sought;
 use crate::proved::table::table::written::PairsMut;
 use crate::proved::table::IntKey;
 use crate::proved::table::table::{Progress, Table};
@@ -68,7 +69,7 @@ impl<K: IntKey, V, A: Allocator + Copy> IntMap<K, V, A> {
     /// The values of these keys, by mutable reference. It panics if two keys have one pair.
     #[track_caller]
     pub fn get_disjoint_mut<const N: usize>(&mut self, keys: [K; N]) -> [Option<&mut V>; N] {
-        let spots = keys.map(|key| self.locate(key).ok().and_then(|at| self.table.spot_of(at)));
+        let spots = keys.map(|key| self.locate(&Sought::new(key)).ok().and_then(|at| self.table.spot_of(at)));
         let mut order: [usize; N] = from_fn(|number| number);
         order.sort_unstable_by_key(|number| spots[*number]);
         let mut values = [const { None }; N];

@@ -1,19 +1,17 @@
 //! `retain` by a closure that may write the values.
-use super::unlink;
 use crate::memory::alloc::Allocator;
 use crate::proved::table::IntKey;
 use crate::proved::table::kept::Kept;
-use crate::proved::table::linked::node::NOWHERE;
+use crate::proved::table::linked::node::{NOWHERE, Node};
 use crate::proved::table::linked::pool::Pool;
-use crate::proved::table::linked::row::removal::take_front_linked;
-use crate::proved::table::linked::slot::Slot;
+use crate::proved::table::linked::row::removal::{pop_front, unlink};
 use crate::proved::table::table::stored::Stored;
 
 /// Keeps the pairs of a slot for which the closure returns true, in their order, and returns their
 /// number. The closure is asked about each pair from the front, and a pair is unlinked before it is
 /// dropped.
 pub(in crate::proved::table) fn retain_mut<K: IntKey, V, A: Allocator, F: FnMut(K, &mut V) -> bool>(
-    slot: &mut Slot<(Stored<K>, Kept<V>)>,
+    slot: &mut Node<(Stored<K>, Kept<V>)>,
     pool: &mut Pool<(Stored<K>, Kept<V>), A>,
     f: &mut F,
 ) -> usize {
@@ -21,7 +19,7 @@ pub(in crate::proved::table) fn retain_mut<K: IntKey, V, A: Allocator, F: FnMut(
         if slot.pick(f) {
             return retain_behind(slot, link, pool, f) + 1;
         }
-        take_front_linked(slot, link, pool);
+        pop_front(slot, link, pool);
     }
     0
 }
@@ -29,7 +27,7 @@ pub(in crate::proved::table) fn retain_mut<K: IntKey, V, A: Allocator, F: FnMut(
 /// Keeps the pairs behind the first one of a slot for which the closure returns true, and returns
 /// their number.
 fn retain_behind<K: IntKey, V, A: Allocator, F: FnMut(K, &mut V) -> bool>(
-    slot: &mut Slot<(Stored<K>, Kept<V>)>,
+    slot: &mut Node<(Stored<K>, Kept<V>)>,
     link: usize,
     pool: &mut Pool<(Stored<K>, Kept<V>), A>,
     f: &mut F,
@@ -40,7 +38,7 @@ fn retain_behind<K: IntKey, V, A: Allocator, F: FnMut(K, &mut V) -> bool>(
             before = at;
             kept += 1;
         } else {
-            unlink(slot, pool, before, at, next);
+            unlink(slot, pool, before, at);
         }
         at = next;
     }

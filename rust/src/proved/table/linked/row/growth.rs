@@ -1,10 +1,9 @@
 //! Growth puts pairs before others of a slot, between them, or behind them.
 
 use crate::memory::prelude::*;
-use crate::proved::table::linked::node::NOWHERE;
+use crate::proved::table::linked::node::{NOWHERE, Node};
 use crate::proved::table::linked::pool::Pool;
 use crate::proved::table::linked::row::insertion::push_further;
-use crate::proved::table::linked::slot::Slot;
 use crate::memory::alloc::Allocator;
 
 /// Where among the pairs of its slot a pair goes.
@@ -19,7 +18,7 @@ pub(in crate::proved::table) enum Order {
 /// the slot holds a pair, the pool has room for another.
 #[inline(always)]
 pub(in crate::proved::table) fn put_in<P, A: Allocator>(
-    slot: &mut Slot<P>,
+    slot: &mut Node<P>,
     pool: &mut Pool<P, A>,
     order: Order,
     pair: P,
@@ -37,7 +36,7 @@ pub(in crate::proved::table) fn put_in<P, A: Allocator>(
 
 /// Puts a pair last in a slot that holds some, and returns its place. There is room for it.
 #[inline(always)]
-fn put_last<P, A: Allocator>(slot: &mut Slot<P>, pool: &mut Pool<P, A>, pair: P) -> usize {
+fn put_last<P, A: Allocator>(slot: &mut Node<P>, pool: &mut Pool<P, A>, pair: P) -> usize {
     match push_further(slot, pool, pair) {
         Ok(place) => place,
         Err(_) => unreachable!(),
@@ -47,7 +46,7 @@ fn put_last<P, A: Allocator>(slot: &mut Slot<P>, pool: &mut Pool<P, A>, pair: P)
 /// Puts a pair behind the first one of a slot that holds some, and returns its place. There is room
 /// for it.
 #[inline(never)]
-fn put_behind_first<P, A: Allocator>(slot: &mut Slot<P>, pool: &mut Pool<P, A>, pair: P) -> usize {
+fn put_behind_first<P, A: Allocator>(slot: &mut Node<P>, pool: &mut Pool<P, A>, pair: P) -> usize {
     let Some((link, _)) = slot.get() else {
         unreachable!();
     };
@@ -61,7 +60,7 @@ fn put_behind_first<P, A: Allocator>(slot: &mut Slot<P>, pool: &mut Pool<P, A>, 
 /// Puts a pair before the first one of a slot that holds some, and returns its place. There is room
 /// for it.
 #[inline(never)]
-fn put_before_first<P, A: Allocator>(slot: &mut Slot<P>, pool: &mut Pool<P, A>, pair: P) -> usize {
+fn put_before_first<P, A: Allocator>(slot: &mut Node<P>, pool: &mut Pool<P, A>, pair: P) -> usize {
     let Some((link, _)) = slot.get() else {
         unreachable!();
     };

@@ -3,9 +3,8 @@
 use crate::memory::prelude::*;
 use crate::proved::table::bits::{BITS, Bits};
 use crate::proved::table::key::IntKey;
-use crate::proved::table::linked::node::{NODE_LIMIT, NOWHERE};
+use crate::proved::table::linked::node::{NODE_LIMIT, NOWHERE, Node};
 use crate::proved::table::linked::pool::Pool;
-use crate::proved::table::linked::slot::Slot;
 use crate::proved::table::table::slots::{Slots, add_empty};
 use crate::proved::table::table::stored::Stored;
 use crate::memory::alloc::{AllocError, Allocator};
@@ -45,29 +44,29 @@ fn clone_chain<K: IntKey, X: Clone, A: Allocator>(
     Ok(first)
 }
 
-/// A slot with clones of the pairs of another. Those behind the first one are put into new nodes of
-/// `made`.
+/// A slot with clones of the pairs of another, which holds some. Those behind the first one are put
+/// into new nodes of `made`.
 #[inline(always)]
 fn clone_slot<K: IntKey, X: Clone, A: Allocator>(
-    slot: &Slot<(Stored<K>, X)>,
+    slot: &Node<(Stored<K>, X)>,
     pool: &Pool<(Stored<K>, X), A>,
     made: &mut Pool<(Stored<K>, X), A>,
-) -> Result<Slot<(Stored<K>, X)>, AllocError> {
+) -> Result<Node<(Stored<K>, X)>, AllocError> {
     let Some((link, pair)) = slot.get() else {
-        return Ok(Slot::empty());
+        unreachable!();
     };
     let copy = clone_pair(pair)?;
     if link >= NODE_LIMIT {
-        return Ok(Slot::filled(NOWHERE, copy));
+        return Ok(Node::held(NOWHERE, copy));
     }
     let link = clone_chain(pool, link, made)?;
-    Ok(Slot::filled(link, copy))
+    Ok(Node::held(link, copy))
 }
 
 /// Adds slots without a pair, 64 of them unless that is too many, if none has this index yet. There
 /// may be `count` slots, for which there is room.
 #[inline(always)]
-fn add_up_to<P, A: Allocator>(slots: &mut Vec<Slot<P>, A>, index: usize, count: usize) {
+fn add_up_to<P, A: Allocator>(slots: &mut Vec<Node<P>, A>, index: usize, count: usize) {
     if index >= slots.len() {
         add_empty(slots, count.min(index + BITS));
     }
@@ -76,9 +75,9 @@ fn add_up_to<P, A: Allocator>(slots: &mut Vec<Slot<P>, A>, index: usize, count: 
 /// Adds clones of all slots, for which there is room. The bits mark those that hold a pair.
 fn clone_rows<K: IntKey, X: Clone, A: Allocator>(
     bits: &Bits<A>,
-    slots: &[Slot<(Stored<K>, X)>],
+    slots: &[Node<(Stored<K>, X)>],
     pool: &Pool<(Stored<K>, X), A>,
-    made: &mut Vec<Slot<(Stored<K>, X)>, A>,
+    made: &mut Vec<Node<(Stored<K>, X)>, A>,
     nodes: &mut Pool<(Stored<K>, X), A>,
 ) -> Result<(), AllocError> {
     let mut from = 0;

@@ -4,8 +4,8 @@ use crate::memory::prelude::*;
 use crate::proved::table::kept::Kept;
 use crate::proved::table::key::IntKey;
 use crate::proved::table::linked::closures;
+use crate::proved::table::linked::node::Node;
 use crate::proved::table::linked::pool::Pool;
-use crate::proved::table::linked::slot::Slot;
 use crate::proved::table::table::slots::Slots;
 use crate::proved::table::table::slots::pairs::unmark_if;
 use crate::proved::table::table::stored::Stored;
@@ -16,7 +16,7 @@ use crate::memory::alloc::Allocator;
 /// alone. Returns the word without the bits of the slots that the calls emptied.
 #[inline(always)]
 fn retain_marked<K: IntKey, V, A: Allocator, F: FnMut(K, &V) -> bool>(
-    slots: &mut Vec<Slot<(Stored<K>, Kept<V>)>, A>,
+    slots: &mut Vec<Node<(Stored<K>, Kept<V>)>, A>,
     pool: &mut Pool<(Stored<K>, Kept<V>), A>,
     from: usize,
     word: u64,

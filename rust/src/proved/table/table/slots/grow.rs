@@ -6,11 +6,10 @@
 use crate::memory::prelude::*;
 use crate::proved::table::bits::Bits;
 use crate::proved::table::key::IntKey;
-use crate::proved::table::linked::chain::take_behind;
-use crate::proved::table::linked::node::{NODE_LIMIT, NOWHERE};
+use crate::proved::table::linked::chain::pop_front;
+use crate::proved::table::linked::node::{NODE_LIMIT, NOWHERE, Node};
 use crate::proved::table::linked::pool::Pool;
 use crate::proved::table::linked::row::growth::Order;
-use crate::proved::table::linked::slot::Slot;
 use crate::proved::table::linked::turn::turn;
 use crate::proved::table::steps::Steps;
 use crate::proved::table::table::masked_index_of;
@@ -28,7 +27,7 @@ fn any_goes_to<K: IntKey, X, A: Allocator>(
 ) -> bool {
     let mut link = from;
     while let Some((next, pair)) = pool.get(link) {
-        if masked_index_of(pair.0.key(), mask) == target {
+        if masked_index_of(&pair.0, mask) == target {
             return true;
         }
         link = next;
@@ -38,7 +37,7 @@ fn any_goes_to<K: IntKey, X, A: Allocator>(
 
 /// Whether one of the pairs of a slot goes to slot `target` among `mask + 1`.
 fn goes_to<K: IntKey, X, A: Allocator>(
-    slot: &Slot<(Stored<K>, X)>,
+    slot: &Node<(Stored<K>, X)>,
     pool: &Pool<(Stored<K>, X), A>,
     mask: usize,
     target: usize,
@@ -46,7 +45,7 @@ fn goes_to<K: IntKey, X, A: Allocator>(
     let Some((link, first)) = slot.get() else {
         return false;
     };
-    if masked_index_of(first.0.key(), mask) == target {
+    if masked_index_of(&first.0, mask) == target {
         return true;
     }
     any_goes_to(pool, link, mask, target)
@@ -55,7 +54,7 @@ fn goes_to<K: IntKey, X, A: Allocator>(
 /// The slot of a key of old slot `index` in a table of `mask + 1` slots, a multiple of the old
 /// number. It is the old slot, or one behind the old ones.
 #[inline(always)]
-fn moved_index_of<K: IntKey>(key: &K, mask: usize, index: usize, old_mask: usize) -> usize {
+fn moved_index_of<K: IntKey>(key: &Stored<K>, mask: usize, index: usize, old_mask: usize) -> usize {
     // no other old slot, even if a key of Rust gives another number at each call
     let target = masked_index_of(key, mask);
     let above = target - (target & old_mask);
@@ -79,7 +78,7 @@ fn further_order(first_target: usize, target: usize) -> Order {
 /// one that haven't moved.
 #[inline(always)]
 fn move_row<K: IntKey, X, A: Allocator>(
-    slots: &mut Vec<Slot<(Stored<K>, X)>, A>,
+    slots: &mut Vec<Node<(Stored<K>, X)>, A>,
     bits: &mut Bits<A>,
     pool: &mut Pool<(Stored<K>, X), A>,
     old_pool: &mut Pool<(Stored<K>, X), A>,
@@ -93,16 +92,16 @@ fn move_row<K: IntKey, X, A: Allocator>(
     let Some((link, first)) = slots[index].get() else {
         unreachable!();
     };
-    let first_target = moved_index_of(first.0.key(), mask, index, old_mask);
-    let first = slots[index].take();
+    let first_target = moved_index_of(&first.0, mask, index, old_mask);
+    let (_, first) = slots[index].take();
     *from = index + 1;
     put_at(slots, bits, pool, first_target, Order::First, first, placed);
     *rest = turn(old_pool, link);
     while *rest < NODE_LIMIT {
         let next = old_pool.pair(*rest);
-        let target = moved_index_of(next.0.key(), mask, index, old_mask);
+        let target = moved_index_of(&next.0, mask, index, old_mask);
         let order = further_order(first_target, target);
-        let pair = take_behind(rest, old_pool);
+        let pair = pop_front(rest, old_pool);
         put_at(slots, bits, pool, target, order, pair, placed);
     }
 }
@@ -112,7 +111,7 @@ fn move_row<K: IntKey, X, A: Allocator>(
 /// The old slots from `from` on haven't moved, and `rest` leads through what is left of the one
 /// before. The crate for Rust reads both if a key's `number` panics, and moves the pairs back.
 fn move_rows<K: IntKey, X, A: Allocator>(
-    slots: &mut Vec<Slot<(Stored<K>, X)>, A>,
+    slots: &mut Vec<Node<(Stored<K>, X)>, A>,
     bits: &mut Bits<A>,
     pool: &mut Pool<(Stored<K>, X), A>,
     old_bits: &Bits<A>,

@@ -3,11 +3,11 @@ use super::Slots;
 use crate::memory::alloc::Allocator;
 use crate::proved::table::IntKey;
 use crate::proved::table::bits::Bits;
-use crate::proved::table::linked::chain::take_behind;
+use crate::proved::table::linked::chain;
 use crate::proved::table::linked::node::{NODE_LIMIT, NOWHERE};
 use crate::proved::table::linked::pool::Pool;
 use crate::proved::table::linked::row::growth::{Order, put_in};
-use crate::proved::table::linked::row::removal::take_front;
+use crate::proved::table::linked::row::removal;
 use crate::proved::table::table::stored::Stored;
 use core::mem::forget;
 
@@ -28,7 +28,7 @@ impl<K: IntKey, X, A: Allocator> Moving<'_, K, X, A> {
         let Some((mut link, _)) = self.old.slots[index].get() else { return };
         self.old.slots[index].set_link(NOWHERE);
         while link < NODE_LIMIT {
-            let pair = take_behind(&mut link, self.pool);
+            let pair = chain::pop_front(&mut link, self.pool);
             drop(self.old.push(index, pair));
         }
     }
@@ -36,7 +36,7 @@ impl<K: IntKey, X, A: Allocator> Moving<'_, K, X, A> {
     /// Moves the pairs that are left of the slot before `from` back, behind the first one of it.
     fn move_rest_back(&mut self) {
         while *self.rest < NODE_LIMIT {
-            let pair = take_behind(self.rest, &mut self.old.pool);
+            let pair = chain::pop_front(self.rest, &mut self.old.pool);
             let slot = &mut self.old.slots[*self.from - 1];
             put_in(slot, &mut self.old.pool, Order::Second, pair);
         }
@@ -44,8 +44,8 @@ impl<K: IntKey, X, A: Allocator> Moving<'_, K, X, A> {
 
     /// Moves the pairs of a new slot back to their old slot, behind those that are there.
     fn move_row_back(&mut self, index: usize) {
-        while !self.old.slots[index].is_empty() {
-            let pair = take_front(&mut self.old.slots[index], self.pool);
+        while let Some((link, _)) = self.old.slots[index].get() {
+            let pair = removal::pop_front(&mut self.old.slots[index], link, self.pool);
             drop(self.old.push(index & self.old.mask, pair));
         }
     }

@@ -3,10 +3,9 @@
 use crate::memory::prelude::*;
 use crate::proved::table::bits::{Bits, MarksLeft};
 use crate::proved::table::key::IntKey;
-use crate::proved::table::linked::chain::take_behind;
-use crate::proved::table::linked::node::{NODE_LIMIT, NOWHERE};
+use crate::proved::table::linked::chain::pop_front;
+use crate::proved::table::linked::node::{NODE_LIMIT, NOWHERE, Node};
 use crate::proved::table::linked::pool::Pool;
-use crate::proved::table::linked::slot::Slot;
 use crate::proved::table::table::slots::Slots;
 use crate::proved::table::table::stored::Stored;
 use crate::memory::alloc::Allocator;
@@ -18,7 +17,7 @@ pub(in crate::proved::table) struct IntoRows<K, X, A: Allocator> {
     from: usize,
     left: MarksLeft,
     bits: Bits<A>,
-    slots: Vec<Slot<(Stored<K>, X)>, A>,
+    slots: Vec<Node<(Stored<K>, X)>, A>,
     pool: Pool<(Stored<K>, X), A>,
 }
 
@@ -48,10 +47,10 @@ impl<K: IntKey, X, A: Allocator> IntoRows<K, X, A> {
     #[inline(always)]
     pub(in crate::proved::table) fn next(&mut self) -> Option<(Stored<K>, X)> {
         if self.link < NODE_LIMIT {
-            return Some(take_behind(&mut self.link, &mut self.pool));
+            return Some(pop_front(&mut self.link, &mut self.pool));
         }
         let index = self.bits.next_in(&mut self.left, self.from)?;
-        let (link, pair) = self.slots[index].leave();
+        let (link, pair) = self.slots[index].take();
         self.link = link;
         self.from = index + 1;
         Some(pair)

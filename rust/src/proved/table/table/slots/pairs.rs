@@ -3,12 +3,11 @@
 use crate::memory::prelude::*;
 use crate::proved::table::bits::Bits;
 use crate::proved::table::key::IntKey;
-use crate::proved::table::linked::node::{NODE_LIMIT, NOWHERE};
+use crate::proved::table::linked::node::{NODE_LIMIT, NOWHERE, Node};
 use crate::proved::table::linked::row::{self, insertion, removal};
-use crate::proved::table::linked::slot::Slot;
 use crate::proved::table::steps::Steps;
 use crate::proved::table::table::slots::Slots;
-use crate::proved::table::table::stored::Stored;
+use crate::proved::table::table::stored::{Sought, Stored};
 use crate::memory::alloc::Allocator;
 
 /// Clears the bit of a slot if it holds no pair.
@@ -21,10 +20,10 @@ pub(super) fn unmark_if<A: Allocator>(bits: &mut Bits<A>, is_empty: bool, index:
 
 /// Removes the only pair of a slot, and clears the bit of the slot.
 #[inline(always)]
-fn take_only<P, A: Allocator>(slot: &mut Slot<P>, bits: &mut Bits<A>, index: usize) -> P {
+fn take_only<P, A: Allocator>(slot: &mut Node<P>, bits: &mut Bits<A>, index: usize) -> P {
     // read before the slot is written, so that the write can't delay it
     let word = bits.word(index);
-    let pair = slot.take();
+    let (_, pair) = slot.take();
     bits.clear_in(word, index);
     pair
 }
@@ -65,7 +64,7 @@ impl<K: IntKey, X, A: Allocator> Slots<K, X, A> {
     /// Whether the first pair of a slot has the key. If there is a first pair, its key is compared,
     /// which is one step.
     #[inline(always)]
-    pub(in crate::proved::table) fn first_is(&self, index: usize, key: &K, steps: &mut Steps) -> bool {
+    pub(in crate::proved::table) fn first_is(&self, index: usize, key: &Sought<K>, steps: &mut Steps) -> bool {
         row::first_is(&self.slots[index], &self.pool, key, steps)
     }
 
@@ -86,7 +85,7 @@ impl<K: IntKey, X, A: Allocator> Slots<K, X, A> {
             unreachable!();
         };
         if link < NODE_LIMIT {
-            return removal::take_of_several(slot, link, &mut self.pool, place);
+            return removal::swap_remove_of_several(slot, link, &mut self.pool, place);
         }
         take_only(slot, &mut self.bits, index)
     }
@@ -95,7 +94,7 @@ impl<K: IntKey, X, A: Allocator> Slots<K, X, A> {
     /// takes its place. The keys are compared from the front, up to the one sought. Each comparison
     /// is one step.
     #[inline(always)]
-    pub(in crate::proved::table) fn remove(&mut self, index: usize, key: K, steps: &mut Steps) -> Option<X> {
+    pub(in crate::proved::table) fn remove(&mut self, index: usize, key: Sought<K>, steps: &mut Steps) -> Option<X> {
         let slot = &mut self.slots[index];
         let Some((link, first)) = slot.get() else {
             return None;
@@ -117,34 +116,21 @@ impl<K: IntKey, X, A: Allocator> Slots<K, X, A> {
         insertion::replace_first(&mut self.slots[index], &mut self.pool, new)
     }
 
-    /// Replaces the pair of a key by one with this value, if it is behind the first one of its slot.
-    /// The last pair of the slot takes its place, and the new one is put last. It returns the old
-    /// value, or the new one if the key isn't there.
-    pub(in crate::proved::table) fn replace_further(
-        &mut self,
-        index: usize,
-        key: K,
-        value: X,
-        steps: &mut Steps,
-    ) -> Result<X, X> {
-        let slot = &mut self.slots[index];
-        let old = insertion::replace_further(slot, &mut self.pool, key, value, steps)?;
-        Ok(old)
-    }
-
-    /// Puts the pair of a key and a value last in a slot whose first pair has another key. If the
-    /// key is present, the last pair of the slot takes the place of its pair, and the old value is
-    /// returned. If an allocation fails, the value is returned.
+    /// Puts the pair of a key and a value last in a slot whose first pair, if there is one, has
+    /// another key. If the key is present, the last pair takes the place of its pair, and the old
+    /// value is returned. An absent key is added only if `adds` is true. If it isn't added, or if an
+    /// allocation fails, the value is returned.
     #[inline(always)]
     pub(in crate::proved::table) fn put(
         &mut self,
         index: usize,
-        key: K,
+        key: Sought<K>,
         value: X,
+        adds: bool,
         steps: &mut Steps,
     ) -> Result<Option<X>, X> {
         let slot = &mut self.slots[index];
-        let old = insertion::put(slot, &mut self.pool, key, value, steps)?;
+        let old = insertion::put(slot, &mut self.pool, key, value, adds, steps)?;
         Ok(old)
     }
 
@@ -156,7 +142,7 @@ impl<K: IntKey, X, A: Allocator> Slots<K, X, A> {
             unreachable!();
         };
         if link < NODE_LIMIT {
-            return removal::take_first_of_several(slot, link, &mut self.pool);
+            return removal::pop_front_of_several(slot, link, &mut self.pool);
         }
         take_only(slot, &mut self.bits, index)
     }

@@ -3,9 +3,9 @@
 
 use crate::memory::prelude::*;
 use crate::proved::table::bits::Bits;
+use crate::proved::table::linked::node::Node;
 use crate::proved::table::linked::pool::Pool;
 use crate::proved::table::linked::row::growth::{Order, put_in};
-use crate::proved::table::linked::slot::Slot;
 use crate::proved::table::steps::Steps;
 use crate::memory::alloc::Allocator;
 
@@ -13,7 +13,7 @@ use crate::memory::alloc::Allocator;
 /// place. If the slot holds a pair, there must be room for another.
 #[inline(always)]
 pub(super) fn put_at<P, A: Allocator>(
-    slots: &mut Vec<Slot<P>, A>,
+    slots: &mut Vec<Node<P>, A>,
     bits: &mut Bits<A>,
     pool: &mut Pool<P, A>,
     index: usize,

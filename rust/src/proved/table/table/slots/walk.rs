@@ -3,8 +3,8 @@
 use crate::memory::prelude::*;
 use crate::proved::table::bits::Indices;
 use crate::proved::table::key::IntKey;
+use crate::proved::table::linked::node::Node;
 use crate::proved::table::linked::pool::Pool;
-use crate::proved::table::linked::slot::Slot;
 use crate::proved::table::table::stored::Stored;
 use crate::memory::alloc::{AllocError, Allocator};
 
@@ -13,7 +13,7 @@ use crate::memory::alloc::{AllocError, Allocator};
 pub struct Pairs<'a, K, X, A: Allocator> {
     pub(super) link: usize,
     pub(super) filled: Indices<'a>,
-    pub(super) slots: &'a [Slot<(Stored<K>, X)>],
+    pub(super) slots: &'a [Node<(Stored<K>, X)>],
     pub(super) pool: &'a Pool<(Stored<K>, X), A>,
 }
 

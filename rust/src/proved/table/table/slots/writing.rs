@@ -4,27 +4,27 @@ use crate::memory::prelude::*;
 use crate::proved::table::bits::Bits;
 use crate::proved::table::kept::Kept;
 use crate::proved::table::key::IntKey;
-use crate::proved::table::linked::chain::{node_in, seek};
+use crate::proved::table::linked::chain::{search, seek};
+use crate::proved::table::linked::node::Node;
 use crate::proved::table::linked::pool::Pool;
 use crate::proved::table::linked::row::removal;
-use crate::proved::table::linked::slot::Slot;
 use crate::proved::table::steps::Steps;
 use crate::proved::table::table::slots::{Slots, add_empty};
-use crate::proved::table::table::stored::Stored;
+use crate::proved::table::table::stored::{Sought, Stored};
 use crate::memory::alloc::Allocator;
 use core::mem;
 
 /// Drops the pairs of a slot, from its front.
-fn drop_row<P, A: Allocator>(slot: &mut Slot<P>, pool: &mut Pool<P, A>) {
-    while !slot.is_empty() {
-        removal::take_front(slot, pool);
+fn drop_row<P, A: Allocator>(slot: &mut Node<P>, pool: &mut Pool<P, A>) {
+    while let Some((link, _)) = slot.get() {
+        removal::pop_front(slot, link, pool);
     }
 }
 
 /// Drops the pairs of all slots, slot after slot. The bits mark those that hold a pair.
 fn drop_rows<K: IntKey, X, A: Allocator>(
     bits: &Bits<A>,
-    slots: &mut Vec<Slot<(Stored<K>, X)>, A>,
+    slots: &mut Vec<Node<(Stored<K>, X)>, A>,
     pool: &mut Pool<(Stored<K>, X), A>,
 ) {
     for index in bits.iter() {
@@ -54,7 +54,7 @@ impl<K: IntKey, V, A: Allocator> Slots<K, Kept<V>, A> {
     pub(in crate::proved::table) fn value_mut_of(
         &mut self,
         index: usize,
-        key: &K,
+        key: &Sought<K>,
         steps: &mut Steps,
     ) -> Option<&mut V> {
         let Some((link, first)) = self.slots[index].get() else {
@@ -63,10 +63,10 @@ impl<K: IntKey, V, A: Allocator> Slots<K, Kept<V>, A> {
         if first.0.matches(key, steps) {
             return Some(self.slots[index].value_mut().get_mut());
         }
-        let Some(at) = node_in(&self.pool, link, key, steps) else {
+        let Ok(spot) = search(&self.pool, link, key, steps) else {
             return None;
         };
-        Some(self.pool.value_mut(at).get_mut())
+        Some(self.pool.value_mut(spot.at).get_mut())
     }
 }
 

@@ -14,7 +14,6 @@ use crate::proved::table::linked::chain::seek;
 use crate::proved::table::linked::closures::written::retain_mut;
 use crate::proved::table::linked::node::{NODE_LIMIT, NOWHERE, Node};
 use crate::proved::table::linked::pool::Pool;
-use crate::proved::table::linked::slot::Slot;
 use crate::proved::table::table::slots::pairs::unmark_if;
 use crate::proved::table::table::stored::Stored;
 use core::marker::PhantomData;
@@ -25,7 +24,7 @@ use core::slice;
 pub struct PairsMut<'a, K, X, A: Allocator> {
     link: usize,
     nodes: slice::IterMut<'a, Node<(Stored<K>, X)>>,
-    filled: MarkedMut<'a, Slot<(Stored<K>, X)>>,
+    filled: MarkedMut<'a, Node<(Stored<K>, X)>>,
     allocator: PhantomData<A>,
 }
 
@@ -82,7 +81,7 @@ impl<'a, T> Rest<'a, T> {
 
 /// The values at spots in ascending order, by mutable reference.
 pub struct SpotsMut<'a, K, X> {
-    slots: Rest<'a, Slot<(Stored<K>, X)>>,
+    slots: Rest<'a, Node<(Stored<K>, X)>>,
     nodes: Rest<'a, Node<(Stored<K>, X)>>,
 }
 

@@ -31,7 +31,7 @@ module _ (g : _) (c : After-put_back g) (slot : IsSlot g.K.IntKey.number_of c.se
       → c.put_back.new.self.rows ≡ set c.self.inside.slots.rows c.args.at.slot (row_without g.K.IntKey.number_of c.self.inside.slots.rows c.args.at.slot c.args.at.key slot ++ (c.args.at.key, c.in-Err.back) ∷ [])
   put taken =
       let R = c.self.inside.slots.rows in let i = c.args.at.slot in let row = row_without g.K.IntKey.number_of R i c.args.at.key slot in
-      c.put_back.ensures.rows ∙ (λ k. set (taken k) i (get_or (taken k) i [] ++ (c.new.ensures.value k, c.in-Err.back) ∷ []))
+      c.put_back.ensures.rows ∙ (λ k. set (taken k) i (get_or (taken k) i [] ++ ((c.new-in-Err.ensures.value ∙ c.new.ensures.value) k, c.in-Err.back) ∷ []))
       ∙ ap (λ ps. set (set R i row) i (ps ++ (c.args.at.key, c.in-Err.back) ∷ [])) (get_or-set_same R i row [] (within _ _ _ _ slot)) ∙ set-set R i row _
 
 pub take_at-kept-requires : goal.take_at-kept-requires
@@ -59,7 +59,7 @@ pub put_back-requires-clause-own : goal.put_back-requires-clause-own
 put_back-requires-clause-own g c =
     let after = (goal.at.put_back-requires-clause-own g c).After-take_at-kept in
     let len = ap length c.take_at-kept.ensures.rows ∙ length-set _ _ _ in
-    (λ k. slot_number g.K.IntKey.number_of (c.new.ensures.value k) (len k)) ∙ sym (slot g after).slot
+    (λ k. slot_number g.K.IntKey.number_of ((c.new-in-Err.ensures.value ∙ c.new.ensures.value) k) (len k)) ∙ sym (slot g after).slot
 
 pub invariant_of-self-in-Err : goal.invariant_of-self-in-Err
 invariant_of-self-in-Err g c =

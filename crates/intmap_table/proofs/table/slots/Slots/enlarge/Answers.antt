@@ -2,13 +2,14 @@ use Rattle.std.proofs.Common.{◌≡◌, ◌+◌, ◌-◌, ◌≤◌, ◌++◌, 
 use Rattle.std.specs.Prelude.{get_or, replicate, take}
 use Rattle.std.proofs.lemmas.List.{length-map}
 use Rattle.intmap_table.specs.Classes.{slot_number}
-use Rattle.intmap_table.specs.Tables.Nodes.{Empty, further, row_in, rows_in, AreLinked}
-use Rattle.intmap_table.specs.Tables.Rows.{AreRows, HasMoved}
+use Rattle.intmap_table.specs.Tables.Growing.{blank}
+use Rattle.intmap_table.specs.Tables.Nodes.{empty, further, row_in, rows_in, AreLinked}
+use Rattle.intmap_table.specs.Tables.Rows.{HasMoved}
 use Rattle.intmap_table.specs.Tables.Slots.{joined, AreMarked}
 use Rattle.intmap_table.proofs.Tables.GrownLemmas.{grown-more}
 use Rattle.intmap_table.proofs.Tables.MarkedLemmas.{get_or-of_default}
-use Rattle.intmap_table.proofs.Nodes.GrowingLemmas.{IsEnlarged, Enlarged}
-use Rattle.intmap_table.proofs.Nodes.LinkedLemmas.{HaveRows, Rows-none}
+use Rattle.intmap_table.proofs.Nodes.GrowingLemmas.{length-blank, IsEnlarged, Enlarged}
+use Rattle.intmap_table.proofs.Nodes.LinkedLemmas.{HaveRows, Rows-free}
 use Rattle.intmap_table.proofs.table.slots.Slots.enlarge.Goals as goal
 use Rattle.intmap_table.proofs.table.slots.Slots.enlarge.Goals.{After-len, After-add_empty}
 
@@ -30,11 +31,14 @@ module _ (g : _) (c : After-add_empty g) where
   start : IsEnlarged g.K.IntKey.number_of c.self.inside.slots.items (c.self.inside.mask + 1) c.args.capacity c.add_empty.new.slots.items
   start =
       Enlarged g.K.IntKey.number_of c.self.inside.slots.items c.self.inside.pool c.self.inside.bits c.self.inside.mask c.args.capacity c.add_empty.new.slots.items c.self.invariant (rw (← c.self.view_is) at c.requires.grown)
-      (c.add_empty.ensures.items ∙ ap (λ xs. xs ++ replicate (c.args.capacity - length xs) Empty) c.reserve_exact.ensures.items)
+      (c.add_empty.ensures.items ∙ ap (λ xs. xs ++ replicate (c.args.capacity - length xs) empty) c.reserve_exact.ensures.items)
 
   -- without the pairs of the old ones no slot holds any
-  none : HaveRows g.K.IntKey.number_of (replicate c.args.capacity Empty) c.in-Ok.made.1 c.in-Ok.made.0 (c.args.capacity - 1) (replicate c.args.capacity [])
-  none = rw c.in-Ok.ensures.bits (Rows-none g.K.IntKey.number_of c.in-Ok.made.1 c.args.capacity (c.args.capacity - 1) c.requires.grown.new c.in-Ok.ensures.held start.all)
+  none : HaveRows g.K.IntKey.number_of (blank 0 (c.self.inside.mask + 1) c.add_empty.new.slots.items) c.in-Ok.made.1 c.in-Ok.made.0 (c.args.capacity - 1) (replicate c.args.capacity [])
+  none =
+      let B = blank 0 (c.self.inside.mask + 1) c.add_empty.new.slots.items in
+      let len : length B ≡ c.args.capacity = length-blank 0 (c.self.inside.mask + 1) c.add_empty.new.slots.items ∙ start.len ∙ start.all in
+      rw c.in-Ok.ensures.bits (Rows-free g.K.IntKey.number_of B c.in-Ok.made.1 c.args.capacity (c.args.capacity - 1) start.none len c.requires.grown.new c.in-Ok.ensures.held start.all)
 
   -- the old rows
   rows : rows_in (take (c.self.inside.mask + 1) c.add_empty.new.slots.items) c.self.inside.pool.nodes ≡ rows_in c.self.inside.slots.items c.self.inside.pool.nodes
@@ -57,13 +61,12 @@ move_rows-requires-clause-linked g c =
 
 pub move_rows-requires-clause-are : goal.move_rows-requires-clause-are
 move_rows-requires-clause-are g c =
-    let at = (goal.at.move_rows-requires-clause-are g c).After-add_empty in
-    subst (λ T. AreRows g.K.IntKey.number_of T c.in-Ok.made.1 c.in-Ok.made.0 (c.args.capacity - 1)) (sym (start g at).none) (none g at).are
+    (none g (goal.at.move_rows-requires-clause-are g c).After-add_empty).are
 
 pub move_rows-requires-clause-none : goal.move_rows-requires-clause-none
 move_rows-requires-clause-none g c =
     let at = (goal.at.move_rows-requires-clause-none g c).After-add_empty in
-    λ j. ap (λ T. get_or (rows_in T c.in-Ok.made.1.nodes) j []) (start g at).none ∙ ap (λ R. get_or R j []) (none g at).rows ∙ get_or-of_default c.args.capacity j []
+    λ j. ap (λ R. get_or R j []) (none g at).rows ∙ get_or-of_default c.args.capacity j []
 
 pub move_rows-requires-clause-room : goal.move_rows-requires-clause-room
 move_rows-requires-clause-room g c =

@@ -1,15 +1,15 @@
 use Rattle.std.proofs.Common.{◌≡◌, ◌+◌, ◌-◌, ◌++◌, ◌∙◌, ap, arith, length, replicate}
-use Rattle.intmap_table.specs.Tables.Nodes.{Empty, rows_in}
+use Rattle.intmap_table.specs.Tables.Nodes.{empty, rows_in}
 use Rattle.intmap_table.proofs.SlotNumberLemmas.{capacity-positive}
 use Rattle.intmap_table.proofs.Nodes.LinkedLemmas.{Rows-none}
 use Rattle.intmap_table.proofs.table.slots.Slots.new.Goals as goal
 use Rattle.intmap_table.proofs.table.slots.Slots.new.Goals.{After-add_empty}
 
 -- all slots are new
-none : (g : _) (c : After-add_empty g) → c.add_empty.new.slots.items ≡ replicate c.args.capacity Empty
+none : (g : _) (c : After-add_empty g) → c.add_empty.new.slots.items ≡ replicate c.args.capacity empty
 none g c =
     let all : c.args.capacity - 0 ≡ c.args.capacity = omega arith in
-    c.add_empty.ensures.items ∙ ap (λ xs. xs ++ replicate (c.args.capacity - length xs) Empty) c.in_ok-slots.ensures.items ∙ ap (λ n. replicate n Empty) all
+    c.add_empty.ensures.items ∙ ap (λ xs. xs ++ replicate (c.args.capacity - length xs) empty) c.in_ok-slots.ensures.items ∙ ap (λ n. replicate n empty) all
 
 pub invariant_of-result : goal.invariant_of-result
 invariant_of-result g c =

@@ -2,7 +2,6 @@ use Rattle.std.proofs.Common.{◌<◌, [], length, ◌∙◌}
 use Rattle.std.specs.Prelude.{get_or, set}
 use Rattle.intmap_table.specs.Tables.Nodes.{rows_in}
 use Rattle.intmap_table.specs.Tables.Putting.{put_last}
-use Rattle.intmap_table.proofs.Tables.FilledLemmas.{row-within}
 use Rattle.intmap_table.proofs.Tables.MemoryLemmas.{OnErr-always}
 use Rattle.intmap_table.proofs.Nodes.LinkedLemmas.{HaveRows, IsRow, Row-of}
 use Rattle.intmap_table.proofs.Nodes.PutRowLemmas.{Contents-same, Row-put}
@@ -12,7 +11,7 @@ use Rattle.intmap_table.proofs.table.slots.Slots.put.Goals.{After-put, In_ok-old
 row : (g : _) (c : After-put g) → IsRow g.K.IntKey.number_of c.self.inside.slots.items c.self.inside.pool (rows_in c.self.inside.slots.items c.self.inside.pool.nodes) c.args.index c.index_mut-slot.result.now
 row g c =
     let slots = c.self.inside.slots.items in let a = c.self.inside.pool in
-    let within : c.args.index < length (rows_in slots a.nodes) = row-within (rows_in slots a.nodes) c.args.index (rw (← c.self.view_is) at c.requires.some) in
+    let within : c.args.index < length (rows_in slots a.nodes) = rw (← c.self.view_is) at c.requires.within in
     Row-of g.K.IntKey.number_of slots a c.self.inside.bits c.self.inside.mask c.args.index c.index_mut-slot.result.now c.self.invariant within c.index_mut-slot.ensures.value
 
 -- the slots with the new row
@@ -21,7 +20,7 @@ done : (g : _) (c : In_ok-old g) → IsRow g.K.IntKey.number_of c.self.inside.sl
 done g c here =
     let slots = c.self.inside.slots.items in let a = c.self.inside.pool in
     let own = rw (← c.self.view_is) at c.requires.own in
-    let some : 0 < length (get_or (rows_in slots a.nodes) c.args.index []) = rw (← c.self.view_is) at c.requires.some in
+    let some : 0 < length (get_or (rows_in slots a.nodes) c.args.index []) = rw here.is at c.in_ok-old.ensures.some in
     Row-put g.K.IntKey.number_of slots a c.self.inside.bits c.self.inside.mask c.args.index c.index_mut-slot.result.now c.args.key c.args.value c.put.new.pool c.put.new.slot c.self.invariant here c.in_ok-old.ensures.row own some
 
 pub returns-in_err-old-clause-err : goal.returns-in_err-old-clause-err

@@ -4,7 +4,7 @@ use Rattle.std.proofs.lemmas.List.{map-set}
 use Rattle.intmap_table.specs.Bindings.{swap_out, value_of}
 use Rattle.intmap_table.specs.Classes.{same_key, slot_number}
 use Rattle.intmap_table.specs.Reach.{through_first}
-use Rattle.intmap_table.specs.Tables.Nodes.{Empty, node_limit, chain_of, rows_in, row_in, IsChain, IsSlot}
+use Rattle.intmap_table.specs.Tables.Nodes.{node_limit, empty, chain_of, rows_in, row_in, IsChain, IsSlot}
 use Rattle.intmap_table.proofs.Nodes.LinkedLemmas.{HaveRows, IsRow, Row-of, Row-kept, Row-changed}
 use Rattle.intmap_table.proofs.Nodes.PathLemmas.{Chain-beyond, Chain-some}
 use Rattle.intmap_table.proofs.Nodes.TakenLemmas.{first_value-behind, swap_out-behind, Taken-only, home-swap_out}
@@ -84,12 +84,12 @@ returns-then-not-matches-clause-counted g c =
 
 -- the slots without that one
 gone : (g : _) (c : In-Some g) → node_limit ≤ c.in-Some.link → test g c c.in-Some.first.now ≡ true
-    → HaveRows g.K.IntKey.number_of (set c.self.inside.slots.items c.args.index Empty) c.self.inside.pool (set c.self.inside.bits c.args.index false) c.self.inside.mask
+    → HaveRows g.K.IntKey.number_of (set c.self.inside.slots.items c.args.index empty) c.self.inside.pool (set c.self.inside.bits c.args.index false) c.self.inside.mask
     (set (rows_in c.self.inside.slots.items c.self.inside.pool.nodes) c.args.index (swap_out (test g c) any (get_or (rows_in c.self.inside.slots.items c.self.inside.pool.nodes) c.args.index [])))
 gone g c last passes =
     let some = ap length (pairs g c) in
     let r = row g c in
-    Row-changed g.K.IntKey.number_of c.self.inside.slots.items c.self.inside.pool c.self.inside.bits c.self.inside.mask c.args.index c.index_mut-slot.result.now (swap_out (test g c) any) c.self.inside.pool Empty c.self.invariant r
+    Row-changed g.K.IntKey.number_of c.self.inside.slots.items c.self.inside.pool c.self.inside.bits c.self.inside.mask c.args.index c.index_mut-slot.result.now (swap_out (test g c) any) c.self.inside.pool empty c.self.invariant r
     (Taken-only (test g c) c.self.inside.pool c.index_mut-slot.result.now c.in-Some.link c.in-Some.first.now c.in-Some.ensures.some (Chain-beyond c.self.inside.pool.nodes c.in-Some.link (chain g c) last) passes)
     (home-swap_out (λ p. slot_number g.K.IntKey.number_of p.0 (length c.self.inside.slots.items)) c.args.index (test g c) (row_in c.self.inside.pool.nodes c.index_mut-slot.result.now) r.own)
     (omega (arith, some))

@@ -1,6 +1,6 @@
 use Rattle.std.proofs.Common.{◌≡◌, ◌∙◌, ◌≤◌, [], ◌++◌, get_or, ℕ, List, ◌-◌, length, length-set, length-append, replicate, sym, ap, arith}
 use Rattle.std.proofs.lemmas.List.{length-replicate, length-map}
-use Rattle.intmap_table.specs.Tables.Nodes.{Slot, Empty, row_in, rows_in}
+use Rattle.intmap_table.specs.Tables.Nodes.{Node, empty, row_in, rows_in}
 use Rattle.intmap_table.specs.Tables.Slots.{IsNextRow}
 use Rattle.intmap_table.proofs.Nodes.CloneLemmas.{AreClonedBelow, Below-more, Below-passed, Below-next, Below-all}
 use Rattle.intmap_table.proofs.Nodes.LinkedLemmas.{IsRow, Row-of}
@@ -10,10 +10,10 @@ use Rattle.intmap_table.proofs.table.slots.clone.clone_rows.Goals as goal
 use Rattle.intmap_table.proofs.table.slots.clone.clone_rows.Goals.{In-Some, After-add_empty}
 
 -- so many slots are there
-filled_up : {P : Type 0} (T S : List (Slot P)) (n : ℕ) → length T ≤ n → S ≡ T ++ replicate (n - length T) Empty → length S ≡ n
+filled_up : {P : Type 0} (T S : List (Node P)) (n : ℕ) → length T ≤ n → S ≡ T ++ replicate (n - length T) empty → length S ≡ n
 filled_up {P = P} T S n few is =
-    let added = ap length is ∙ length-append T (replicate (n - length T) Empty) in
-    let count = length-replicate {A = Slot P} (n - length T) Empty in
+    let added = ap length is ∙ length-append T (replicate (n - length T) empty) in
+    let count = length-replicate {A = Node P} (n - length T) empty in
     omega (arith, added, count, few)
 
 module _ (g : _) (c : In-Some g) where
@@ -32,6 +32,13 @@ module _ (g : _) (c : After-add_empty g) where
 
 pub clone_slot-requires-clause-leads : goal.clone_slot-requires-clause-leads
 clone_slot-requires-clause-leads g c = (row g (goal.at.clone_slot-requires-clause-leads g c).In-Some c.index-slots-index.result c.index-slots-index.is).chain
+
+pub clone_slot-requires-clause-some : goal.clone_slot-requires-clause-some
+clone_slot-requires-clause-some g c =
+    let at = (goal.at.clone_slot-requires-clause-some g c).In-Some in
+    let is = ap length (row g at c.index-slots-index.result c.index-slots-index.is).is in
+    let some = (next g at).filled in
+    omega (arith, is, some)
 
 pub loop-index-preserved : goal.loop-index-preserved
 loop-index-preserved g c =

@@ -15,7 +15,7 @@ module _ (g : _) (c : After-masked_index_of g) where
   next = Chain-next c.args.pool.now.nodes c.loop-next.link c.in-Some.next c.in-Some.pair.now c.loop-next.invariant.leads c.in-Some.ensures.some
 
   own : slot_number g.K.IntKey.number_of c.in-Some.pair.now.0 (c.args.mask + 1) ≡ c.masked_index_of.result
-  own = sym (c.masked_index_of.ensures.slot ∙ ap (λ k. slot_number g.K.IntKey.number_of k (c.args.mask + 1)) c.key.ensures.value)
+  own = sym c.masked_index_of.ensures.slot
 
   left : slot_of g.K.IntKey.number_of (chain_of c.args.pool.now.nodes c.args.from) (c.args.mask + 1) c.args.target ≡ slot_of g.K.IntKey.number_of (c.in-Some.pair.now ∷ chain_of c.args.pool.now.nodes c.in-Some.next) (c.args.mask + 1) c.args.target
   left = c.loop-next.invariant.left ∙ ap (λ ps. slot_of g.K.IntKey.number_of ps (c.args.mask + 1) c.args.target) next.pairs

@@ -3,7 +3,7 @@ use Rattle.std.specs.Prelude.{get_or}
 use Rattle.std.proofs.lemmas.List.{get_or_past, length-append, length-map, length-take-le}
 use Rattle.intmap_table.specs.Classes.{slot_number}
 use Rattle.intmap_table.specs.Tables.Growing.{blank}
-use Rattle.intmap_table.specs.Tables.Nodes.{Empty, row_in, rows_in, AreHome}
+use Rattle.intmap_table.specs.Tables.Nodes.{empty, row_in, rows_in, AreHome}
 use Rattle.intmap_table.specs.Tables.Rows.{AreRows, HasMoved}
 use Rattle.intmap_table.specs.Tables.Slots.{joined, IsNextRow}
 use Rattle.intmap_table.proofs.Tables.AroundLemmas.{joined-taken, joined-before, next-taken}
@@ -35,14 +35,14 @@ module _ (g : _) (c : In-Some g) (less : c.args.old_mask + 1 ≤ length c.args.s
   in_old = let w = next.within in let n = length-map (take (c.args.old_mask + 1) c.args.slots.now.items) (row_in c.args.old_pool.now.nodes) in let len = length-take-le (c.args.old_mask + 1) c.args.slots.now.items less in omega (arith, w, n, len)
 
   -- it is as it was
-  row : row_in c.loop-index.old_pool.nodes (get_or c.loop-index.slots.items c.in-Some.index Empty) ≡ get_or (rows_in (take (c.args.old_mask + 1) c.args.slots.now.items) c.args.old_pool.now.nodes) c.in-Some.index []
+  row : row_in c.loop-index.old_pool.nodes (get_or c.loop-index.slots.items c.in-Some.index empty) ≡ get_or (rows_in (take (c.args.old_mask + 1) c.args.slots.now.items) c.args.old_pool.now.nodes) c.in-Some.index []
   row = c.loop-index.invariant.old.rows c.in-Some.index next.behind in_old
 
   -- the slots before it hold no pair that hasn't moved
   passed : blank c.loop-index.from (c.args.old_mask + 1) c.loop-index.slots.items ≡ blank c.in-Some.index (c.args.old_mask + 1) c.loop-index.slots.items
   passed =
       blank-passed c.loop-index.from c.in-Some.index (c.args.old_mask + 1) c.loop-index.slots.items next.behind
-      (λ j le lt. row-empty c.loop-index.old_pool.nodes (get_or c.loop-index.slots.items j Empty) (c.loop-index.invariant.old.rows j le (let w = in_old in omega (arith, lt, w)) ∙ next.between j le lt))
+      (λ j le lt. row-empty c.loop-index.old_pool.nodes (get_or c.loop-index.slots.items j empty) (c.loop-index.invariant.old.rows j le (let w = in_old in omega (arith, lt, w)) ∙ next.between j le lt))
 
 pub loop-index-init : goal.loop-index-init
 loop-index-init g c =
@@ -181,7 +181,7 @@ module _ (g : _) (c : In_default g) where
   whole : blank c.loop-index.from (c.args.old_mask + 1) c.loop-index.slots.items ≡ c.loop-index.slots.items
   whole =
       blank-all c.loop-index.from (c.args.old_mask + 1) c.loop-index.slots.items
-      (λ j le lt. row-empty c.loop-index.old_pool.nodes (get_or c.loop-index.slots.items j Empty) (c.loop-index.invariant.old.rows j le lt ∙ past j le))
+      (λ j le lt. row-empty c.loop-index.old_pool.nodes (get_or c.loop-index.slots.items j empty) (c.loop-index.invariant.old.rows j le lt ∙ past j le))
 
   -- and all pairs have moved
   all : joined (take c.loop-index.from (rows_in (take (c.args.old_mask + 1) c.args.slots.now.items) c.args.old_pool.now.nodes)) ≡ joined (rows_in (take (c.args.old_mask + 1) c.args.slots.now.items) c.args.old_pool.now.nodes)

@@ -1,25 +1,30 @@
-use Rattle.std.proofs.Common.{length, ap, sym, ◌∙◌, arith}
-use Rattle.intmap_table.proofs.Nodes.DroppedLemmas.{Dropped-start, Dropped-next, Dropped-all}
+use Rattle.std.proofs.Common.{length, ap, sym, subst, arith}
+use Rattle.intmap_table.specs.Tables.Nodes.{chain_of, row_in, IsSlot, IsSlotSet}
+use Rattle.intmap_table.proofs.Nodes.DroppedLemmas.{Dropped-start, Dropped-next}
 use Rattle.intmap_table.proofs.table.slots.writing.drop_row.Goals as goal
 
-pub loop-slot-init : goal.loop-slot-init
-loop-slot-init g c = record { left = Dropped-start c.args.pool.now c.args.slot.now c.requires; total = omega arith }
+pub loop-link-init : goal.loop-link-init
+loop-link-init g c = record { left = Dropped-start c.args.pool.now c.args.slot.now c.requires; total = omega arith }
 
-pub take_front-requires-clause-leads : goal.take_front-requires-clause-leads
-take_front-requires-clause-leads g c = c.loop-slot.invariant.left.changed.is
+pub pop_front-requires-clause-leads : goal.pop_front-requires-clause-leads
+pop_front-requires-clause-leads g c = subst (IsSlot c.loop-link.pool.nodes) c.in-Some.ensures.some c.loop-link.invariant.left.changed.is
 
-pub loop-slot-smaller : goal.loop-slot-smaller
-loop-slot-smaller g c =
-    let before = ap length c.take_front.ensures.row.1 in
-    let after = ap length c.take_front.ensures.row.2.pairs in
+pub loop-link-smaller : goal.loop-link-smaller
+loop-link-smaller g c =
+    let before = ap (λ s. length (row_in c.loop-link.pool.nodes s)) c.pop_front.ensures.value in
+    let after = ap length (c.pop_front.ensures.row c.pop_front.result).pairs in
     omega (arith, before, after)
 
-pub loop-slot-preserved : goal.loop-slot-preserved
-loop-slot-preserved g c = record {
-  left = Dropped-next c.args.pool.now c.args.slot.now c.loop-slot.pool c.loop-slot.slot c.take_front.result c.take_front.ensures.row.0 c.take_front.new.pool c.take_front.new.slot
-      c.loop-slot.invariant.left c.take_front.ensures.row.1 c.take_front.ensures.row.2;
-  total = omega (arith, c.loop-slot.invariant.total, c.take_front.ensures.total);
-}
+pub loop-link-preserved : goal.loop-link-preserved
+loop-link-preserved g c =
+    let rest = chain_of c.loop-link.pool.nodes c.in-Some.link in
+    record {
+      left = Dropped-next c.args.pool.now c.args.slot.now c.loop-link.pool c.loop-link.slot c.pop_front.result rest c.pop_front.new.pool c.pop_front.new.slot
+          c.loop-link.invariant.left (ap (row_in c.loop-link.pool.nodes) c.pop_front.ensures.value)
+          (subst (λ s. IsSlotSet c.loop-link.pool s rest c.pop_front.new.pool c.pop_front.new.slot) (sym c.pop_front.ensures.value) (c.pop_front.ensures.row c.pop_front.result));
+      total = omega (arith, c.loop-link.invariant.total, c.pop_front.ensures.total);
+    }
 
 pub returns-clause-row : goal.returns-clause-row
-returns-clause-row g c = Dropped-all c.args.pool.now c.args.slot.now c.loop-slot.pool c.loop-slot.slot c.loop-slot.invariant.left (sym c.is_empty.ensures ∙ c.loop-slot-test.false)
+returns-clause-row g c =
+    subst (λ ps. IsSlotSet c.args.pool.now c.args.slot.now ps c.loop-link.pool c.loop-link.slot) (ap (row_in c.loop-link.pool.nodes) c.in_default.ensures.none.1) c.loop-link.invariant.left.changed

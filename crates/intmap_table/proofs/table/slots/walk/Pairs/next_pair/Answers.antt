@@ -42,8 +42,9 @@ bounds-self-inside-index g c =
 
 pub unreachable-requires : goal.unreachable-requires
 unreachable-requires g c =
-    Walk-filled c.self.inside.slots.now c.self.inside.pool.now.nodes c.self.inside.link c.in-Some-next.index c.next.new.self c.index-self-index.result
-    (left g (goal.at.unreachable-requires g c).In-Some-next) c.in_default-get.ensures.none
+    let free = c.in_default-get.ensures.none in
+    Walk-filled c.self.inside.slots.now c.self.inside.pool.now.nodes c.self.inside.link c.in-Some-next.index c.next.new.self c.index-self-index.result free.0
+    (left g (goal.at.unreachable-requires g c).In-Some-next) free.1
 
 pub invariant_of-self-2 : goal.invariant_of-self-2
 invariant_of-self-2 g c = (slot g (goal.at.invariant_of-self-2 g c).In-Some-get (left g (goal.at.invariant_of-self-2 g c).In-Some-next)).is

@@ -1,7 +1,7 @@
 use Rattle.std.proofs.Common.{Some, length, get_or, refl, sym, ap, ◌∙◌, subst, arith}
 use mathlib.Core.Logic.{inl, inr}
 use mathlib.Core.Path.{fun_ext}
-use Rattle.intmap_table.specs.Tables.Nodes.{Filled, rows_in}
+use Rattle.intmap_table.specs.Tables.Nodes.{Held, rows_in}
 use Rattle.intmap_table.proofs.Nodes.FoundLemmas.{Found-some}
 use Rattle.intmap_table.proofs.Nodes.LentLemmas.{same_contents, Lent-first, Lent-first_value}
 use Rattle.intmap_table.proofs.Nodes.LinkedLemmas.{IsRow, Row-of}
@@ -10,7 +10,7 @@ use Rattle.intmap_table.proofs.table.slots.writing.Slots+K+Kept+V+A.value_mut_of
 use Rattle.intmap_table.proofs.table.slots.writing.Slots+K+Kept+V+A.value_mut_of.Goals.{In-Some}
 
 -- the slot has the first pair that was read
-row : (g : _) (c : In-Some g) → IsRow g.K.IntKey.number_of c.self.inside.slots.items c.self.inside.pool (rows_in c.self.inside.slots.items c.self.inside.pool.nodes) c.args.index (Filled c.in-Some.link c.in-Some.first.now)
+row : (g : _) (c : In-Some g) → IsRow g.K.IntKey.number_of c.self.inside.slots.items c.self.inside.pool (rows_in c.self.inside.slots.items c.self.inside.pool.nodes) c.args.index (Held c.in-Some.link c.in-Some.first.now)
 row g c =
     let slots = c.self.inside.slots.items in
     let pool = c.self.inside.pool in
@@ -43,34 +43,34 @@ returns-then-matches g c =
       },
     )
 
-pub node_in-requires : goal.node_in-requires
-node_in-requires g c = (row g (goal.at.node_in-requires g c).In-Some).chain
+pub search-requires : goal.search-requires
+search-requires g c = (row g (goal.at.search-requires g c).In-Some).chain
 
-pub returns-in_default-node_in : goal.returns-in_default-node_in
-returns-in_default-node_in g c =
+pub returns-in_default-search : goal.returns-in_default-search
+returns-in_default-search g c =
     let number = g.K.IntKey.number_of in let slots = c.self.inside.slots.items in let pool = c.self.inside.pool in let bits = c.self.inside.bits in let mask = c.self.inside.mask in
     let i = c.args.index in let l = c.in-Some.link in let first = c.in-Some.first.now in let k = c.args.key.now in let are = c.self.invariant in
-    let row = row g (goal.at.returns-in_default-node_in g c).In-Some in
+    let row = row g (goal.at.returns-in_default-search g c).In-Some in
     let differs = sym c.matches.ensures.same ∙ c.if-matches.false in
     let behind = Sought-behind number slots pool bits mask i l first k are row differs in (
       ap (λ m. inr m) c.self.view_is,
       record {
         writes_back = tt;
-        value = rw (← c.self.view_is) (sym (Sought-absent number slots pool bits mask i l first k are row differs c.in_default-node_in.ensures.missing));
-        counted = rw (← c.self.view_is) (omega (arith, c.matches.ensures.counted, c.node_in.ensures.counted, behind));
+        value = rw (← c.self.view_is) (sym (Sought-absent number slots pool bits mask i l first k are row differs c.in_default-search.ensures.missing));
+        counted = rw (← c.self.view_is) (omega (arith, c.matches.ensures.counted, c.search.ensures.counted, behind));
       },
     )
 
 pub value_mut-requires-2 : goal.value_mut-requires-2
 value_mut-requires-2 g c =
-    let found = c.in-Some-node_in.ensures.found in
-    Found-some g.K.IntKey.number_of c.self.inside.pool.nodes c.in-Some.link found.0 c.in-Some-node_in.at c.args.key.now found.1 found.2
+    let found = c.in-Ok.ensures in
+    Found-some g.K.IntKey.number_of c.self.inside.pool.nodes c.in-Some.link c.in-Ok.spot.place c.in-Ok.spot.at c.args.key.now found.found.reached found.place
 
 pub invariant_of-self-lent-2 : goal.invariant_of-self-lent-2
 invariant_of-self-lent-2 g c w =
-    let found = c.in-Some-node_in.ensures.found in
+    let found = c.in-Ok.ensures in
     (Sought-in_node g.K.IntKey.number_of c.self.inside.slots.items c.self.inside.pool c.self.inside.bits c.self.inside.mask c.args.index c.in-Some.link c.in-Some.first.now c.args.key.now c.self.invariant
-    (row g (goal.at.invariant_of-self-lent-2 g c).In-Some) (sym c.matches.ensures.same ∙ c.if-matches.false) found.0 c.in-Some-node_in.at found.1 found.2 w).are
+    (row g (goal.at.invariant_of-self-lent-2 g c).In-Some) (sym c.matches.ensures.same ∙ c.if-matches.false) c.in-Ok.spot.place c.in-Ok.spot.at found.found.reached found.place w).are
 
 pub returns : goal.returns
 returns g c =
@@ -79,12 +79,12 @@ returns g c =
     let row = row g (goal.at.returns g c).In-Some in
     let differs = sym c.matches.ensures.same ∙ c.if-matches.false in
     let behind = Sought-behind number slots pool bits mask i l first k are row differs in
-    let found = c.in-Some-node_in.ensures.found in
+    let found = c.in-Ok.ensures in
     let held = c.value_mut-2.ensures.value in (
-      ap (λ f. inl (c.get_mut-2.result.ghost_name, f)) (fun_ext (λ w. rw (← c.self.view_is) (same_contents _ _ pool.total (Sought-in_node number slots pool bits mask i l first k are row differs found.0 c.in-Some-node_in.at found.1 found.2 w).rows))),
+      ap (λ f. inl (c.get_mut-2.result.ghost_name, f)) (fun_ext (λ w. rw (← c.self.view_is) (same_contents _ _ pool.total (Sought-in_node number slots pool bits mask i l first k are row differs c.in-Ok.spot.place c.in-Ok.spot.at found.found.reached found.place w).rows))),
       record {
         writes_back = tt;
-        value = rw (← c.self.view_is) (ap Some (c.get_mut-2.ensures.value ∙ held.3) ∙ sym (Sought-value number slots pool bits mask i l first k are row differs found.0 c.in-Some-node_in.at found.1 found.2 held.0 held.1 held.2));
-        counted = rw (← c.self.view_is) (omega (arith, c.matches.ensures.counted, c.node_in.ensures.counted, behind));
+        value = rw (← c.self.view_is) (ap Some (c.get_mut-2.ensures.value ∙ held.3) ∙ sym (Sought-value number slots pool bits mask i l first k are row differs c.in-Ok.spot.place c.in-Ok.spot.at found.found.reached found.place held.0 held.1 held.2));
+        counted = rw (← c.self.view_is) (omega (arith, c.matches.ensures.counted, c.search.ensures.counted, behind));
       },
     )
