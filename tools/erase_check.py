@@ -85,7 +85,8 @@ NOT_CALLED = {
         use std::alloc::AllocError;
         impl From<AllocError> for Cause {""",
     "intmap/src/map/traits.rt": """
-        impl<K: IntKey + fmt::Debug, V: fmt::Debug, A: Allocator + Copy> fmt::Debug for IntMap<K, V, A> {""",
+        impl<K: IntKey + fmt::Debug, V: fmt::Debug, A: Allocator + Copy> fmt::Debug for IntMap<K, V, A> {
+        impl<K: IntKey, V: Clone, A: Allocator + Copy> Clone for IntMap<K, V, A> {""",
     "intmap_set/src/set.rt": """
         mod owned;""",
     "intmap_set/src/set/iter.rt": """
@@ -94,11 +95,10 @@ NOT_CALLED = {
     "intmap_set/src/set/build.rt": """
         pub fn from_array<const N: usize>(alloc: A,""",
     "intmap_set/src/set/traits.rt": """
-        impl<K: IntKey + fmt::Debug, A: Allocator + Copy> fmt::Debug for IntSet<K, A> {""",
+        impl<K: IntKey + fmt::Debug, A: Allocator + Copy> fmt::Debug for IntSet<K, A> {
+        impl<K: IntKey, A: Allocator + Copy> Clone for IntSet<K, A> {""",
     "intmap_table/src/linked/row/removal.rt": """
         pub(crate) fn remove<P, A: Allocator>(""",
-    "intmap_table/src/table.rt": """
-        pub fn further(&self)""",
     "intmap_table/src/table/slots.rt": """
         pub(crate) fn has_pair(&self,""",
     "intmap_table/src/table/slots/pairs.rt": """
@@ -109,6 +109,12 @@ NOT_CALLED = {
         fn seek<K: IntKey, X, A: Allocator>(
         pub fn step(&self,
         pub fn cut(&mut self,""",
+}
+# names that only those items have, by source, each with what stands around it in the list that it is used by, and what is
+# left of that
+NOT_NAMED = {
+    "intmap/src/map/traits.rt": {"{AllocError, Allocator}": "Allocator"},
+    "intmap_set/src/set/traits.rt": {"{AllocError, Allocator}": "Allocator"},
 }
 # how the items of sources begin that are left out
 LEFT_ITEMS = re.compile(r"impl\b[^;]* (Model|Drop) for |unsafe impl (Send|Sync) for Tally \{\}")
@@ -226,6 +232,8 @@ def code_of_source(text, source):
     """The lines of code that a source has for Rust."""
     for theirs, ours in OTHERWISE:
         text = text.replace(theirs, ours)
+    for named, left in NOT_NAMED.get(source, {}).items():
+        text = text.replace(named, left, 1)
     text = BOUND.sub(r"\1", text)
     lines, kept, i = without_contracts(text.split("\n")), [], 0
     while i < len(lines):

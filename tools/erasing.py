@@ -53,14 +53,24 @@ UNCALLED = {
     "intmap/map/get": ["impl<K: IntKey, V, A: Allocator + Copy> Index<K> for IntMap", "use std::ops::Index;"],
     "intmap/map/iter/writing": ["impl<'a, K: IntKey, V, A: Allocator + Copy> IntoIterator for &'a mut IntMap"],
     "intmap/refusal": ["impl From<AllocError> for Cause {", "use std::alloc::AllocError;"],
-    "intmap/map/traits": ["impl<K: IntKey + fmt::Debug, V: fmt::Debug, A: Allocator + Copy> fmt::Debug for IntMap"],
+    "intmap/map/traits": [
+        "impl<K: IntKey + fmt::Debug, V: fmt::Debug, A: Allocator + Copy> fmt::Debug for IntMap",
+        "impl<K: IntKey, V: Clone, A: Allocator + Copy> Clone for IntMap",
+    ],
     "intmap_set/set/build": ["pub fn from_array<"],
-    "intmap_set/set/traits": ["impl<K: IntKey + fmt::Debug, A: Allocator + Copy> fmt::Debug for IntSet"],
+    "intmap_set/set/traits": [
+        "impl<K: IntKey + fmt::Debug, A: Allocator + Copy> fmt::Debug for IntSet",
+        "impl<K: IntKey, A: Allocator + Copy> Clone for IntSet",
+    ],
     "intmap_table/linked/row/removal": ["pub(crate) fn remove<"],
-    "intmap_table/table": ["pub fn further("],
     "intmap_table/table/slots": ["pub(crate) fn has_pair("],
     "intmap_table/table/slots/pairs": ["pub(crate) fn remove_at("],
     "intmap_table/table/walk": ["pub struct Cursor {", "impl Cursor {", "fn seek<", "pub fn step(", "pub fn cut("],
+}
+# What a source uses for items of UNCALLED alone, by the source: names in its `use` lists.
+UNNAMED = {
+    "intmap/map/traits": ["AllocError"],
+    "intmap_set/set/traits": ["AllocError"],
 }
 
 # Calls that run a key's `number` while pairs are on their way, by the source, each with what is written in its place.
@@ -259,6 +269,16 @@ def without_uncalled(text, where):
     return re.sub(r"^impl\b(?:(?! for )[^{;])*\{\s*\}\n", "", text, flags=re.M)
 
 
+def without_unnamed(text, where):
+    """Rule 6 for names."""
+    for name in UNNAMED.get(where, []):
+        text, count = re.subn(rf"^(use [^;]*\{{[^;]*?)\b{name}\b(?:,\s*|(?=\s*\}}))", r"\1", text, flags=re.M)
+        if count != 1 or re.search(rf"\b{name}\b", text):
+            raise Refused(f"`{name}` isn't named once, in a `use` list")
+        text = re.sub(r"^(use [^;{]*)\{(\w+)\};", r"\1\2;", text, flags=re.M)
+    return text
+
+
 def with_held(text, where):
     """Rule 11."""
     if where not in HELD:
@@ -346,7 +366,7 @@ def erased(text, crate, name, by_hand):
     """The Rust text of the source `name` of a crate. `by_hand` are the modules that are written by hand."""
     text = tidied(without_ghosts(without_shown(text)))
     text = tidied(without_uncalled(without_impls(text), f"{crate}/{name}"))
-    text = with_held(text, f"{crate}/{name}")
+    text = with_held(without_unnamed(text, f"{crate}/{name}"), f"{crate}/{name}")
     text = without_attributes(text).replace(FMT, FMT_OF_RUST)
     text = without_bounds(without_markers(without_modules(text, crate, name, by_hand)))
     for token in TOKEN.findall(text):

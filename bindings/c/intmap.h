@@ -441,8 +441,9 @@ INTMAP_NONNULL INTMAP_MUST_USE intmap_status intmap_reserve(intmap *map, size_t 
 // whatever is looked up, written or removed between them, also by intmap_retain, intmap_cut or
 // intmap_clear. This holds until a call makes room, even for more pairs, or sets the load factor,
 // shrinks or frees the map, or puts another map into the word. So call it last. A copy that
-// intmap_clone makes doesn't have this room. That these insertions request no memory is tested, and
-// not proved. Their status must be read all the same:
+// intmap_clone makes doesn't have this room. It is proved that insertions into the map can't fail
+// then. That they request no memory, and that these functions hand this on, is tested. Their status
+// must be read all the same:
 //
 //     if (intmap_failed(intmap_insert(&map, 21, 7).status)) {
 //         abort(); // there was room

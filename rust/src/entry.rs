@@ -141,8 +141,8 @@ impl<'a, K: IntKey, V> Entry<'a, K, V> {
     /// # Errors
     /// Those of [`IntMap::try_insert`], with the value.
     ///
-    /// Proved of `Entry::insert_entry`: `written`, `inserted`, `err`, `value_returned`, `refused`,
-    /// `succeeds`.
+    /// Proved of `Entry::insert_entry`: `written`, `inserted`, `err`, `value_returned`, `absent`,
+    /// `refused`, `succeeds`, `has_room`.
     #[inline(always)]
     pub fn try_insert_entry(self, value: V) -> Result<OccupiedEntry<'a, K, V>, Refused<V>> {
         let (map, found) = self.proved().parted();

@@ -1,15 +1,13 @@
--- What callers say of the pairs of a map: values by number, counts, floors, written values, and pairs that wait.
+-- What callers say of the pairs of a map: counts, floors, cells, written values, and pairs that wait.
 use Rattle.std.specs.Prelude.{◌%◌, ◌++◌, ◌+◌, ◌^◌, ◌∷◌, ◌≡◌, ◌≢◌, Bool, List, Option, Some, ℕ, ℤ, count_by, map, reverse, unwrap_or}
-use Rattle.std.specs.Option.{option_or}
+use Rattle.std.specs.Option.{option_and_then, option_or}
 use Rattle.intmap.specs.Bindings.{value_of}
 use Rattle.intmap.specs.Keys.{number_of_signed}
+use Rattle.intmap.specs.Map.{MapState}
+use Rattle.intmap.specs.Unsigned.{value_at}
 use Rattle.callers.specs.declared.insertions.Waiting.{Waiting}
 
 module _ {V : Type 0} where
-  -- the value at a number, or None
-  abbrev pub value_at : List (ℕ × V) → ℕ → Option V
-  value_at L n = value_of (λ key. key) L n
-
   -- every number but n has the value that it had
   abbrev pub OthersStay : List (ℕ × V) → List (ℕ × V) → ℕ → Type 0
   OthersStay before after n = (q : ℕ) → q ≢ n → value_at after q ≡ value_at before q
@@ -17,6 +15,10 @@ module _ {V : Type 0} where
   -- every number has the value that it had
   abbrev pub AllStay : List (ℕ × V) → List (ℕ × V) → Type 0
   AllStay before after = (q : ℕ) → value_at after q ≡ value_at before q
+
+  -- the value in a column of a row, where each row has a map
+  abbrev pub cell_at : List (ℕ × MapState ℕ V) → ℕ → ℕ → Option V
+  cell_at rows row column = option_and_then (λ columns. value_at columns.walk column) (value_at rows row)
 
   -- the pairs before the failed one were inserted in turn: each of their numbers has its last value, and every other what it had
   pub record IsPutUpTo (failed : ℕ × V) (pairs before after : List (ℕ × V)) : Type 0 where

@@ -1,6 +1,6 @@
 -- What callers say of the structs around maps.
 use Rattle.std.specs.Prelude.{◌<◌, ◌≡◌, ◌≤◌, All, IsSome, List, None, Option, Some, ℕ, is_some, length, true}
-use Rattle.callers.specs.Bindings.{value_at}
+use Rattle.intmap.specs.Unsigned.{value_at}
 use Rattle.callers.specs.declared.tables.NotAdded.{NotAdded}
 use Rattle.callers.specs.declared.tables.NotAdded.TheVariants.{Refused, Taken}
 

@@ -3,7 +3,8 @@ ghost use Rattle.std.specs.Prelude.{[], ◌+◌, ◌-◌, ◌^◌, ◌∷◌, �
 ghost use Rattle.std.specs.Int.{w64};
 ghost use Rattle.intmap.specs.Bindings.{IsPresent, Updates, value_of};
 ghost use Rattle.intmap.specs.Classes.{same_key};
-ghost use Rattle.callers.specs.Bindings.{OthersStay, rooms_on, value_at};
+ghost use Rattle.intmap.specs.Unsigned.{value_at};
+ghost use Rattle.callers.specs.Bindings.{OthersStay, rooms_on};
 
 use intmap::iter::Keys;
 use intmap::{Cause, IntKey, IntMap, Refused};

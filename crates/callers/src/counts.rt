@@ -4,6 +4,7 @@ ghost use Rattle.std.specs.List.{sum};
 ghost use Rattle.std.specs.Map.{values_of};
 ghost use Rattle.intmap.specs.Bindings.{Updates};
 ghost use Rattle.intmap.specs.Classes.{same_key};
+ghost use Rattle.intmap.specs.Unsigned.{count_at};
 ghost use Rattle.callers.specs.Bindings.{count_of};
 ghost use Rattle.callers.specs.declared.counts.Uncounted.TheVariants.{TooOften};
 
@@ -18,9 +19,9 @@ pub fn count_by_entry<A: Allocator + Copy>(
     tally: &mut IntMap<u64, u64, A>,
     number: u64,
 ) -> Result<(), Cause>
-    requires { count_of (λ key. key) tally.old.walk number < 2 ^ 64 - 1 }
+    requires { count_at tally.old.walk number < 2 ^ 64 - 1 }
     ensures { OnOk result (Updates (λ key. key) tally.old.walk tally.new.walk number
-        (Some (count_of (λ key. key) tally.old.walk number + 1))) }
+        (Some (count_at tally.old.walk number + 1))) }
 {
     *tally.entry(number).or_insert(0)? += 1;
     Ok(())
@@ -33,9 +34,9 @@ pub fn count_by_closure<A: Allocator + Copy>(
     tally: &mut IntMap<u64, u64, A>,
     number: u64,
 ) -> Result<(), Cause>
-    requires { count_of (λ key. key) tally.old.walk number < 2 ^ 64 - 1 }
+    requires { count_at tally.old.walk number < 2 ^ 64 - 1 }
     ensures { OnOk result (Updates (λ key. key) tally.old.walk tally.new.walk number
-        (Some (count_of (λ key. key) tally.old.walk number + 1))) }
+        (Some (count_at tally.old.walk number + 1))) }
 {
     let entry = tally.entry(number).and_modify(
         |count: &mut u64|
@@ -56,9 +57,9 @@ pub fn count_by_get_mut<A: Allocator + Copy>(
     tally: &mut IntMap<u64, u64, A>,
     number: u64,
 ) -> Result<(), Cause>
-    requires { count_of (λ key. key) tally.old.walk number < 2 ^ 64 - 1 }
+    requires { count_at tally.old.walk number < 2 ^ 64 - 1 }
     ensures { OnOk result (Updates (λ key. key) tally.old.walk tally.new.walk number
-        (Some (count_of (λ key. key) tally.old.walk number + 1))) }
+        (Some (count_at tally.old.walk number + 1))) }
 {
     if let Some(count) = tally.get_mut(number) {
         *count += 1;
@@ -77,8 +78,8 @@ pub fn count_within_sum<A: Allocator + Copy>(
     number: u64,
 ) -> Result<(), Cause>
     requires { sum (values_of tally.old.walk) < 2 ^ 64 - 1 }
-    ensures counts { OnOk result ((q : ℕ) → count_of (λ key. key) tally.new.walk q
-        ≡ count_of (λ key. key) tally.old.walk q + cond (number == q) 1 0) }
+    ensures counts { OnOk result ((q : ℕ) → count_at tally.new.walk q
+        ≡ count_at tally.old.walk q + cond (number == q) 1 0) }
     ensures total { OnOk result
         (sum (values_of tally.new.walk) ≡ sum (values_of tally.old.walk) + 1) }
 {
@@ -97,7 +98,7 @@ pub fn tally_by_entry<A: Allocator + Copy>(
     numbers: &[u64],
 ) -> Result<IntMap<u64, u64, A>, Cause>
     ensures counts { IfOk result (λ tally. (q : ℕ)
-        → count_of (λ key. key) tally.walk q ≡ count_by (λ number. number == q) numbers.now) }
+        → count_at tally.walk q ≡ count_by (λ number. number == q) numbers.now) }
     ensures total { IfOk result (λ tally. sum (values_of tally.walk) ≡ length numbers.now) }
 {
     let mut tally = IntMap::new(alloc)?;

@@ -6,6 +6,7 @@ ghost use Rattle.intmap.specs.Growth.{IsNext, MeetsLoad};
 ghost use Rattle.intmap.specs.Insertions.{IsInsertion};
 ghost use Rattle.intmap.specs.Reach.{class_size};
 ghost use Rattle.intmap.specs.Room.{AreInRow, HasRoomFor};
+ghost use Rattle.intmap.specs.Unsigned.{value_at};
 ghost use Rattle.callers.specs.Bindings.{IsPutUpTo, Moves, pairs_of};
 
 use intmap::{Cause, IntKey, IntMap, RefusedPair, laws};
@@ -33,9 +34,9 @@ pub fn put_over<V: Drop, A: Allocator + Copy>(
     settings: &mut IntMap<u64, V, A>,
     further: Vec<(u64, V), A>,
 ) -> Result<(), RefusedPair<u64, V>>
-    ensures ok { OnOk result ((q : ℕ) → value_of (λ k. k) settings.new.walk q
-        ≡ option_or (value_of (λ k. k) (reverse further.items) q)
-        (value_of (λ k. k) settings.old.walk q)) }
+    ensures ok { OnOk result ((q : ℕ) → value_at settings.new.walk q
+        ≡ option_or (value_at (reverse further.items) q)
+        (value_at settings.old.walk q)) }
     ensures err { IfErr result (λ refused. IsPutUpTo (refused.key, refused.value) further.items
         settings.old.walk settings.new.walk) }
 {
@@ -49,8 +50,8 @@ pub fn table_of<V: Drop, A: Allocator + Copy>(
     alloc: A,
     settings: Vec<(u64, V), A>,
 ) -> Result<IntMap<u64, V, A>, Cause>
-    ensures { IfOk result (λ table. (q : ℕ) → value_of (λ k. k) table.walk q
-        ≡ value_of (λ k. k) (reverse settings.items) q) }
+    ensures { IfOk result (λ table. (q : ℕ) → value_at table.walk q
+        ≡ value_at (reverse settings.items) q) }
 {
     IntMap::from_iter(alloc, settings.into_iter())
 }
@@ -100,7 +101,7 @@ pub fn insert_row<K: IntKey, V: Drop, A: Allocator + Copy>(
 pub fn insert_small<A: Allocator + Copy>(map: &mut IntMap<u64, u64, A>, key: u64, value: u64)
     requires small_keys { All (λ p. p.0 < map.old.capacity) map.old.walk }
     requires small { key < map.old.capacity }
-    requires new { value_of (λ k. k) map.old.walk key ≡ None }
+    requires new { value_at map.old.walk key ≡ None }
     requires fits { length map.old.walk + 1 < 2 ^ 64 }
     requires room { MeetsLoad map.old.capacity (length map.old.walk + 1) map.old.factor }
     ensures capacity { map.new.capacity ≡ map.old.capacity }
@@ -120,7 +121,7 @@ pub fn insert_small<A: Allocator + Copy>(map: &mut IntMap<u64, u64, A>, key: u64
 /// all.
 pub fn counters<A: Allocator + Copy>(alloc: A, n: usize) -> Result<IntMap<u64, u64, A>, Cause>
     ensures { IfOk result (λ map. (q : ℕ)
-        → value_of (λ k. k) map.walk q ≡ cond (nat_lt q n) (Some 0) None) }
+        → value_at map.walk q ≡ cond (nat_lt q n) (Some 0) None) }
 {
     let mut map = IntMap::new(alloc)?;
     map.reserve_pairs(n)?;
@@ -135,12 +136,12 @@ fn insert_next<A: Allocator + Copy>(map: &mut IntMap<u64, u64, A>, number: usize
     requires below { number < n }
     requires len { length map.old.walk ≡ number }
     requires values { (q : ℕ)
-        → value_of (λ k. k) map.old.walk q ≡ cond (nat_lt q number) (Some 0) None }
+        → value_at map.old.walk q ≡ cond (nat_lt q number) (Some 0) None }
     requires room { MeetsLoad map.old.capacity n map.old.factor }
     requires small { map.old.factor < 1000 }
     ensures len { length map.new.walk ≡ number + 1 }
     ensures values { (q : ℕ)
-        → value_of (λ k. k) map.new.walk q ≡ cond (nat_lt q (number + 1)) (Some 0) None }
+        → value_at map.new.walk q ≡ cond (nat_lt q (number + 1)) (Some 0) None }
     ensures room { MeetsLoad map.new.capacity n map.new.factor }
     ensures small { map.new.factor < 1000 }
 {
@@ -194,7 +195,7 @@ pub fn made_of_one<V: Drop, A: Allocator + Copy>(
     value: V,
 ) -> Result<(IntMap<u64, V, A>, bool), Cause>
     ensures inserted { IfOk result (λ made. made.1 ≡ true) }
-    ensures here { IfOk result (λ made. value_of (λ k. k) made.0.walk key ≡ Some value) }
+    ensures here { IfOk result (λ made. value_at made.0.walk key ≡ Some value) }
     ensures len { IfOk result (λ made. length made.0.walk ≡ 1) }
 {
     let mut map = IntMap::new(alloc)?;

@@ -5,9 +5,11 @@
 #![tactic(auto)]
 
 pub mod bindings;
+pub mod copies;
 pub mod counts;
 pub mod entries;
 pub mod insertions;
+pub mod reserved;
 pub mod retained;
 pub mod tables;
 pub mod walks;

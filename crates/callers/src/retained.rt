@@ -6,7 +6,7 @@ ghost use Rattle.std.specs.Option.{option_map};
 ghost use Rattle.intmap.specs.Bindings.{Updates, value_of};
 ghost use Rattle.intmap.specs.Picking.{PicksAt};
 ghost use Rattle.intmap.specs.Retaining.{KeepsAt, Retains};
-ghost use Rattle.callers.specs.Bindings.{value_at};
+ghost use Rattle.intmap.specs.Unsigned.{value_at};
 ghost use Rattle.callers.specs.declared.retained.Symbol.{Symbol};
 
 use intmap::{Cause, IntKey, IntMap};
@@ -71,8 +71,8 @@ pub fn retain_counted<K: IntKey, V: Drop, A: Allocator + Copy, F: FnMut(K, &V) -
 
 /// Removes the keys below a bound. Each other key keeps its value.
 pub fn prune<V: Drop, A: Allocator + Copy>(map: &mut IntMap<u64, V, A>, bound: u64)
-    ensures left { (q : ℕ) → value_of (λ k. k) map.new.walk q
-        ≡ cond (nat_le bound q) (value_of (λ k. k) map.old.walk q) None }
+    ensures left { (q : ℕ) → value_at map.new.walk q
+        ≡ cond (nat_le bound q) (value_at map.old.walk q) None }
     ensures fewer { length map.new.walk ≤ length map.old.walk }
 {
     map.retain(|key, _| key >= bound);
@@ -81,8 +81,8 @@ pub fn prune<V: Drop, A: Allocator + Copy>(map: &mut IntMap<u64, V, A>, bound: u
 /// Keeps the pairs whose value is above their key.
 pub fn keep_rising<A: Allocator + Copy>(map: &mut IntMap<u64, u64, A>)
     ensures walk { map.new.walk ≡ filter (λ pair. nat_lt pair.0 pair.1) map.old.walk }
-    ensures here { (q v : ℕ) → value_of (λ k. k) map.old.walk q ≡ Some v
-        → value_of (λ k. k) map.new.walk q ≡ cond (nat_lt q v) (Some v) None }
+    ensures here { (q v : ℕ) → value_at map.old.walk q ≡ Some v
+        → value_at map.new.walk q ≡ cond (nat_lt q v) (Some v) None }
 {
     map.retain(|key, value| key < *value);
 }
@@ -218,11 +218,11 @@ pub fn replace_student<A: Allocator + Copy>(
     requires fits { grade ≤ most }
     requires fit { All (λ pair. pair.1 ≤ most) grades.old.walk }
     ensures fit_after { All (λ pair. pair.1 ≤ most) grades.new.walk }
-    ensures grades { OnOk result ((q : ℕ) → value_of (λ key. key) grades.new.walk q
+    ensures grades { OnOk result ((q : ℕ) → value_at grades.new.walk q
         ≡ cond (student == q) (Some grade)
-        (cond (former == q) None (value_of (λ key. key) grades.old.walk q))) }
-    ensures forgotten { OnErr result ((q : ℕ) → value_of (λ key. key) grades.new.walk q
-        ≡ cond (former == q) None (value_of (λ key. key) grades.old.walk q)) }
+        (cond (former == q) None (value_at grades.old.walk q))) }
+    ensures forgotten { OnErr result ((q : ℕ) → value_at grades.new.walk q
+        ≡ cond (former == q) None (value_at grades.old.walk q)) }
 {
     grades.remove(former);
     grades.insert(student, grade)?;

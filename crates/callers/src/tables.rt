@@ -1,7 +1,8 @@
 //! Tables of a caller's own: structs around one map or two.
 ghost use Rattle.std.specs.Prelude.{◌+◌, ◌<◌, ◌↔◌, ◌≡◌, ◌≤◌, IfErr, IfOk, IfSome, IsErrAnd, IsSome, None, Ok, OnErr, OnOk, Some, ℕ, length, option_copied};
 ghost use Rattle.intmap.specs.Bindings.{Updates};
-ghost use Rattle.callers.specs.Bindings.{AllStay, OthersStay, value_at};
+ghost use Rattle.intmap.specs.Unsigned.{value_at};
+ghost use Rattle.callers.specs.Bindings.{AllStay, OthersStay};
 ghost use Rattle.callers.specs.Tables.{AreInverse, GivesBack, IsTaken};
 
 use intmap::steps::Steps;

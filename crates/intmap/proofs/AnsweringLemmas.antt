@@ -48,3 +48,14 @@ module _ {F K V : Type 0} (R : F → K × V → V → F → Type 0) (f : F) wher
       let here = each p r.0 r.1 (subst (λ z. R z p r.0 r.1) own r.3) in
       let rest = Writes-made made each h r.1 L r.2 here.1 r.4 in
       r.5 ∙ (λ i. sym here.0 i ∷ rest i)
+
+module _ {F K V : Type 0} (number : K → ℕ) (R : F → K × V → V → F → Type 0) (f : F) where
+  -- the value of a key if each call leaves w at it where v was
+  pub value_of-made : (k : K) (v w : V) → ((p : K × V) (u : V) (g : F) → R f p u g → (number p.0 ≡ number k → p.1 ≡ v → u ≡ w) × (g ≡ f))
+      → (h : F) (L M : List (K × V)) → Writes R f L M h → value_of number L k ≡ Some v → value_of number M k ≡ Some w
+  value_of-made k v w each h [] M r is = cc
+  value_of-made k v w each h (p ∷ L) M r is =
+      let told = each p r.0 r.1 r.3 in
+      let rest = value_of-made k v w each h L r.2 (subst (λ g. Writes R g L r.2 h) told.1 r.4) in
+      let here = told.0 in
+      ap (λ N. value_of number N k) r.5 ∙ grind (arith, nat_tests, rest, here, is)

@@ -50,8 +50,8 @@ module _ {K V : Type 0} (number : K → ℕ) where
     picked : ExtractsBehind (λ (f : Unit {0}) q b g r. r ≡ q) tt L i (Some p) tt M j
     picked = ([], rw first (true, tt, p, refl, (refl, refl, refl, refl)), before ∙ sym (append-nil (take i L)))
 
-    pub IsConsistent-parts : (is_valid : K → Type 0) (C D E n most : ℕ) → D ≡ C → walk_of number M D ≡ M → IsConsistent number is_valid L C E n most
-        → IsConsistent number is_valid M D E (n - 1) most
-    IsConsistent-parts is_valid C D E n most same own old =
-        IsConsistent-Extracts number is_valid (λ f q b g r. r ≡ q) (λ f q b g r is. ap (λ h. h.0) is) tt tt L M i j (Some p) C D E n (n - 1) most picked same own
-        (let len = length-parts in omega (arith, len, old.count)) old
+    pub IsConsistent-parts : (is_valid : K → Type 0) (C D E n most B N N' : ℕ) → D ≡ C → walk_of number M D ≡ M → B ≤ N' → IsConsistent number is_valid L C E n most B N
+        → IsConsistent number is_valid M D E (n - 1) most B N'
+    IsConsistent-parts is_valid C D E n most B N N' same own memory old =
+        IsConsistent-Extracts number is_valid (λ f q b g r. r ≡ q) (λ f q b g r is. ap (λ h. h.0) is) tt tt L M i j (Some p) C D E n (n - 1) most B N N' picked same own
+        (let len = length-parts in omega (arith, len, old.count)) memory old

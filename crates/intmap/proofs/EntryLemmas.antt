@@ -65,7 +65,7 @@ module _ {K V : Type 0} (number : K → ℕ) where
       map-append (λ p. cond (same_key number k p.0) (p.0, v) p) (take_key number m.walk m.capacity k) ((k, x) ∷ [])
       ∙ ap (λ L. L ++ cond (same_key number k k) (k, v) (k, x) ∷ []) (write_value-unbound number (take_key number m.walk m.capacity k) k v gone)
       ∙ ap (λ b. take_key number m.walk m.capacity k ++ cond b (k, v) (k, x) ∷ []) own in
-      MapState-same (sym (walk_of-write_value number (put_pair number m.walk m.capacity k x) D k v) ∙ ap (λ L. walk_of number L D) pair) refl refl
+      MapState-same (sym (walk_of-write_value number (put_pair number m.walk m.capacity k x) D k v) ∙ ap (λ L. walk_of number L D) pair) refl refl refl
 
 -- a new pair was added, and its value is lent
 module _ {K V : Type 0} (number : K → ℕ) (is_valid : K → Type 0) (m n : MapState K V) (k : K) (x : V) (missing : value_of number m.walk k ≡ None) (old : IsMap number is_valid m)

@@ -1,5 +1,5 @@
 -- What a map is once a closure was asked about some of its pairs, of which it picked at most one.
-use Rattle.std.proofs.Common.{◌≡◌, ℕ, ◌+◌, Bool, cond, List, [], Option, Some, None, length, sym, ap, subst, arith}
+use Rattle.std.proofs.Common.{◌≡◌, ℕ, ◌+◌, ◌≤◌, Bool, cond, List, [], Option, Some, None, length, sym, ap, subst, arith}
 use Rattle.std.specs.Prelude.{IfSome}
 use Rattle.std.proofs.lemmas.Bool.Decides.{nat_tests}
 use Rattle.intmap.proofs.CostLemmas.{same-absent}
@@ -18,11 +18,11 @@ use Rattle.intmap_table.proofs.ExtractLemmas.{sum_by-ExtractsBehind, length-Extr
 
 module _ {F K V : Type 0} (number : K → ℕ) (is_valid : K → Type 0) (R : F → K × V → Bool → F → K × V → Type 0) (same : (f : F) (p : K × V) (b : Bool) (g : F) (q : K × V) → R f p b g q → q.0 ≡ p.0) where
   -- what a map keeps agrees
-  pub IsConsistent-Extracts : (f g : F) (W M : List (K × V)) (i j : ℕ) (r : Option (K × V)) (C D E n n' most : ℕ) → ExtractsBehind R f W i r g M j → D ≡ C → walk_of number M D ≡ M
-      → n ≡ n' + option_len r → IsConsistent number is_valid W C E n most → IsConsistent number is_valid M D E n' most
-  IsConsistent-Extracts f g W M i j r C D E n n' most step same_size own count old =
+  pub IsConsistent-Extracts : (f g : F) (W M : List (K × V)) (i j : ℕ) (r : Option (K × V)) (C D E n n' most B N N' : ℕ) → ExtractsBehind R f W i r g M j → D ≡ C → walk_of number M D ≡ M
+      → n ≡ n' + option_len r → B ≤ N' → IsConsistent number is_valid W C E n most B N → IsConsistent number is_valid M D E n' most B N'
+  IsConsistent-Extracts f g W M i j r C D E n n' most B N N' step same_size own count memory old =
       let len = length-ExtractsBehind R f g W M i j r step in
-      IsConsistent-fewer number is_valid W M C E n most old D n' same_size own (omega (arith, count, old.count, len)) (omega (arith, len))
+      IsConsistent-fewer number is_valid W M C E n most B N old B N' memory D n' same_size own (omega (arith, count, old.count, len)) (omega (arith, len))
       (λ k.
       let once = old.map.distinct k in
       let counted = sum_by-ExtractsBehind R (λ (p : K × V). cond (same_key number k p.0) 1 0) (λ f p b g q call. ap (λ h. cond (same_key number k h) 1 0) (same f p b g q call)) f g W M i j r step in

@@ -54,9 +54,9 @@ module _ (K' V' A' : RattleType) (g : key.Ghosts K'.Denot) (e : eq.Ghosts K'.Den
   abbrev pub State : Type 0
   State = MapState K'.Denot V'.Denot
 
-  -- the length, the threshold, the load factor and both counts
+  -- the length, the threshold, the load factor, both counts and what is reserved
   abbrev pub other_members : List Member
-  other_members = member usize ∷ member usize ∷ member usize ∷ member N-type.the_row ∷ member N-type.the_row ∷ []
+  other_members = member usize ∷ member usize ∷ member usize ∷ member N-type.the_row ∷ member N-type.the_row ∷ member N-type.the_row ∷ []
 
   abbrev pub members : List Member
   members = member Table ∷ other_members
@@ -88,7 +88,7 @@ module _ (K' V' A' : RattleType) (g : key.Ghosts K'.Denot) (e : eq.Ghosts K'.Den
             x.1.0.lawful 𝓛,
             (
               x.1.1.0.lawful 𝓛,
-              (x.1.1.1.0.lawful 𝓛, (x.1.1.1.1.0.lawful 𝓛, (x.1.1.1.1.1.0.lawful 𝓛, tt))),
+              (x.1.1.1.0.lawful 𝓛, (x.1.1.1.1.0.lawful 𝓛, (x.1.1.1.1.1.0.lawful 𝓛, (x.1.1.1.1.1.1.0.lawful 𝓛, tt)))),
             ),
           ),
         )
@@ -104,7 +104,7 @@ module _ (K' V' A' : RattleType) (g : key.Ghosts K'.Denot) (e : eq.Ghosts K'.Den
       back m seen ok ws =
           let n : Inside.Denot = record m { table = O.put m.table ws } in
           let W = m.table.walk in
-          let is : good n = IsConsistent-same_keys g.number_of g.is_valid W (with_values W ws) m.table.capacity m.factor m.len m.threshold
+          let is : good n = IsConsistent-same_keys g.number_of g.is_valid W (with_values W ws) m.table.capacity m.factor m.len m.threshold m.reserved m.table.nodes
           (sym (keys_of-with_values W ws)) ok in
           via 𝓤 _ (whole 𝓛 members Inside T.to map_laid n (T.to n) refl b o)
           (Plain-in Mr Inside (view_owns Inside State Mr.coded view good) 𝓛 full_share (map_with_values d ws) n

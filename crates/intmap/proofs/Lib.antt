@@ -35,6 +35,7 @@ pub mod RetainLemmas
 pub mod ExtractLemmas
 pub mod CursorLemmas
 pub mod RefusalLemmas
+pub mod ReservedLemmas
 pub mod RoomLemmas
 pub mod InsertionLemmas
 pub mod LendMapLemmas
@@ -46,3 +47,4 @@ pub mod UpdateSumLemmas
 pub mod PutBackLemmas
 pub mod AnsweringLemmas
 pub mod IteratingLemmas
+pub mod ReverseLemmas

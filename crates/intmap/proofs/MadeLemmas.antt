@@ -126,8 +126,8 @@ module _ {K V : Type 0} (number : K → ℕ) (is_valid : K → Type 0) where
       let o : MapState K V = after_insert number f k v n.capacity in
       let w : n.walk ≡ o.walk = put ∙ ap (λ x. walk_of number (put_pair number x.walk x.capacity k v) n.capacity) made.state in
       let l : n.factor ≡ o.factor = same ∙ ap (λ x. x.factor) made.state in
-      let state : n ≡ record o { placed = n.placed; compared = n.compared } = λ t. record n { walk = w t; factor = l t } in
-      let did = subst (λ x. IsInsertion number is_valid (record f { placed = m.placed; compared = m.compared }) k v x) state (subst (λ x. IsInsertion number is_valid x k v n) made.state last) in
+      let state : n ≡ record o { placed = n.placed; compared = n.compared; reserved = n.reserved } = λ t. record n { walk = w t; factor = l t } in
+      let did = subst (λ x. IsInsertion number is_valid (record f { placed = m.placed; compared = m.compared; reserved = m.reserved }) k v x) state (subst (λ x. IsInsertion number is_valid x k v n) made.state last) in
       record {
         filled = o;
         inserted = MapInsertsAll-push number is_valid (empty_map 4) f o ps k v made.inserted (record {

@@ -8,7 +8,7 @@ use Rattle.intmap.specs.Map.{MapState, NeedsNoMemory, after_search}
 use Rattle.intmap.specs.PlainLists.{PlainList, RefusalIsDue, list_of}
 use Rattle.intmap.specs.declared.refusal.Cause.{Cause}
 use Rattle.intmap.specs.declared.refusal.Cause.TheVariants.{Memory, TooLarge}
-use Rattle.intmap.proofs.LoadFactorLemmas.{InsertIsTooLarge, in_range-next}
+use Rattle.intmap.proofs.LoadFactorLemmas.{in_range-next}
 
 module _ {K V : Type 0} (number : K → ℕ) (s : PlainList K V) (k : K) where
   module _ (missing : value_of number s.pairs k ≡ None) where

@@ -1,5 +1,5 @@
 -- What a map is once pairs were let go.
-use Rattle.std.proofs.Common.{◌≡◌, inr, ℕ, Bool, cond, List, [], ◌∷◌, length, None, sym, ap, subst, arith}
+use Rattle.std.proofs.Common.{◌≡◌, inr, ℕ, ◌≤◌, Bool, cond, List, [], ◌∷◌, length, None, sym, ap, subst, arith}
 use Rattle.std.specs.Prelude.{◌⊎◌}
 use Rattle.intmap_table.proofs.BindingLemmas.{first_value-unmatched}
 use Rattle.intmap.proofs.CostLemmas.{HasDistinctKeys-tail}
@@ -30,8 +30,8 @@ module _ {F K V : Type 0} (number : K → ℕ) (R : F → K × V → Bool → F 
       subst (λ Z. (value_of number Z k ≡ value_of number (p ∷ L) k) ⊎ (value_of number Z k ≡ None)) (sym r.5) here
 
 -- what a map keeps agrees once pairs were let go
-pub IsConsistent-Retains : {F K V : Type 0} (number : K → ℕ) (is_valid : K → Type 0) (R : F → K × V → Bool → F → Type 0) (f g : F) (W M : List (K × V)) (C D E n n' most : ℕ)
-    → Retains R f W M g → D ≡ C → walk_of number M D ≡ M → n' ≡ length M → IsConsistent number is_valid W C E n most → IsConsistent number is_valid M D E n' most
-IsConsistent-Retains number is_valid R f g W M C D E n n' most r same own count old =
-    IsConsistent-fewer number is_valid W M C E n most old D n' same own count (length-Retains R f g W M r)
+pub IsConsistent-Retains : {F K V : Type 0} (number : K → ℕ) (is_valid : K → Type 0) (R : F → K × V → Bool → F → Type 0) (f g : F) (W M : List (K × V)) (C D E n n' most B N N' : ℕ)
+    → Retains R f W M g → D ≡ C → walk_of number M D ≡ M → n' ≡ length M → B ≤ N' → IsConsistent number is_valid W C E n most B N → IsConsistent number is_valid M D E n' most B N'
+IsConsistent-Retains number is_valid R f g W M C D E n n' most B N N' r same own count memory old =
+    IsConsistent-fewer number is_valid W M C E n most B N old B N' memory D n' same own count (length-Retains R f g W M r)
     (HasDistinctKeys-Retains number R f g W M r old.map.distinct) (All-Retains R (λ p. is_valid p.0) f g W M r old.map.keys)

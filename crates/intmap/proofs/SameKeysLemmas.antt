@@ -26,8 +26,9 @@ module _ {K V : Type 0} (number : K → ℕ) (is_valid : K → Type 0) where
       }
 
   -- the same of what a map keeps
-  pub IsConsistent-same_keys : (W M : List (K × V)) (C F n most : ℕ) → keys_of W ≡ keys_of M → IsConsistent number is_valid W C F n most → IsConsistent number is_valid M C F n most
-  IsConsistent-same_keys W M C F n most same old = record {
+  pub IsConsistent-same_keys : (W M : List (K × V)) (C F n most R N : ℕ) → keys_of W ≡ keys_of M → IsConsistent number is_valid W C F n most R N → IsConsistent number is_valid M C F n most R N
+  IsConsistent-same_keys W M C F n most R N same old = record {
+    memory = old.memory;
     map = IsMapWalk-same_keys W M C F same old.map;
     count = old.count ∙ length-same_keys W M same;
     threshold = old.threshold;

@@ -1,11 +1,11 @@
 -- Where a pair can be put at once, and what is compared for that.
 use Rattle.std.proofs.Common.{◌≡◌, ℕ, ◌+◌, ◌*◌, ◌/◌, ◌<◌, ◌≤◌, ◌^◌, inl, inr, Bool, true, false, List, [], ◌∷◌, length, Some, None, refl, sym, ap, ◌∙◌, subst, arith}
-use Rattle.std.specs.Prelude.{◌⊎◌, MatchBool, IsTrue, nat_lt, not, ◌&&◌, ◌||◌, cond, drop, take, position}
-use Rattle.std.proofs.lemmas.Bool.{cases_Bool, cases_lt, lt-ltb, le-ltb, ltb-true, ltb-false}
+use Rattle.std.specs.Prelude.{◌⊎◌, MatchBool, IsTrue, nat_lt, not, ◌&&◌, ◌||◌, drop, take, position}
+use Rattle.std.proofs.lemmas.Bool.{cases_Bool, cases_lt, le-ltb}
 use Rattle.std.proofs.lemmas.Bool.Decides.{nat_tests}
 use Rattle.intmap_table.specs.Bindings.{value_of, put_pair}
 use Rattle.intmap_table.specs.Classes.{IsCapacity, same_key, slot_number}
-use Rattle.intmap_table.specs.Firsts.{first_of, reach_behind, IsFirst}
+use Rattle.intmap_table.specs.Firsts.{first_of, IsFirst}
 use Rattle.intmap_table.specs.Reach.{through_first, reach}
 use Rattle.intmap_table.specs.Walk.{slot_of, walk_of}
 use Rattle.intmap_table.proofs.PositionLemmas.{position-within}
@@ -53,13 +53,13 @@ module _ {K V : Type 0} (W : List (K × V)) (C F n most : ℕ) (cap : IsCapacity
       let test = test-from_next C F (n + 1) most few lim next in
       grind (arith, nat_tests, few, test, e)
 
-module _ {K V : Type 0} (number : K → ℕ) (is_valid : K → Type 0) (W W' : List (K × V)) (C F n most : ℕ) (old : IsConsistent number is_valid W C F n most) where
+module _ {K V : Type 0} (number : K → ℕ) (is_valid : K → Type 0) (W W' : List (K × V)) (C F n most R N : ℕ) (old : IsConsistent number is_valid W C F n most R N) (R' N' : ℕ) (memory : R' ≤ N') where
   -- the pair of an absent key was added to a map that takes one more
-  pub IsConsistent-one_more : (C' : ℕ) (k : K) (x : V) → C' ≡ C → is_valid k → value_of number W k ≡ None → TakesOneMore W C F → W' ≡ walk_of number (put_pair number W C k x) C → IsConsistent number is_valid W' C' F (n + 1) most
+  pub IsConsistent-one_more : (C' : ℕ) (k : K) (x : V) → C' ≡ C → is_valid k → value_of number W k ≡ None → TakesOneMore W C F → W' ≡ walk_of number (put_pair number W C k x) C → IsConsistent number is_valid W' C' F (n + 1) most R' N'
   IsConsistent-one_more C' k x same key missing takes is =
       let few : n + 1 < 2 ^ 64 = (let c = takes.count in let e = old.count in omega (arith, c, e)) in
       let next : IsNext C (n + 1) F C = subst (λ m. IsNext C (m + 1) F C) (sym old.count) takes.stays in
-      IsConsistent-added number is_valid W W' C F n most old C' k x same key missing few (test-from_next C F (n + 1) most few old.threshold next) is
+      IsConsistent-added number is_valid W W' C F n most R N old R' N' memory C' k x same key missing few (test-from_next C F (n + 1) most few old.threshold next) is
 
 -- one pair more is due for a check, and exceeds the load
 pub record Exceeds (C F n : ℕ) : Type 0 where
@@ -75,9 +75,9 @@ Exceeds-from W C F power few full =
     }
 
 -- maps whose changed parts are the same are the same
-pub MapState-counted : {K V : Type 0} {W W' : List (K × V)} {C C' F p p' c c' : ℕ} → W ≡ W' → C ≡ C' → p ≡ p' → c ≡ c'
-    → ◌≡◌ {A = MapState K V} (record { walk = W; capacity = C; factor = F; placed = p; compared = c }) (record { walk = W'; capacity = C'; factor = F; placed = p'; compared = c' })
-MapState-counted walk capacity placed compared = rw (walk, capacity, placed, compared) refl
+pub MapState-counted : {K V : Type 0} {W W' : List (K × V)} {C C' F p p' c c' r r' : ℕ} → W ≡ W' → C ≡ C' → p ≡ p' → c ≡ c' → r ≡ r'
+    → ◌≡◌ {A = MapState K V} (record { walk = W; capacity = C; factor = F; placed = p; compared = c; reserved = r }) (record { walk = W'; capacity = C'; factor = F; placed = p'; compared = c'; reserved = r' })
+MapState-counted walk capacity placed compared reserved = rw (walk, capacity, placed, compared, reserved) refl
 
 module _ {K V : Type 0} (number : K → ℕ) where
   some_or_none : (ps : List (K × V)) → (ps ≡ []) ⊎ (0 < length ps)

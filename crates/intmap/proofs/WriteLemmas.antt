@@ -31,8 +31,8 @@ module _ {K V : Type 0} (number : K → ℕ) where
   IsMapWalk-written is_valid W C F k v m = IsMapWalk-same_keys number is_valid W (write_value number W k v) C F (sym (keys_of-write_value W k v)) m
 
   -- and so does what a map keeps
-  pub IsConsistent-written : (is_valid : K → Type 0) (W : List (K × V)) (C F n most : ℕ) (k : K) (x : V) → IsConsistent number is_valid W C F n most → IsConsistent number is_valid (write_value number W k x) C F n most
-  IsConsistent-written is_valid W C F n most k x old = IsConsistent-same_keys number is_valid W (write_value number W k x) C F n most (sym (keys_of-write_value W k x)) old
+  pub IsConsistent-written : (is_valid : K → Type 0) (W : List (K × V)) (C F n most R N : ℕ) (k : K) (x : V) → IsConsistent number is_valid W C F n most R N → IsConsistent number is_valid (write_value number W k x) C F n most R N
+  IsConsistent-written is_valid W C F n most R N k x old = IsConsistent-same_keys number is_valid W (write_value number W k x) C F n most R N (sym (keys_of-write_value W k x)) old
 
   -- a write gives its key the value, if it was present, and leaves each other key with its own
   pub value_of-write_value : (L : List (K × V)) (k q : K) (v : V) → value_of number (write_value number L k v) q ≡ cond (same_key number k q) (option_map (λ _. v) (value_of number L q)) (value_of number L q)

@@ -22,3 +22,7 @@ module _ {F K V : Type 0} (m : Mut F (K × (MutBor V × Unit {0})) (Unit {0} × 
   -- f leaves of each pair what `made` makes of it
   abbrev pub MakesPairs : (K × V → K × V) → Type 0
   MakesPairs made = (p : K × V) (w : V) (g : F) → WritesAt m f p w g → (made p ≡ (p.0, w)) × (g ≡ f)
+
+  -- f leaves the value w at a key with the number of k that has the value v
+  abbrev pub MakesValue : (K → ℕ) → K → V → V → Type 0
+  MakesValue number k v w = (p : K × V) (u : V) (g : F) → WritesAt m f p u g → (number p.0 ≡ number k → p.1 ≡ v → u ≡ w) × (g ≡ f)

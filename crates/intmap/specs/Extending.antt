@@ -49,11 +49,11 @@ module _ {K V : Type 0} (number : K → ℕ) (is_valid : K → Type 0) where
     pub collected : IsCollected room before filled
     pub out_of_range : IsOutOfRange number filled.walk filled.capacity filled.factor next.0
 
-  -- apart from both counts, the map is what insertions of the pairs in turn into a new map of 4 slots leave
+  -- apart from both counts and what is reserved, the map is what insertions of the pairs in turn into a new map of 4 slots leave
   pub record IsMadeOf (ps : List (K × V)) (m : MapState K V) : Type 0 where
     pub filled : MapState K V
     pub inserted : MapInsertsAll (empty_map first_capacity) ps filled
-    pub state : m ≡ record filled { placed = m.placed; compared = m.compared }
+    pub state : m ≡ record filled { placed = m.placed; compared = m.compared; reserved = m.reserved }
 
 module _ {K V S : Type 0} (number : K → ℕ) (is_valid : K → Type 0) (steps : S → Option (K × V) → S → Type 0) where
   -- all pairs that the iterator s gave were inserted in turn

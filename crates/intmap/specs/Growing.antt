@@ -1,7 +1,7 @@
 -- What a reservation and a new load factor do to a map and to a plain list, and why they fail.
 use Rattle.std.specs.Prelude.{◌≡◌, ◌↔◌, ◌⊎◌, ℕ, ◌+◌, ◌^◌, ◌<◌, ◌≤◌, max, length}
 use Rattle.intmap.specs.Growth.{IsWanted, IsLeastPower, MeetsLoad, NeedsTooMuch}
-use Rattle.intmap.specs.Map.{MapState, in_slots}
+use Rattle.intmap.specs.Map.{MapState, in_slots, still_reserved}
 use Rattle.intmap.specs.PlainLists.{PlainList}
 use Rattle.intmap.specs.declared.refusal.Cause.{Cause}
 use Rattle.intmap.specs.declared.refusal.Cause.TheVariants.{Memory, TooLarge}
@@ -43,18 +43,21 @@ module _ {K V : Type 0} (number : K → ℕ) where
   -- a reservation of room for so many further pairs took the map m to n: the same pairs, in slots that are enough for all of them
   pub record IsReservation (m : MapState K V) (additional : ℕ) (n : MapState K V) : Type 0 where
     pub enough : IsEnough m.capacity (length m.walk + additional) n.capacity
-    pub state : n ≡ in_slots number m n.capacity
+    pub state : n ≡ in_slots number m n.capacity n.reserved
+    pub reserved : still_reserved number m n.capacity ≤ n.reserved
 
   -- room was made for so many further pairs, which took the map m to n: the same pairs, in slots that meet its load factor with all of them
   pub record IsRoomMade (m : MapState K V) (additional : ℕ) (n : MapState K V) : Type 0 where
     pub count : length m.walk + additional < 2 ^ 64
     pub meets : MeetsFactor m.capacity (length m.walk + additional) m.factor n.capacity
-    pub state : n ≡ in_slots number m n.capacity
+    pub state : n ≡ in_slots number m n.capacity n.reserved
+    pub reserved : still_reserved number m n.capacity ≤ n.reserved
 
   -- the load factor F was set, which took the map m to n: the same pairs, in slots that meet F
   pub record IsNewFactor (m : MapState K V) (F : ℕ) (n : MapState K V) : Type 0 where
     pub meets : MeetsFactor m.capacity (length m.walk) F n.capacity
-    pub state : n ≡ in_slots number (record m { factor = F }) n.capacity
+    pub state : n ≡ in_slots number (record m { factor = F }) n.capacity n.reserved
+    pub reserved : still_reserved number m n.capacity ≤ n.reserved
 
 module _ {K V : Type 0} where
   -- a reservation in a plain list changes its capacity alone

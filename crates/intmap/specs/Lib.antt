@@ -32,3 +32,4 @@ pub mod Equality
 pub mod Json
 pub mod Consistency
 pub mod Spots
+pub mod Unsigned

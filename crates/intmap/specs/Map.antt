@@ -10,13 +10,15 @@ use Rattle.intmap_table.specs.Reach.{class_size, reach}
 use Rattle.intmap.specs.Growth.{MeetsLoad, IsNext, NeedsTooMuch, last_due}
 
 -- a map as contracts see it: its walk, capacity and load factor in thousandths; `placed`, how many pairs insertions put into larger
--- tables; and `compared`, how many keys the calls by `&mut` compared, except steps of `get_disjoint_mut`
+-- tables; `compared`, how many keys the calls by `&mut` compared, except steps of `get_disjoint_mut`; and `reserved`, for how many pairs
+-- behind the first ones of their slots, those that are there included, there surely is memory
 pub record MapState (K V : Type 0) : Type 0 where
   pub walk : List (K × V)
   pub capacity : ℕ
   pub factor : ℕ
   pub placed : ℕ
   pub compared : ℕ
+  pub reserved : ℕ
 
 -- the number of pairs of the walk before a cursor, whatever two numbers it has
 abbrev pub passed : {K V : Type 0} → (K → ℕ) → MapState K V → Cursor → ℕ
@@ -34,9 +36,9 @@ first_capacity = 4
 abbrev pub least_capacity : ℕ
 least_capacity = 2
 
--- a new map of C slots: no pairs, the load factor `first_factor`, and nothing counted
+-- a new map of C slots: no pairs, the load factor `first_factor`, nothing counted, and nothing reserved
 abbrev pub empty_map : {K V : Type 0} → ℕ → MapState K V
-empty_map C = record { walk = []; capacity = C; factor = first_factor; placed = 0; compared = 0 }
+empty_map C = record { walk = []; capacity = C; factor = first_factor; placed = 0; compared = 0; reserved = 0 }
 
 module _ {K V : Type 0} where
   -- the map without its pairs
@@ -90,21 +92,27 @@ module _ {K V : Type 0} (number : K → ℕ) where
   abbrev pub after_search : MapState K V → K → MapState K V
   after_search m k = record m { compared = m.compared + reach number m.walk m.capacity k }
 
-  -- the map with the pair of k and v at the end of its slot, in D slots; if D is another capacity, `placed` rose by the new length
+  -- the map with the pair of k and v at the end of its slot, in D slots; if D is another capacity, `placed` rose by the new length, and
+  -- nothing is reserved any more
   abbrev pub with_pair : MapState K V → K → V → ℕ → MapState K V
   with_pair m k v D = record m {
     walk = walk_of number (put_pair number m.walk m.capacity k v) D;
     capacity = D;
     placed = m.placed + cond (D == m.capacity) 0 (length m.walk + 1);
+    reserved = cond (D == m.capacity) m.reserved 0;
   }
 
   -- the map once k was looked up and inserted with v, in D slots
   abbrev pub after_insert : MapState K V → K → V → ℕ → MapState K V
   after_insert m k v D = with_pair (after_search m k) k v D
 
-  -- the map in D slots, which its pairs filled in the order of its walk
-  abbrev pub in_slots : MapState K V → ℕ → MapState K V
-  in_slots m D = record m { walk = walk_of number m.walk D; capacity = D }
+  -- the map in D slots, which its pairs filled in the order of its walk, with R pairs reserved
+  abbrev pub in_slots : MapState K V → ℕ → ℕ → MapState K V
+  in_slots m D R = record m { walk = walk_of number m.walk D; capacity = D; reserved = R }
+
+  -- how many pairs stay reserved if the map gets D slots
+  abbrev pub still_reserved : MapState K V → ℕ → ℕ
+  still_reserved m D = cond (D == m.capacity) m.reserved 0
 
   -- the map without k; the last pair of its slot takes its place
   abbrev pub without_key : MapState K V → K → MapState K V

@@ -1,5 +1,5 @@
 //! Entries: a map with a key that was looked up once, to read, write, remove or insert its pair.
-ghost use Rattle.std.specs.Prelude.{◌≡◌, None, length, IsSome, Some, IfOk, IfErr, OnOk, IsOk, unwrap_or, MatchOption};
+ghost use Rattle.std.specs.Prelude.{◌≡◌, None, length, IsSome, Some, IfOk, IfErr, OnErr, OnOk, IsOk, unwrap_or, MatchOption};
 ghost use Rattle.intmap_table.specs.Bindings.{value_of, Updates};
 ghost use Rattle.intmap_table.specs.Classes.{slot_number};
 ghost use Rattle.intmap_table.specs.Locations.{IsFound};
@@ -8,6 +8,7 @@ ghost use Rattle.std.specs.Map.Calls.{ModifiesValue};
 ghost use Rattle.intmap.specs.Insertions.{IsInsertion};
 ghost use Rattle.intmap.specs.Map.{NeedsNoMemory, IsMap, after_search};
 ghost use Rattle.intmap.specs.PlainLists.{RefusalIsDue};
+ghost use Rattle.intmap.specs.Room.{HasRoom};
 
 mod insert;
 mod occupied;
@@ -166,11 +167,13 @@ impl<'a, K: IntKey, V, A: Allocator + Copy> Entry<'a, K, V, A> {
         ensures value_returned { IfErr result (λ refused. refused.value ≡ value) }
 
         // when it fails
+        ensures absent { OnErr result (entry_value self.entry ≡ None) }
         ensures refused { IfErr result (λ refused. RefusalIsDue K.number_of (entry_list self.entry)
             (entry_key self.entry) refused.cause) }
         ensures succeeds { NeedsNoMemory K.number_of (entry_map self.entry).walk
             (entry_map self.entry).capacity (entry_map self.entry).factor (entry_key self.entry)
             → IsOk result }
+        ensures has_room { HasRoom K.number_of (entry_map self.entry) 1 → IsOk result }
     {
         match self {
             Entry::Occupied(entry) => Ok(entry.into_mut()),

@@ -3,21 +3,23 @@
 //!
 //! A call such as `laws::small_keys_are_found_at_once::<u64, V>();` adds its law to the proof of
 //! the function that contains the call.
-ghost use Rattle.std.specs.Prelude.{◌≡◌, ◌+◌, ◌^◌, ◌<◌, ◌≤◌, ◌↔◌, ℕ, List, ◌∷◌, ◌++◌, Option, All, IsTrue, Contains, cond, is_none, is_some, length, sum, unwrap_or, Some, None};
+ghost use Rattle.std.specs.Prelude.{◌≡◌, ◌+◌, ◌^◌, ◌<◌, ◌≤◌, ◌↔◌, ℕ, List, ◌∷◌, ◌++◌, Option, All, IsTrue, Contains, cond, is_none, is_some, length, map, option_map, reverse, sum, unwrap_or, Some, None};
 ghost use Rattle.std.specs.Map.{values_of};
 ghost use Rattle.intmap_table.specs.Classes.{IsCapacity};
 ghost use Rattle.intmap_table.specs.Bindings.{value_of, IsPresent, take_key, put_pair, write_value, HasDistinctKeys, Updates, BindSame};
+ghost use Rattle.intmap_table.specs.Cloning.{BindsClones};
 ghost use Rattle.intmap_table.specs.Walk.{walk_of};
 ghost use Rattle.intmap_table.specs.Reach.{reach, class_size};
 ghost use Rattle.intmap_table.specs.Figures.{load_of};
+ghost use Rattle.intmap.specs.Cloning.{IsClone};
 ghost use Rattle.intmap.specs.Growth.{IsWanted, IsNext, MeetsLoad, NeedsTooMuch};
 ghost use Rattle.intmap.specs.Entries.{entry_map, entry_key, map_with_value};
 ghost use Rattle.intmap.specs.Insertions.{IsInsertion};
-ghost use Rattle.intmap.specs.Map.{MapState, IsCapacityAfter, NeedsNoMemory, IsMap, after_remove};
+ghost use Rattle.intmap.specs.Map.{MapState, IsCapacityAfter, NeedsNoMemory, IsMap, after_insert, after_remove};
 ghost use Rattle.intmap.specs.Equality.{maps_equal};
 ghost use Rattle.intmap.specs.PlainLists.{PlainList, RefusalIsDue, list_of};
 ghost use Rattle.intmap.specs.Extending.{IsExtended};
-ghost use Rattle.intmap.specs.Room.{AreInRow, HasRoomFor};
+ghost use Rattle.intmap.specs.Room.{AreInRow, HasRoom, HasRoomFor};
 ghost use Rattle.intmap.specs.Json.{Shows, BindSameTrees};
 ghost use Rattle.intmap.specs.declared.entry.Entry.{Entry};
 ghost use Rattle.intmap.specs.declared.refusal.Cause.{Cause};
@@ -58,6 +60,22 @@ pub fn insertion_updates<K: IntKey, V>()
 pub fn writing_updates<K: IntKey, V>()
     ensures { (L : List (K × V)) (k : K) (v : V) → IsPresent K.number_of L k
         → Updates K.number_of L (write_value K.number_of L k v) k (Some v) }
+{}
+
+/// Once each value of a list is replaced by what a function makes of it, each key has what the
+/// function makes of its value, and distinct keys stay distinct.
+pub fn mapped_walks_bind_mapped_values<K: IntKey, V, W>()
+    ensures values { (f : V → W) (L : List (K × V)) (q : K)
+        → value_of K.number_of (map (λ pair. (pair.0, f pair.1)) L) q
+        ≡ option_map f (value_of K.number_of L q) }
+    ensures distinct { (f : V → W) (L : List (K × V)) → HasDistinctKeys K.number_of L
+        → HasDistinctKeys K.number_of (map (λ pair. (pair.0, f pair.1)) L) }
+{}
+
+/// In the reverse of a list with distinct keys, each key has the value that it has in the list.
+pub fn reversed_lists_bind_the_same<K: IntKey, V>()
+    ensures { (L : List (K × V)) (q : K) → HasDistinctKeys K.number_of L
+        → value_of K.number_of (reverse L) q ≡ value_of K.number_of L q }
 {}
 
 /// Removing a present key makes a list one pair shorter. Removing an absent key leaves its length.
@@ -270,6 +288,19 @@ pub fn small_distinct_keys_share_no_slot<K: IntKey, V>()
         → All (λ p. class_size K.number_of (L ++ ps) C p.0 ≡ 1) ps }
 {}
 
+/// An insertion into a map that has room for `n + 1` pairs of any keys leaves room for `n`. Room for
+/// some pairs is room for fewer. A removal leaves the room.
+pub fn insertions_leave_room<K: IntKey, V>()
+    ensures inserted { (m l : MapState K V) (k : K) (v : V) (n : ℕ)
+        → IsMap K.number_of K.is_valid m → HasRoom K.number_of m (n + 1)
+        → IsInsertion K.number_of K.is_valid m k v l
+        → l ≡ after_insert K.number_of m k v l.capacity → HasRoom K.number_of l n }
+    ensures fewer { (m : MapState K V) (n fewer : ℕ) → IsMap K.number_of K.is_valid m
+        → HasRoom K.number_of m n → fewer ≤ n → HasRoom K.number_of m fewer }
+    ensures removed { (m : MapState K V) (k : K) (n : ℕ) → IsMap K.number_of K.is_valid m
+        → HasRoom K.number_of m n → HasRoom K.number_of (after_remove K.number_of m k) n }
+{}
+
 /// A removed pair goes in again if no other shares its slot, whatever the length: a map that became
 /// shorter doesn't grow at a length that it had.
 pub fn put_backs_are_never_refused<K: IntKey, V>()
@@ -306,6 +337,13 @@ pub fn small_keys_are_found_at_once<K: IntKey, V>()
 pub fn small_keys_fill_slots<K: IntKey, V>()
     ensures { (L : List (K × V)) (C : ℕ) → HasDistinctKeys K.number_of L
         → All (λ p. K.number_of p.0 < C) L → load_of K.number_of L C ≡ length L }
+{}
+
+/// A clone of a map has the same keys, each with a clone of its value. What `Clone` says of a map is
+/// the word `IsClone`.
+pub fn clones_bind_clones<K: IntKey, V: Clone>()
+    ensures { (m n : MapState K V) → IsClone V.is_clone m n
+        → BindsClones K.number_of V.is_clone m.walk n.walk }
 {}
 
 /// Two maps are equal if and only if they have the same keys, each with equal values.

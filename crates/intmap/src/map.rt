@@ -38,10 +38,11 @@ use std::marker::Model;
 /// alone: there is no random seed. No call makes the number of slots smaller.
 ///
 /// Contracts see a map as a [`MapState`](../specs/Map.antt): its walk, its number of slots, its
-/// load factor in thousandths, and two counts. One counts the pairs that insertions put into larger
-/// tables, the other the keys that calls by `&mut` compared, except steps of
-/// [`get_disjoint_mut`](IntMap::get_disjoint_mut). Only contracts see the counts: they take no
-/// memory.
+/// load factor in thousandths, two counts, and for how many pairs behind the first ones of their
+/// slots there surely is memory. One counts the pairs that insertions put into larger tables, the
+/// other the keys that calls by `&mut` compared, except steps of
+/// [`get_disjoint_mut`](IntMap::get_disjoint_mut). Only contracts see these three numbers: they
+/// take no memory.
 #[derive(Drop)]
 pub struct IntMap<K: IntKey, V, A: Allocator + Copy = Global> {
     table: Table<K, Kept<V>, A>,
@@ -50,10 +51,11 @@ pub struct IntMap<K: IntKey, V, A: Allocator + Copy = Global> {
     factor: usize,
     placed: Steps,
     compared: Steps,
+    reserved: Steps,
 }
 
-// Invariant: the walk is that of a map, and the length and the threshold are those of its pairs,
-// slots and load factor.
+// Invariant: the walk is that of a map, the length and the threshold are those of its pairs, slots
+// and load factor, and no more is reserved than there is memory for.
 impl<K: IntKey, V, A: Allocator + Copy> Model for IntMap<K, V, A> {
     ghost use Rattle.intmap.specs.Map.{MapState};
     ghost use Rattle.intmap.specs.Consistency.{IsConsistent};
@@ -66,10 +68,11 @@ impl<K: IntKey, V, A: Allocator + Copy> Model for IntMap<K, V, A> {
       factor = m.factor;
       placed = m.placed;
       compared = m.compared;
+      reserved = m.reserved;
     } };
 
     ghost invariant = { λ m. IsConsistent K.number_of K.is_valid m.table.walk m.table.capacity
-        m.factor m.len m.threshold };
+        m.factor m.len m.threshold m.reserved m.table.nodes };
 }
 
 impl<K: IntKey, V, A: Allocator + Copy> IntMap<K, V, A> {

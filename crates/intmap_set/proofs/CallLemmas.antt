@@ -1,5 +1,5 @@
 -- What a call leaves of the map and returns, as the set shows it.
-use Rattle.std.proofs.Common.{◌≡◌, ◌∙◌, ℕ, ◌+◌, ◌^◌, ◌<◌, Bool, true, false, cond, Some, refl, sym, ap, subst, length}
+use Rattle.std.proofs.Common.{◌≡◌, ◌∙◌, ℕ, ◌+◌, ◌^◌, ◌<◌, ◌≤◌, Bool, true, false, cond, Some, refl, sym, ap, subst, length}
 use Rattle.std.specs.Prelude.{◌↔◌, not, is_none, Result, Ok, Err, IfErr, OnErr, IsErrAnd, MatchBool}
 use Rattle.std.proofs.lemmas.Map.Entries.{length-keys_of}
 use Rattle.intmap.specs.declared.refusal.Cause.{Cause}
@@ -8,9 +8,9 @@ use Rattle.intmap.specs.Insertions.{IsInsertion}
 use Rattle.intmap.specs.PlainLists.{RefusalIsDue, list_of}
 use Rattle.intmap.specs.Growing as of_map
 use Rattle.intmap.specs.Growing.{IsEnough, MayRefuseReserve, MayRefuseRoom, MeetsFactor, NeedsTooMuchRoom}
-use Rattle.intmap.specs.Map.{MapState, NeedsNoMemory, after_search, after_insert, after_remove, in_slots}
+use Rattle.intmap.specs.Map.{MapState, NeedsNoMemory, after_search, after_insert, after_remove, in_slots, still_reserved}
 use Rattle.intmap.specs.Reach.{reach}
-use Rattle.intmap.specs.Room.{HasRoomInRow}
+use Rattle.intmap.specs.Room.{HasRoom, HasRoomInRow}
 use Rattle.intmap.specs.Walk.{ArePassed}
 use Rattle.intmap_set.specs.Sets.{SetState, as_map, load_factor, looked_up, paired, set_of}
 use Rattle.intmap_set.specs.Extending.{Inserts}
@@ -33,14 +33,15 @@ module _ {K : Type 0} (number : K → ℕ) (m n : MapState K (Unit {0})) (s : Se
   after_remove-seen k state = ap set_of state ∙ ap (λ x. set_of (after_remove number x k)) (as_map-seen m s seen kept)
 
   -- growth of the map is growth of the set
-  in_slots-seen : n ≡ in_slots number m n.capacity → set_of n ≡ set_of (in_slots number (as_map s) n.capacity)
-  in_slots-seen state = ap set_of state ∙ ap (λ x. set_of (in_slots number x n.capacity)) (as_map-seen m s seen kept)
+  in_slots-seen : n ≡ in_slots number m n.capacity n.reserved → set_of n ≡ set_of (in_slots number (as_map s) n.capacity n.reserved)
+  in_slots-seen state = ap set_of state ∙ ap (λ x. set_of (in_slots number x n.capacity n.reserved)) (as_map-seen m s seen kept)
 
   -- a reservation in the map is one in the set
   pub IsReservation-seen : (d : ℕ) → of_map.IsReservation number m d n → IsReservation number s d (set_of n)
   IsReservation-seen d did = record {
     enough = subst (λ (t : ℕ × ℕ). IsEnough t.0 (t.1 + d) n.capacity) (λ i. ((seen i).capacity, length-seen m s seen i)) did.enough;
     state = in_slots-seen did.state;
+    reserved = subst (λ x. still_reserved number x n.capacity ≤ n.reserved) (as_map-seen m s seen kept) did.reserved;
   }
 
   -- and why that fails is why the set does
@@ -53,6 +54,7 @@ module _ {K : Type 0} (number : K → ℕ) (m n : MapState K (Unit {0})) (s : Se
     count = subst (λ k. k + d < 2 ^ 64) (length-seen m s seen) did.count;
     meets = subst (λ (t : ℕ × ℕ × ℕ). MeetsFactor t.0 (t.1 + d) t.2 n.capacity) (λ i. ((seen i).capacity, length-seen m s seen i, kept i)) did.meets;
     state = in_slots-seen did.state;
+    reserved = subst (λ x. still_reserved number x n.capacity ≤ n.reserved) (as_map-seen m s seen kept) did.reserved;
   }
 
   pub MayRefuseRoom-seen : (d : ℕ) (r : Result (Unit {0}) Cause) → IfErr r (MayRefuseRoom m.capacity (length m.walk + d) m.factor) → IfErr r (MayRefuseRoom s.capacity (length s.walk + d) load_factor)
@@ -64,6 +66,13 @@ module _ {K : Type 0} (number : K → ℕ) (m n : MapState K (Unit {0})) (s : Se
   -- room in the map is room in the set
   pub HasRoomInRow-seen : (d : ℕ) → HasRoomInRow number m.walk m.capacity m.factor d → HasRoomInRow number (paired s.walk) s.capacity load_factor d
   HasRoomInRow-seen d = subst (λ x. HasRoomInRow number x.walk x.capacity x.factor d) (as_map-seen m s seen kept)
+
+  -- and the other way round, for any keys
+  pub seen-HasRoom : (d : ℕ) → HasRoom number (as_map s) d → HasRoom number m d
+  seen-HasRoom d room = subst (λ x. HasRoom number x d) (sym (as_map-seen m s seen kept)) room
+
+  pub HasRoom-seen : (d : ℕ) → HasRoom number m d → HasRoom number (as_map s) d
+  HasRoom-seen d room = subst (λ x. HasRoom number x d) (as_map-seen m s seen kept) room
 
   -- slots without a member are slots without a pair
   pub ArePassed-seen : (i : ℕ) → ArePassed number m.walk m.capacity i → ArePassed number (paired s.walk) s.capacity i

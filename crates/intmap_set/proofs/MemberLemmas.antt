@@ -27,7 +27,7 @@ module _ {K : Type 0} where
 
   -- the map of the set that a map shows is this map
   pub as_map-seen : (m : MapState K (Unit {0})) (s : SetState K) → set_of m ≡ s → m.factor ≡ load_factor → m ≡ as_map s
-  as_map-seen m s seen kept i = record { walk = pairs i; capacity = (seen i).capacity; factor = kept i; placed = (seen i).placed; compared = (seen i).compared }
+  as_map-seen m s seen kept i = record { walk = pairs i; capacity = (seen i).capacity; factor = kept i; placed = (seen i).placed; compared = (seen i).compared; reserved = (seen i).reserved }
     where
       pairs : m.walk ≡ paired s.walk
       pairs = sym (paired-keys_of m.walk) ∙ ap (λ t. paired t.walk) seen

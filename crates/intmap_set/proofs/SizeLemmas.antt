@@ -23,7 +23,7 @@ module _ {K : Type 0} (number : K → ℕ) where
   -- and so are sets with the same members
   pub length-same_members : (V W : List K) → HasDistinctKeys number (paired V) → HasDistinctKeys number (paired W) → HaveSameMembers number V W → length V ≡ length W
   length-same_members V W first second same =
-      let s : SetState K = record { walk = V; capacity = 0; placed = 0; compared = 0 } in let t : SetState K = record { walk = W; capacity = 0; placed = 0; compared = 0 } in
+      let s : SetState K = record { walk = V; capacity = 0; placed = 0; compared = 0; reserved = 0 } in let t : SetState K = record { walk = W; capacity = 0; placed = 0; compared = 0; reserved = 0 } in
       length-sets_equal s t first second ((sets_equal-iff_members number s t).1 same)
 
   -- a set has those that it shares and those that it has alone

@@ -7,12 +7,14 @@ use Rattle.intmap.specs.Map.{MapState, IsMap, first_factor}
 use Rattle.intmap.specs.Reach.{reach}
 
 -- a set as contracts see it: its members in the order of the walk, and its number of slots; `placed`, how many members insertions put
--- into larger tables; and `compared`, how many keys were compared
+-- into larger tables; `compared`, how many keys were compared; and `reserved`, for how many members behind the first ones of their
+-- slots there surely is memory
 pub record SetState (K : Type 0) : Type 0 where
   pub walk : List K
   pub capacity : ℕ
   pub placed : ℕ
   pub compared : ℕ
+  pub reserved : ℕ
 
 -- the load factor of every set, that of a new map: 909 thousandths
 abbrev pub load_factor : ℕ
@@ -25,15 +27,15 @@ module _ {K : Type 0} where
 
   -- the map from each member to ()
   abbrev pub as_map : SetState K → MapState K (Unit {0})
-  as_map s = record { walk = paired s.walk; capacity = s.capacity; factor = load_factor; placed = s.placed; compared = s.compared }
+  as_map s = record { walk = paired s.walk; capacity = s.capacity; factor = load_factor; placed = s.placed; compared = s.compared; reserved = s.reserved }
 
   -- the set of the keys of a map
   abbrev pub set_of : MapState K (Unit {0}) → SetState K
-  set_of m = record { walk = keys_of m.walk; capacity = m.capacity; placed = m.placed; compared = m.compared }
+  set_of m = record { walk = keys_of m.walk; capacity = m.capacity; placed = m.placed; compared = m.compared; reserved = m.reserved }
 
-  -- a new set of C slots: no members, and nothing counted
+  -- a new set of C slots: no members, nothing counted, and nothing reserved
   abbrev pub empty_set : ℕ → SetState K
-  empty_set C = record { walk = []; capacity = C; placed = 0; compared = 0 }
+  empty_set C = record { walk = []; capacity = C; placed = 0; compared = 0; reserved = 0 }
 
 module _ {K : Type 0} (number : K → ℕ) where
   -- whether a key is a member

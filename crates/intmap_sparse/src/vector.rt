@@ -11,7 +11,7 @@ mod equal;
 use crate::cause::SparseCause;
 use intmap::iter::{IntoIter, Iter};
 use intmap::{Cause, IntMap};
-use std::alloc::{Allocator, Global};
+use std::alloc::{AllocError, Allocator, Global};
 use std::fmt;
 use std::marker::Model;
 
@@ -231,7 +231,11 @@ impl<'a, A: Allocator + Copy> IntoIterator for &'a SparseVec<A> {
 
     ghost into_iter_gives = { λ vector it. it ≡ vector.now.walk };
 
-    fn into_iter(self) -> Iter<'a, u64, i64, A> {
+    /// The stored places and their values by reference, as by [`iter`](SparseVec::iter).
+    fn into_iter(self) -> Iter<'a, u64, i64, A>
+        ensures into_iter_gives { result ≡ self.now.walk }
+        ensures valid { IsVector self.now.walk }
+    {
         self.iter()
     }
 }
@@ -250,6 +254,24 @@ impl<A: Allocator + Copy> IntoIterator for SparseVec<A> {
         ensures runs { GivesEach (ℕ × ℤ) }
     {
         self.values.into_iter()
+    }
+}
+
+impl<A: Allocator + Copy> Clone for SparseVec<A> {
+    ghost is_clone = { λ vector made. made ≡ vector };
+
+    /// A vector with the same walk and number of slots. It fails only if an allocation fails.
+    ///
+    /// ```text
+    /// let mut vector = SparseVec::new(alloc)?;
+    /// vector.set(1, 2)?;
+    /// vector.clone()?    // {1: 2}
+    /// ```
+    fn clone(&self) -> Result<SparseVec<A>, AllocError> {
+        match self.values.clone() {
+            Ok(values) => Ok(SparseVec { values }),
+            Err(_) => Err(AllocError),
+        }
     }
 }
 

@@ -1,11 +1,11 @@
 -- How many residues the keys leave is how many slots hold a pair.
-use Rattle.std.proofs.Common.{◌≡◌, ◌≢◌, ℕ, zero, suc, ◌+◌, ◌-◌, ◌<◌, ◌≤◌, Bool, false, not, cond, List, [], ◌∷◌, length, get_or, map, refl, sym, ap, ◌∙◌, subst, arith, zero-add}
+use Rattle.std.proofs.Common.{◌≡◌, ◌≢◌, ℕ, zero, suc, ◌+◌, ◌-◌, ◌<◌, ◌≤◌, Bool, true, false, not, inl, inr, cond, List, [], ◌∷◌, length, get_or, map, refl, sym, ap, ◌∙◌, subst, arith, zero-add}
 use Rattle.std.specs.Prelude.{◌==◌, filter, count_by, nat_lt}
 use Rattle.std.specs.List.{list_any, range_with_len}
 use Rattle.std.proofs.lemmas.List.{length-append}
 use Rattle.std.proofs.lemmas.List.Sums.{sum_by-cons, length-filter}
 use Rattle.std.proofs.lemmas.List.Filters.{length-filter_both}
-use Rattle.std.proofs.lemmas.Bool.{ne_eqb}
+use Rattle.std.proofs.lemmas.Bool.{ne_eqb, cases_Bool, cases_eq}
 use Rattle.std.proofs.lemmas.Bool.Decides.{nat_tests}
 use Rattle.intmap_table.proofs.ClassLemmas.{range-next}
 use Rattle.intmap_table.specs.Classes.{residue, slot_number, agrees}
@@ -57,6 +57,33 @@ count_by-range_same g h a (suc n) e =
     let on = range-next (λ k _. g k ≡ h k) a n e in let first = on.0 in let rest = count_by-range_same g h (a + 1) n on.1 in
     let l = sum_by-cons (λ i. cond (g i) 1 0) a (range_with_len (a + 1) n) in let m = sum_by-cons (λ i. cond (h i) 1 0) a (range_with_len (a + 1) n) in
     grind (arith, first, rest, l, m)
+
+-- a test that passes where another does counts no fewer
+count_by-range_more : (g h : ℕ → Bool) (a n : ℕ) → ((i : ℕ) → i < n → g (a + i) ≡ true → h (a + i) ≡ true) → count_by g (range_with_len a n) ≤ count_by h (range_with_len a n)
+count_by-range_more g h a zero more = omega arith
+count_by-range_more g h a (suc n) more =
+    let on = range-next (λ k _. g k ≡ true → h k ≡ true) a n more in let first = on.0 in let rest = count_by-range_more g h (a + 1) n on.1 in
+    let l = sum_by-cons (λ i. cond (g i) 1 0) a (range_with_len (a + 1) n) in let m = sum_by-cons (λ i. cond (h i) 1 0) a (range_with_len (a + 1) n) in
+    elim (cases_Bool (g a)) as (λ _. count_by g (range_with_len a (suc n)) ≤ count_by h (range_with_len a (suc n))) [
+      | inl met ↦ (let here = first met in grind (arith, met, here, rest, l, m))
+      | inr not_met ↦ grind (arith, not_met, rest, l, m)
+    ]
+
+-- and one fewer at most, if it passes where the other does but for one number
+count_by-range_but : (g h : ℕ → Bool) (j a n : ℕ) → ((i : ℕ) → i < n → a + i ≢ j → g (a + i) ≡ true → h (a + i) ≡ true) → count_by g (range_with_len a n) ≤ count_by h (range_with_len a n) + 1
+count_by-range_but g h j a zero more = omega arith
+count_by-range_but g h j a (suc n) more =
+    let on = range-next (λ k _. k ≢ j → g k ≡ true → h k ≡ true) a n more in
+    let l = sum_by-cons (λ i. cond (g i) 1 0) a (range_with_len (a + 1) n) in let m = sum_by-cons (λ i. cond (h i) 1 0) a (range_with_len (a + 1) n) in
+    elim (cases_eq a j) as (λ _. count_by g (range_with_len a (suc n)) ≤ count_by h (range_with_len a (suc n)) + 1) [
+      | inl here ↦ (let rest = count_by-range_more g h (a + 1) n (λ i lt. on.1 i lt (λ q. omega (arith, here, q))) in grind (arith, rest, l, m))
+      | inr apart ↦
+          (let first = on.0 apart in let rest = count_by-range_but g h j (a + 1) n on.1 in
+          elim (cases_Bool (g a)) as (λ _. count_by g (range_with_len a (suc n)) ≤ count_by h (range_with_len a (suc n)) + 1) [
+            | inl met ↦ (let there = first met in grind (arith, met, there, rest, l, m))
+            | inr not_met ↦ grind (arith, not_met, rest, l, m)
+          ])
+    ]
 
 -- a test that no number passes counts none
 count_by-range_none : (a n : ℕ) → count_by (λ (i : ℕ). false) (range_with_len a n) ≡ 0
@@ -111,6 +138,20 @@ module _ {K V : Type 0} (number : K → ℕ) (C : ℕ) (spread : (a k : K) → a
         let h = load_of-slots L in let b = below p.0 in let found = among p.0 L in
         let once = length-each_once (residue number p.0 C) (map (λ q. residue number q.0 C) L) in
         let slots = has-cons (λ q. slot_number number q.0 C) p L 0 C (omega arith) (omega (arith, b)) in grind (arith, h, once, slots, found)
+
+    -- a list whose slots hold a pair where those of another do has no smaller load
+    pub load_of-more : (L M : List (K × V)) → ((i : ℕ) → i < C → is_filled (slot_of number L C i) ≡ true → is_filled (slot_of number M C i) ≡ true) → load_of number L C ≤ load_of number M C
+    load_of-more L M more =
+        let l = load_of-slots L in let m = load_of-slots M in
+        let less = count_by-range_more (λ i. is_filled (slot_of number L C i)) (λ i. is_filled (slot_of number M C i)) 0 C (λ i lt. rw zero-add (more i lt)) in
+        omega (arith, l, m, less)
+
+    -- and one that is smaller by one at most, if this is so but for slot j
+    pub load_of-but : (L M : List (K × V)) (j : ℕ) → ((i : ℕ) → i < C → i ≢ j → is_filled (slot_of number L C i) ≡ true → is_filled (slot_of number M C i) ≡ true) → load_of number L C ≤ load_of number M C + 1
+    load_of-but L M j more =
+        let l = load_of-slots L in let m = load_of-slots M in
+        let less = count_by-range_but (λ i. is_filled (slot_of number L C i)) (λ i. is_filled (slot_of number M C i)) j 0 C (λ i lt. rw zero-add (more i lt)) in
+        omega (arith, l, m, less)
 
     -- lists with the same slots have the same load
     pub load_of-same : (L M : List (K × V)) → ((i : ℕ) → i < C → slot_of number L C i ≡ slot_of number M C i) → load_of number L C ≡ load_of number M C

@@ -17,7 +17,7 @@ mod slots;
 pub mod stored;
 pub mod walk;
 
-ghost use Rattle.std.specs.Prelude.{◌≡◌, ◌+◌, ◌*◌, ◌%◌, ◌<◌, ◌≤◌, [], OnOk, OnErr, IfOk, IfErr, IsOk, None, length};
+ghost use Rattle.std.specs.Prelude.{◌≡◌, ◌+◌, ◌*◌, ◌%◌, ◌<◌, ◌≤◌, ℕ, max, [], OnOk, OnErr, IfOk, IfErr, IsOk, None, length};
 ghost use Rattle.intmap_table.specs.Classes.{multiplier, slot_number, IsCapacity};
 ghost use Rattle.intmap_table.specs.Bindings.{value_of, put_pair};
 ghost use Rattle.intmap_table.specs.Locations.{IsAt};
@@ -28,6 +28,7 @@ ghost use Rattle.std.specs.List.{AllZip};
 ghost use Rattle.intmap_table.specs.Cloning.{IsPairClone};
 
 use crate::key::IntKey;
+use crate::steps::Steps;
 use crate::table::stored::{Sought, Stored};
 pub use closures::Progress;
 use locate::Location;
@@ -112,11 +113,21 @@ impl<K: IntKey, X, A: Allocator> Table<K, X, A> {
     }
 
     /// The number of pairs behind the first ones of their slots.
-    pub fn further(&self) -> usize
+    fn further(&self) -> usize
         ensures { result + load_of K.number_of self.now.walk self.now.capacity
             ≡ length self.now.walk }
     {
         self.slots.further()
+    }
+
+    /// Raises a count to the number of pairs behind the first ones of their slots, and `more`. A
+    /// count that is greater stays.
+    pub fn count_further(&self, count: &mut Steps, more: usize)
+        ensures { (further : ℕ) × (further
+            + load_of K.number_of self.now.walk self.now.capacity ≡ length self.now.walk)
+            × (count.new ≡ max count.old (further + more)) }
+    {
+        count.raise_to(self.further(), more);
     }
 
     /// The number of pairs that a slot holds.

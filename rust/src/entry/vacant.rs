@@ -96,7 +96,7 @@ impl<'a, K: IntKey, V> VacantEntry<'a, K, V> {
     /// Those of [`IntMap::try_insert`](crate::IntMap::try_insert), with the value.
     ///
     /// Proved of `VacantEntry::insert_entry`: `written`, `absent`, `inserted`, `err`,
-    /// `value_returned`, `refused`, `succeeds`.
+    /// `value_returned`, `refused`, `succeeds`, `has_room`.
     #[inline(always)]
     pub fn try_insert_entry(self, value: V) -> Result<OccupiedEntry<'a, K, V>, Refused<V>> {
         let (map, key, slot) = self.0.parted();

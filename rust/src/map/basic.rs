@@ -72,7 +72,7 @@ impl<K: IntKey, V> IntMap<K, V> {
     /// Returns a reference to the value of the key, or `None` if the key is absent. The cost is
     /// *O*(*s*).
     ///
-    /// Proved of `IntMap::get`: `value`.
+    /// Proved of `IntMap::get`: `value`, `member`.
     ///
     /// ```
     /// let map = intmap_proved::IntMap::from([(21u64, 'a')]);
@@ -128,7 +128,7 @@ impl<K: IntKey, V> IntMap<K, V> {
     /// Returns references to the key in the map and to its value, or `None` if the key is absent.
     /// The cost is *O*(*s*).
     ///
-    /// Proved of `IntMap::get_key_value`: `key`, `value`.
+    /// Proved of `IntMap::get_key_value`: `key`, `value`, `by_pair`.
     ///
     /// ```
     /// let map = intmap_proved::IntMap::from([(21u64, 'a')]);

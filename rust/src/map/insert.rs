@@ -37,8 +37,8 @@ impl<K: IntKey, V> IntMap<K, V> {
     /// then stays as it was. It never fails if the key is present, nor if no other key shares its
     /// slot and the capacity stays.
     ///
-    /// Proved of `IntMap::insert`: `old`, `inserted`, `state`, `err`, `value_returned`, `refused`,
-    /// `succeeds`.
+    /// Proved of `IntMap::insert`: `old`, `inserted`, `updates`, `len`, `state`, `err`,
+    /// `value_returned`, `absent`, `refused`, `succeeds`, `has_room`.
     ///
     /// ```
     /// use intmap_proved::{IntMap, Refused};
@@ -75,8 +75,8 @@ impl<K: IntKey, V> IntMap<K, V> {
     /// # Errors
     /// Those of [`try_insert`](Self::try_insert), with the value.
     ///
-    /// Proved of `IntMap::insert_checked`: `new`, `inserted`, `state`, `err`, `value_returned`,
-    /// `refused`, `succeeds`.
+    /// Proved of `IntMap::insert_checked`: `new`, `inserted`, `updates`, `len`, `state`, `err`,
+    /// `value_returned`, `absent`, `refused`, `succeeds`, `has_room`.
     #[inline]
     pub fn try_insert_checked(&mut self, key: K, value: V) -> Result<bool, Refused<V>> {
         guarded!(&mut self.map, |map| map.insert_checked(key, value))

@@ -103,7 +103,8 @@ impl<K: IntKey, V> IntMap<K, V> {
     /// It does what a loop over [`iter_mut`](Self::iter_mut) does. Its code is proved, that of
     /// `iter_mut` is tested.
     ///
-    /// Proved of `IntMap::for_each_mut`: `mapped`, `values`, `state`, `keys`, `updates`, `len`.
+    /// Proved of `IntMap::for_each_mut`: `mapped`, `by_pair`, `values`, `state`, `keys`, `updates`,
+    /// `len`.
     ///
     /// ```
     /// let mut map = intmap_proved::IntMap::from([(0u64, 10), (1, 20)]);
@@ -121,7 +122,7 @@ impl<K: IntKey, V> IntMap<K, V> {
     /// # Errors
     /// That of [`try_insert`](Self::try_insert), with the pair and the number of pairs before it.
     ///
-    /// Proved of `IntMap::extend`: `extends`, `runs`, `len`, `stops`.
+    /// Proved of `IntMap::extend`: `extends`, `runs`, `len`, `has_room`, `stops`.
     ///
     /// ```
     /// use intmap_proved::{IntMap, RefusedPair};

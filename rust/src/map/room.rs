@@ -73,10 +73,10 @@ impl<K: IntKey, V> IntMap<K, V> {
     /// [`reserve_pairs`](Self::reserve_pairs) makes, and memory for as many pairs that share a slot
     /// with another. The cost is *O*(*n* + *c*), or *O*(*n*) if the capacity stays.
     ///
-    /// The next `additional` insertions of absent keys then allocate nothing, so none of them
-    /// fails. This holds until a call other than an insertion, a removal or a look-up changes the
-    /// map. It is tested, not proved: contracts don't see the memory of pairs that share a slot.
-    /// Where [`try_reserve_insertions`](Self::try_reserve_insertions) fails, this call panics or
+    /// The next `additional` insertions of any keys then can't fail, and allocate nothing. This
+    /// holds until a call other than an insertion, a removal or a look-up changes the map. That they
+    /// can't fail is proved, by `any` of this call and `has_room` of the insertions. That they
+    /// allocate nothing is tested. Where [`try_reserve_insertions`](Self::try_reserve_insertions) fails, this call panics or
     /// ends the process.
     ///
     /// ```
@@ -98,8 +98,8 @@ impl<K: IntKey, V> IntMap<K, V> {
     /// needed, and otherwise [`Cause::Memory`] if an allocation fails. The map then stays as it
     /// was.
     ///
-    /// Proved of `IntMap::reserve_insertions`: `reserved`, `room`, `err`, `too_large`, `updates`,
-    /// `len`.
+    /// Proved of `IntMap::reserve_insertions`: `reserved`, `room`, `any`, `err`, `too_large`,
+    /// `updates`, `len`.
     ///
     /// ```
     /// use intmap_proved::{Cause, IntMap};

@@ -73,7 +73,8 @@ impl<K: IntKey> IntSet<K> {
     /// [`Cause::Memory`] if an allocation fails. The set then stays as it was. It never fails if
     /// the key is a member, nor if no member shares its slot and the capacity stays.
     ///
-    /// Proved of `IntSet::insert`: `new`, `inserted`, `state`, `err`, `refused`, `succeeds`.
+    /// Proved of `IntSet::insert`: `new`, `inserted`, `updates`, `len`, `state`, `err`, `absent`,
+    /// `refused`, `succeeds`, `has_room`.
     #[inline]
     pub fn try_insert(&mut self, key: K) -> Result<bool, Cause> {
         guarded!(&mut self.set, |set| set.insert(key))

@@ -94,9 +94,8 @@ impl<K: IntKey> IntSet<K> {
     /// [`reserve_members`](Self::reserve_members) makes, and memory for as many members that share
     /// a slot with another. The cost is *O*(*n* + *c*), or *O*(*n*) if the capacity stays.
     ///
-    /// The next `additional` insertions of new keys then allocate nothing, so none of them fails,
-    /// as [`IntMap::reserve_insertions`](crate::IntMap::reserve_insertions) says. This is tested,
-    /// not proved. Where [`try_reserve_insertions`](Self::try_reserve_insertions) fails, this call
+    /// The next `additional` insertions of any keys then can't fail, and allocate nothing, as
+    /// [`IntMap::reserve_insertions`](crate::IntMap::reserve_insertions) says. Where [`try_reserve_insertions`](Self::try_reserve_insertions) fails, this call
     /// panics or ends the process.
     ///
     /// ```
@@ -117,8 +116,8 @@ impl<K: IntKey> IntSet<K> {
     /// Those of [`IntMap::try_reserve_insertions`](crate::IntMap::try_reserve_insertions). The set
     /// then stays as it was.
     ///
-    /// Proved of `IntSet::reserve_insertions`: `reserved`, `room`, `err`, `too_large`, `updates`,
-    /// `len`.
+    /// Proved of `IntSet::reserve_insertions`: `reserved`, `room`, `any`, `err`, `too_large`,
+    /// `updates`, `len`.
     pub fn try_reserve_insertions(&mut self, additional: usize) -> Result<(), Cause> {
         guarded!(&mut self.set, |set| set.reserve_insertions(additional))
     }

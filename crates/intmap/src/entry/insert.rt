@@ -7,6 +7,7 @@ ghost use Rattle.intmap.specs.Entries.{entry_map, entry_key, entry_value, entry_
 ghost use Rattle.intmap.specs.Insertions.{IsInsertion};
 ghost use Rattle.intmap.specs.Map.{NeedsNoMemory};
 ghost use Rattle.intmap.specs.PlainLists.{RefusalIsDue};
+ghost use Rattle.intmap.specs.Room.{HasRoom};
 
 use crate::entry::{Entry, OccupiedEntry, VacantEntry};
 use crate::refusal::Refused;
@@ -47,6 +48,7 @@ impl<'a, K: IntKey, V: Drop, A: Allocator + Copy> VacantEntry<'a, K, V, A> {
         ensures succeeds { NeedsNoMemory K.number_of (entry_map (Vacant self.entry)).walk
             (entry_map (Vacant self.entry)).capacity (entry_map (Vacant self.entry)).factor
             (entry_key (Vacant self.entry)) → IsOk result }
+        ensures has_room { HasRoom K.number_of (entry_map (Vacant self.entry)) 1 → IsOk result }
     {
         let VacantEntry { map, key, slot } = self;
         let at = match map.add(slot, Sought::new(key), value) {
@@ -79,6 +81,8 @@ impl<'a, K: IntKey, V: Drop, A: Allocator + Copy> VacantEntry<'a, K, V, A> {
         ensures succeeds { NeedsNoMemory K.number_of (entry_map (Vacant self.entry)).walk
             (entry_map (Vacant self.entry)).capacity (entry_map (Vacant self.entry)).factor
             (entry_key (Vacant self.entry)) → IfErr result (λ e. made ≡ Err e) }
+        ensures has_room { HasRoom K.number_of (entry_map (Vacant self.entry)) 1
+            → IfErr result (λ e. made ≡ Err e) }
     {
         let VacantEntry { map, key, slot } = self;
         let value = match made {
@@ -122,11 +126,13 @@ impl<'a, K: IntKey, V: Drop, A: Allocator + Copy> Entry<'a, K, V, A> {
             (λ refused. F.post f (entry_key self.entry) refused.value) }
 
         // when it fails
+        ensures absent { OnErr result (entry_value self.entry ≡ None) }
         ensures refused { IfErr result (λ refused. RefusalIsDue K.number_of (entry_list self.entry)
             (entry_key self.entry) refused.cause) }
         ensures succeeds { NeedsNoMemory K.number_of (entry_map self.entry).walk
             (entry_map self.entry).capacity (entry_map self.entry).factor (entry_key self.entry)
             → IsOk result }
+        ensures has_room { HasRoom K.number_of (entry_map self.entry) 1 → IsOk result }
     {
         match self {
             Entry::Occupied(entry) => Ok(entry.into_mut()),
@@ -161,11 +167,13 @@ impl<'a, K: IntKey, V: Drop, A: Allocator + Copy> Entry<'a, K, V, A> {
         ensures value_returned { IfErr result (λ refused. F.post f refused.value) }
 
         // when it fails
+        ensures absent { OnErr result (entry_value self.entry ≡ None) }
         ensures refused { IfErr result (λ refused. RefusalIsDue K.number_of (entry_list self.entry)
             (entry_key self.entry) refused.cause) }
         ensures succeeds { NeedsNoMemory K.number_of (entry_map self.entry).walk
             (entry_map self.entry).capacity (entry_map self.entry).factor (entry_key self.entry)
             → IsOk result }
+        ensures has_room { HasRoom K.number_of (entry_map self.entry) 1 → IsOk result }
     {
         self.or_insert_with_key(|_key| f())
     }
@@ -195,11 +203,13 @@ impl<'a, K: IntKey, V: Drop, A: Allocator + Copy> Entry<'a, K, V, A> {
         ensures value_returned { IfErr result (λ refused. V.is_made_with refused.value) }
 
         // when it fails
+        ensures absent { OnErr result (entry_value self.entry ≡ None) }
         ensures refused { IfErr result (λ refused. RefusalIsDue K.number_of (entry_list self.entry)
             (entry_key self.entry) refused.cause) }
         ensures succeeds { NeedsNoMemory K.number_of (entry_map self.entry).walk
             (entry_map self.entry).capacity (entry_map self.entry).factor (entry_key self.entry)
             → IsOk result }
+        ensures has_room { HasRoom K.number_of (entry_map self.entry) 1 → IsOk result }
     {
         let alloc = self.allocator();
         self.or_insert_with(|| V::made_with(alloc))
@@ -250,6 +260,8 @@ impl<'a, K: IntKey, V: Drop, A: Allocator + Copy> Entry<'a, K, V, A> {
         ensures succeeds { NeedsNoMemory K.number_of (entry_map self.entry).walk
             (entry_map self.entry).capacity (entry_map self.entry).factor (entry_key self.entry)
             → IfErr result (λ e. F.post f (Err e)) }
+        ensures has_room { HasRoom K.number_of (entry_map self.entry) 1
+            → IfErr result (λ e. F.post f (Err e)) }
     {
         match self {
             Entry::Occupied(entry) => Ok(entry.into_mut()),
@@ -279,11 +291,13 @@ impl<'a, K: IntKey, V: Drop, A: Allocator + Copy> Entry<'a, K, V, A> {
         ensures value_returned { IfErr result (λ refused. refused.value ≡ value) }
 
         // when it fails
+        ensures absent { OnErr result (entry_value self.entry ≡ None) }
         ensures refused { IfErr result (λ refused. RefusalIsDue K.number_of (entry_list self.entry)
             (entry_key self.entry) refused.cause) }
         ensures succeeds { NeedsNoMemory K.number_of (entry_map self.entry).walk
             (entry_map self.entry).capacity (entry_map self.entry).factor (entry_key self.entry)
             → IsOk result }
+        ensures has_room { HasRoom K.number_of (entry_map self.entry) 1 → IsOk result }
     {
         match self {
             Entry::Occupied(entry) => {

@@ -5,6 +5,7 @@ ghost use Rattle.intmap.specs.Entries.{Vacant, entry_reference, entry_map, entry
 ghost use Rattle.intmap.specs.Insertions.{IsInsertion};
 ghost use Rattle.intmap.specs.Map.{NeedsNoMemory};
 ghost use Rattle.intmap.specs.PlainLists.{RefusalIsDue};
+ghost use Rattle.intmap.specs.Room.{HasRoom};
 
 use crate::entry::VacantEntry;
 use crate::map::IntMap;
@@ -77,6 +78,7 @@ impl<'a, K: IntKey, V: Drop, A: Allocator + Copy> VacantEntry<'a, K, V, A> {
         ensures succeeds { NeedsNoMemory K.number_of (entry_map (Vacant self.entry)).walk
             (entry_map (Vacant self.entry)).capacity (entry_map (Vacant self.entry)).factor
             (entry_key (Vacant self.entry)) → IsOk result }
+        ensures has_room { HasRoom K.number_of (entry_map (Vacant self.entry)) 1 → IsOk result }
     {
         let VacantEntry { map, key, slot } = self;
         let at = match map.add(slot, Sought::new(key), value) {

@@ -1,12 +1,12 @@
 //! New maps, and insertion of many pairs.
-ghost use Rattle.std.specs.Prelude.{◌≡◌, ◌↔◌, ◌+◌, ◌^◌, ◌<◌, ◌⊎◌, max, length, IfOk, IfErr, Err, ℕ, ◌≤◌, OnOk, MatchResult, reverse};
+ghost use Rattle.std.specs.Prelude.{◌≡◌, ◌↔◌, ◌+◌, ◌^◌, ◌<◌, ◌⊎◌, max, length, IfOk, IfErr, Err, ℕ, ◌≤◌, OnOk, IsOk, MatchResult, reverse};
 ghost use Rattle.std.specs.Option.{option_or};
 ghost use Rattle.intmap_table.specs.Bindings.{value_of};
 ghost use Rattle.intmap_table.specs.Classes.{IsCapacity};
 ghost use Rattle.intmap.specs.Growing.{MeetsFactor};
 ghost use Rattle.intmap.specs.Growth.{IsLeastPower, IsWanted, NeedsTooMuch};
 ghost use Rattle.intmap.specs.Map.{IsMap, empty_map, first_capacity, first_factor, least_capacity};
-ghost use Rattle.intmap.specs.Room.{HasRoomInRow};
+ghost use Rattle.intmap.specs.Room.{HasRoom, HasRoomInRow};
 ghost use Rattle.std.specs.Iterator.{IsFinite, size};
 ghost use Rattle.std.specs.Iterator.Runs.{WholeRun};
 ghost use Rattle.intmap.specs.Extending.{Extends, ExtendsUpTo, Collects, MayRefuseToCollect, IsCollected, LeavesRange};
@@ -121,6 +121,7 @@ impl<K: IntKey, V: Drop, A: Allocator + Copy> IntMap<K, V, A> {
                 factor: FIRST_FACTOR,
                 placed: Steps::new(),
                 compared: Steps::new(),
+                reserved: Steps::new(),
             }),
             Err(_) => Err(Cause::Memory),
         }
@@ -160,6 +161,7 @@ impl<K: IntKey, V: Drop, A: Allocator + Copy> IntMap<K, V, A> {
             (value_of K.number_of self.old.walk q))) }
         ensures len { OnOk result
             (length self.new.walk ≤ length self.old.walk + size (I.remaining iter)) }
+        ensures has_room { HasRoom K.number_of self.old (size (I.remaining iter)) → IsOk result }
         ensures stops { IfErr result (λ refused.
             ExtendsUpTo K.number_of K.is_valid I.next_gives iter self.old refused self.new) }
         ensures valid { IsMap K.number_of K.is_valid self.old }

@@ -1,6 +1,7 @@
 //! Look-ups.
-ghost use Rattle.std.specs.Prelude.{◌≡◌, ◌+◌, Some, IfSome, is_some, length, option_copied};
-ghost use Rattle.std.specs.List.{slice_get};
+ghost use Rattle.std.specs.Prelude.{◌≡◌, ◌+◌, Contains, Some, IfSome, is_some, length, option_copied};
+ghost use Rattle.std.specs.List.{IsAmong, slice_get};
+ghost use Rattle.std.specs.Map.{values_of};
 ghost use Rattle.std.specs.Option.{option_map};
 ghost use Rattle.intmap_table.specs.Bindings.{value_of, write_value, IsPresent, Updates};
 ghost use Rattle.intmap_table.specs.Reach.{reach};
@@ -27,6 +28,7 @@ impl<K: IntKey, V, A: Allocator + Copy> IntMap<K, V, A> {
     #[inline]
     pub fn get(&self, key: K) -> Option<&V>
         ensures value { option_copied result ≡ value_of K.number_of self.now.walk key }
+        ensures member { IfSome result (λ value. IsAmong (values_of self.now.walk) value.now) }
         ensures valid { IsMap K.number_of K.is_valid self.now }
     {
         let mut steps = Steps::new();
@@ -111,6 +113,8 @@ impl<K: IntKey, V, A: Allocator + Copy> IntMap<K, V, A> {
         ensures key { IfSome result (λ pair. pair.0.now ≡ key) }
         ensures value { option_map (λ pair. pair.1.now) result
             ≡ value_of K.number_of self.now.walk key }
+        ensures by_pair { IfSome result
+            (λ pair. Contains self.now.walk (pair.0.now, pair.1.now)) }
         ensures valid { IsMap K.number_of K.is_valid self.now }
     {
         let mut steps = Steps::new();

@@ -1,16 +1,27 @@
 //! The capacity and the load factor, as callers set them.
-ghost use Rattle.std.specs.Prelude.{◌≡◌, ◌↔◌, ◌+◌, ◌≤◌, length, Err, IfErr, IsOk, OnOk, OnErr};
+ghost use Rattle.std.specs.Prelude.{◌≡◌, ◌↔◌, ◌+◌, ◌≤◌, ◌==◌, cond, length, Err, IfErr, IsOk, OnOk, OnErr};
 ghost use Rattle.intmap_table.specs.Bindings.{value_of};
+ghost use Rattle.intmap_table.specs.Figures.{load_of};
 ghost use Rattle.intmap.specs.Growing.{IsReservation, IsNewFactor, IsRoomMade, MayRefuseReserve, MayRefuseFactor, MayRefuseRoom, MeetsFactor, NeedsTooMuchRoom};
 ghost use Rattle.intmap.specs.Growth.{IsWanted, MeetsLoad, NeedsTooMuch};
-ghost use Rattle.intmap.specs.Map.{IsMap, in_slots};
-ghost use Rattle.intmap.specs.Room.{HasRoomInRow};
+ghost use Rattle.intmap.specs.Map.{IsMap, in_slots, still_reserved};
+ghost use Rattle.intmap.specs.Room.{HasRoom, HasRoomInRow};
 
 use crate::load::{GREATEST_CAPACITY, threshold_of, wanted_capacity};
 use crate::map::IntMap;
 use crate::refusal::Cause;
 use intmap_table::IntKey;
+use intmap_table::steps::Steps;
 use std::alloc::Allocator;
+
+/// What is reserved stays reserved if the capacity stays. Growth makes it 0.
+fn keep_if_same(reserved: &mut Steps, capacity: usize, before: usize)
+    ensures { reserved.new ≡ cond (capacity == before) reserved.old 0 }
+{
+    if capacity != before {
+        *reserved = Steps::new();
+    }
+}
 
 impl<K: IntKey, V: Drop, A: Allocator + Copy> IntMap<K, V, A> {
     /// Makes the capacity at least the least power of two that is no less than the length plus
@@ -46,10 +57,12 @@ impl<K: IntKey, V: Drop, A: Allocator + Copy> IntMap<K, V, A> {
             return Err(Cause::TooLarge);
         }
         let slots = (self.len + additional).next_power_of_two();
-        let capacity = slots.max(self.table.capacity());
+        let before = self.table.capacity();
+        let capacity = slots.max(before);
         if self.table.grow_to(capacity, 0).is_err() {
             return Err(Cause::Memory);
         }
+        keep_if_same(&mut self.reserved, capacity, before);
         self.threshold = threshold_of(capacity, self.factor);
         Ok(())
     }
@@ -99,9 +112,14 @@ impl<K: IntKey, V: Drop, A: Allocator + Copy> IntMap<K, V, A> {
     /// none of them fails, as long as no call but insertions, removals and look-ups changes the
     /// map.
     ///
+    /// Contracts say so by `HasRoom`: an insertion into a map that has room for a pair doesn't fail
+    /// (its clause `has_room`), and
+    /// [`insertions_leave_room`](crate::laws::insertions_leave_room) says what it leaves of the
+    /// room.
+    ///
     /// It fails as [`reserve_pairs`](IntMap::reserve_pairs) does, and also, with [`Cause::Memory`],
     /// if the memory for pairs that share a slot is refused. A failed call leaves the map as it
-    /// was. That the insertions don't fail is tested, not proved: contracts don't see this memory.
+    /// was.
     ///
     /// ```text
     /// let mut map: IntMap<u64, char> = IntMap::new(alloc)?;
@@ -112,6 +130,7 @@ impl<K: IntKey, V: Drop, A: Allocator + Copy> IntMap<K, V, A> {
         ensures reserved { OnOk result (IsRoomMade K.number_of self.old additional self.new) }
         ensures room { OnOk result (HasRoomInRow K.number_of self.new.walk self.new.capacity
             self.new.factor additional) }
+        ensures any { OnOk result (HasRoom K.number_of self.new additional) }
         ensures err { OnErr result (self.new ≡ self.old) }
         ensures too_large { (result ≡ Err Cause.TooLarge) ↔ NeedsTooMuchRoom self.old.capacity
             (length self.old.walk + additional) self.old.factor }
@@ -160,6 +179,8 @@ impl<K: IntKey, V: Drop, A: Allocator + Copy> IntMap<K, V, A> {
         ensures reserved { OnOk result (IsRoomMade K.number_of self.old additional self.new) }
         ensures room { OnOk result (HasRoomInRow K.number_of self.new.walk self.new.capacity
             self.new.factor additional) }
+        ensures any { OnOk result (sharing ≡ additional
+            → HasRoom K.number_of self.new additional) }
         ensures err { OnErr result (self.new ≡ self.old) }
         ensures too_large { (result ≡ Err Cause.TooLarge) ↔ NeedsTooMuchRoom self.old.capacity
             (length self.old.walk + additional) self.old.factor }
@@ -184,7 +205,11 @@ impl<K: IntKey, V: Drop, A: Allocator + Copy> IntMap<K, V, A> {
         ensures meets { OnOk result
             (MeetsFactor self.old.capacity pairs thousandths self.new.capacity) }
         ensures state { OnOk result (self.new ≡ in_slots K.number_of
-            (record self.old { factor = thousandths }) self.new.capacity) }
+            (record self.old { factor = thousandths }) self.new.capacity self.new.reserved) }
+        ensures reserved { OnOk result
+            (still_reserved K.number_of self.old self.new.capacity ≤ self.new.reserved) }
+        ensures memory { OnOk result (length self.new.walk + sharing
+            ≤ load_of K.number_of self.new.walk self.new.capacity + self.new.reserved) }
         ensures err { OnErr result (self.new ≡ self.old) }
         ensures too_large { (result ≡ Err Cause.TooLarge)
             ↔ NeedsTooMuch (IsWanted self.old.capacity pairs thousandths) }
@@ -195,12 +220,15 @@ impl<K: IntKey, V: Drop, A: Allocator + Copy> IntMap<K, V, A> {
         ensures valid { IsMap K.number_of K.is_valid self.old }
         ensures valid_after { IsMap K.number_of K.is_valid self.new }
     {
-        let Some(capacity) = wanted_capacity(pairs, self.table.capacity(), thousandths) else {
+        let before = self.table.capacity();
+        let Some(capacity) = wanted_capacity(pairs, before, thousandths) else {
             return Err(Cause::TooLarge);
         };
         if self.table.grow_to(capacity, sharing).is_err() {
             return Err(Cause::Memory);
         }
+        keep_if_same(&mut self.reserved, capacity, before);
+        self.table.count_further(&mut self.reserved, sharing);
         self.factor = thousandths;
         self.threshold = threshold_of(capacity, thousandths);
         Ok(())

@@ -1,12 +1,13 @@
 //! Insertions.
-ghost use Rattle.std.specs.Prelude.{◌≡◌, ◌<◌, IfOk, IfErr, IsOk, OnOk, OnErr, None, Some, is_none, unwrap_or, MatchBool};
+ghost use Rattle.std.specs.Prelude.{◌≡◌, ◌+◌, ◌<◌, IfOk, IfErr, IsOk, OnOk, OnErr, None, Some, cond, is_none, is_some, length, unwrap_or, MatchBool};
 ghost use Rattle.intmap_table.specs.Classes.{slot_number};
-ghost use Rattle.intmap_table.specs.Bindings.{value_of};
+ghost use Rattle.intmap_table.specs.Bindings.{Updates, value_of};
 ghost use Rattle.intmap_table.specs.Firsts.{first_of, IsFirst};
 ghost use Rattle.intmap_table.specs.Locations.{IsAt};
 ghost use Rattle.intmap.specs.Insertions.{IsInsertion};
 ghost use Rattle.intmap.specs.Map.{NeedsNoMemory, IsMap, after_search, after_insert, with_pair};
 ghost use Rattle.intmap.specs.PlainLists.{RefusalIsDue, list_of};
+ghost use Rattle.intmap.specs.Room.{HasRoom};
 ghost use Rattle.intmap.specs.Spots.{slot_in, IsSpot, TakesFirst, TakesOneMore, after_first, after_rest};
 
 use crate::load::{takes_one_more, threshold_of, wanted_capacity};
@@ -14,6 +15,7 @@ use crate::map::IntMap;
 use crate::refusal::{Cause, Refused};
 use intmap_table::IntKey;
 use intmap_table::kept::Kept;
+use intmap_table::steps::Steps;
 use intmap_table::table::locate::Location;
 use intmap_table::table::stored::Sought;
 use std::alloc::Allocator;
@@ -58,6 +60,10 @@ impl<K: IntKey, V: Drop, A: Allocator + Copy> IntMap<K, V, A> {
         ensures old { IfOk result (λ old. old ≡ value_of K.number_of self.old.walk key) }
         ensures inserted { OnOk result
             (IsInsertion K.number_of K.is_valid self.old key value self.new) }
+        ensures updates { OnOk result
+            (Updates K.number_of self.old.walk self.new.walk key (Some value)) }
+        ensures len { IfOk result (λ old. length self.new.walk
+            ≡ length self.old.walk + cond (is_some old) 0 1) }
         ensures state { OnOk result
             (self.new ≡ after_insert K.number_of self.old key value self.new.capacity) }
 
@@ -66,10 +72,12 @@ impl<K: IntKey, V: Drop, A: Allocator + Copy> IntMap<K, V, A> {
         ensures value_returned { IfErr result (λ refused. refused.value ≡ value) }
 
         // when it fails
+        ensures absent { OnErr result (value_of K.number_of self.old.walk key ≡ None) }
         ensures refused { IfErr result (λ refused. RefusalIsDue K.number_of (list_of self.old) key
             refused.cause) }
         ensures succeeds { NeedsNoMemory K.number_of self.old.walk self.old.capacity
             self.old.factor key → IsOk result }
+        ensures has_room { HasRoom K.number_of self.old 1 → IsOk result }
 
         ensures valid { IsMap K.number_of K.is_valid self.old }
         ensures valid_after { IsMap K.number_of K.is_valid self.new }
@@ -182,6 +190,7 @@ impl<K: IntKey, V: Drop, A: Allocator + Copy> IntMap<K, V, A> {
         ensures value_returned { IfErr result (λ refused. refused.value ≡ value) }
         ensures refused { IfErr result (λ refused. RefusalIsDue K.number_of (list_of self.old) key
             refused.cause) }
+        ensures has_room { HasRoom K.number_of self.old 1 → IsOk result }
         ensures valid { IsMap K.number_of K.is_valid self.old }
         ensures valid_after { IsMap K.number_of K.is_valid self.new }
     {
@@ -228,6 +237,10 @@ impl<K: IntKey, V: Drop, A: Allocator + Copy> IntMap<K, V, A> {
         ensures new { IfOk result (λ new. new ≡ is_none (value_of K.number_of self.old.walk key)) }
         ensures inserted { OnOk result (IsInsertion K.number_of K.is_valid self.old key
             (unwrap_or (value_of K.number_of self.old.walk key) value) self.new) }
+        ensures updates { OnOk result (Updates K.number_of self.old.walk self.new.walk key
+            (Some (unwrap_or (value_of K.number_of self.old.walk key) value))) }
+        ensures len { IfOk result
+            (λ new. length self.new.walk ≡ length self.old.walk + cond new 1 0) }
         ensures state { IfOk result (λ new. MatchBool new
             (self.new ≡ after_insert K.number_of self.old key value self.new.capacity)
             (self.new ≡ after_search K.number_of self.old key)) }
@@ -237,10 +250,12 @@ impl<K: IntKey, V: Drop, A: Allocator + Copy> IntMap<K, V, A> {
         ensures value_returned { IfErr result (λ refused. refused.value ≡ value) }
 
         // when it fails
+        ensures absent { OnErr result (value_of K.number_of self.old.walk key ≡ None) }
         ensures refused { IfErr result (λ refused. RefusalIsDue K.number_of (list_of self.old) key
             refused.cause) }
         ensures succeeds { NeedsNoMemory K.number_of self.old.walk self.old.capacity
             self.old.factor key → IsOk result }
+        ensures has_room { HasRoom K.number_of self.old 1 → IsOk result }
 
         ensures valid { IsMap K.number_of K.is_valid self.old }
         ensures valid_after { IsMap K.number_of K.is_valid self.new }
@@ -276,6 +291,7 @@ impl<K: IntKey, V: Drop, A: Allocator + Copy> IntMap<K, V, A> {
         ensures value_returned { IfErr result (λ refused. refused.value ≡ value) }
         ensures refused { IfErr result (λ refused. RefusalIsDue K.number_of (list_of self.old) key
             refused.cause) }
+        ensures has_room { HasRoom K.number_of self.old 1 → IsOk result }
         ensures valid { IsMap K.number_of K.is_valid self.old }
         ensures valid_after { IsMap K.number_of K.is_valid self.new }
     {
@@ -344,6 +360,7 @@ impl<K: IntKey, V: Drop, A: Allocator + Copy> IntMap<K, V, A> {
             Ok(at) => {
                 self.len = len;
                 self.threshold = threshold;
+                self.reserved = Steps::new();
                 Ok(at)
             }
             Err(kept) => Err(Refused {

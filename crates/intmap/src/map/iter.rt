@@ -176,7 +176,11 @@ impl<'a, K: IntKey, V, A: Allocator + Copy> IntoIterator for &'a IntMap<K, V, A>
 
     ghost into_iter_gives = { λ map it. it ≡ map.now.walk };
 
-    fn into_iter(self) -> Iter<'a, K, V, A> {
+    /// The pairs by reference, as by [`iter`](IntMap::iter).
+    fn into_iter(self) -> Iter<'a, K, V, A>
+        ensures into_iter_gives { result ≡ self.now.walk }
+        ensures valid { IsMap K.number_of K.is_valid self.now }
+    {
         self.iter()
     }
 }

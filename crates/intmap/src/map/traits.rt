@@ -11,7 +11,7 @@ use crate::map::IntMap;
 use crate::refusal::Cause;
 use intmap_table::IntKey;
 use intmap_table::steps::Steps;
-use std::alloc::Allocator;
+use std::alloc::{AllocError, Allocator};
 use std::fmt;
 
 impl<K: IntKey, V: PartialEq, A: Allocator + Copy> PartialEq for IntMap<K, V, A> {
@@ -106,6 +106,20 @@ impl<K: IntKey, V: Clone, A: Allocator + Copy> IntMap<K, V, A> {
             factor: self.factor,
             placed: Steps::new(),
             compared: Steps::new(),
+            reserved: Steps::new(),
         })
+    }
+}
+
+impl<K: IntKey, V: Clone, A: Allocator + Copy> Clone for IntMap<K, V, A> {
+    ghost is_clone = { λ map made. IsClone V.is_clone map made };
+
+    /// The map that the call [`clone`](IntMap::clone) makes, for code that is generic over `Clone`,
+    /// and for `derive(Clone)`. It fails if that call does.
+    fn clone(&self) -> Result<IntMap<K, V, A>, AllocError> {
+        match IntMap::clone(self) {
+            Ok(made) => Ok(made),
+            Err(_) => Err(AllocError),
+        }
     }
 }

@@ -1,13 +1,13 @@
 //! New sets, the insertion of a key, and reservations.
-ghost use Rattle.std.specs.Prelude.{◌≡◌, ◌↔◌, ◌+◌, ◌^◌, ◌<◌, max, length, not, Err, IfOk, IfErr, OnOk, OnErr, IsOk, MatchBool};
+ghost use Rattle.std.specs.Prelude.{◌≡◌, ◌↔◌, ◌+◌, ◌^◌, ◌<◌, cond, false, true, max, length, not, Err, IfOk, IfErr, OnOk, OnErr, IsOk, MatchBool};
 ghost use Rattle.intmap.specs.Growing.{MayRefuseReserve, MayRefuseRoom, MeetsFactor, NeedsTooMuchRoom};
 ghost use Rattle.intmap.specs.Growth.{IsLeastPower, IsWanted, NeedsTooMuch};
 ghost use Rattle.intmap.specs.Map.{NeedsNoMemory, after_insert, least_capacity};
 ghost use Rattle.intmap.specs.PlainLists.{RefusalIsDue, list_of};
-ghost use Rattle.intmap.specs.Room.{HasRoomInRow};
+ghost use Rattle.intmap.specs.Room.{HasRoom, HasRoomInRow};
 ghost use Rattle.intmap_set.specs.Extending.{Inserts};
 ghost use Rattle.intmap_set.specs.Growing.{IsReservation, IsRoomMade};
-ghost use Rattle.intmap_set.specs.Sets.{IsSet, as_map, empty_set, holds, load_factor, looked_up, paired, set_of};
+ghost use Rattle.intmap_set.specs.Sets.{IsSet, Updates, as_map, empty_set, holds, load_factor, looked_up, paired, set_of};
 
 use crate::set::IntSet;
 use intmap::{Cause, IntKey, IntMap};
@@ -100,15 +100,20 @@ impl<K: IntKey, A: Allocator + Copy> IntSet<K, A> {
         // what is returned and left
         ensures new { IfOk result (λ new. new ≡ not (holds K.number_of self.old.walk key)) }
         ensures inserted { OnOk result (Inserts K.number_of K.is_valid self.old key self.new) }
+        ensures updates { OnOk result (Updates K.number_of self.old.walk self.new.walk key true) }
+        ensures len { IfOk result
+            (λ new. length self.new.walk ≡ length self.old.walk + cond new 1 0) }
         ensures state { IfOk result (λ new. MatchBool new
             (self.new ≡ set_of (after_insert K.number_of (as_map self.old) key tt
             self.new.capacity)) (self.new ≡ looked_up K.number_of self.old key)) }
         ensures err { OnErr result (self.new ≡ looked_up K.number_of self.old key) }
 
         // when it fails
+        ensures absent { OnErr result (holds K.number_of self.old.walk key ≡ false) }
         ensures refused { IfErr result (RefusalIsDue K.number_of (list_of (as_map self.old)) key) }
         ensures succeeds { NeedsNoMemory K.number_of (paired self.old.walk) self.old.capacity
             load_factor key → IsOk result }
+        ensures has_room { HasRoom K.number_of (as_map self.old) 1 → IsOk result }
 
         ensures valid { IsSet K.number_of K.is_valid self.old }
         ensures valid_after { IsSet K.number_of K.is_valid self.new }
@@ -189,8 +194,10 @@ impl<K: IntKey, A: Allocator + Copy> IntSet<K, A> {
     ///
     /// It fails as [`reserve_members`](IntSet::reserve_members) does, and also, with
     /// [`Cause::Memory`], if the memory for members that share a slot is refused. A failed call
-    /// leaves the set as it was. That the insertions don't fail is tested, not proved: contracts
-    /// don't see this memory.
+    /// leaves the set as it was.
+    ///
+    /// Contracts say so by `HasRoom` of the map that the set stands for: an insertion into a set
+    /// that has room for a member doesn't fail (its clause `has_room`).
     ///
     /// ```text
     /// let mut set: IntSet<u64> = IntSet::new(alloc)?;
@@ -201,6 +208,7 @@ impl<K: IntKey, A: Allocator + Copy> IntSet<K, A> {
         ensures reserved { OnOk result (IsRoomMade K.number_of self.old additional self.new) }
         ensures room { OnOk result (HasRoomInRow K.number_of (paired self.new.walk)
             self.new.capacity load_factor additional) }
+        ensures any { OnOk result (HasRoom K.number_of (as_map self.new) additional) }
         ensures err { OnErr result (self.new ≡ self.old) }
         ensures too_large { (result ≡ Err Cause.TooLarge) ↔ NeedsTooMuchRoom self.old.capacity
             (length self.old.walk + additional) load_factor }

@@ -41,7 +41,11 @@ impl<'a, K: IntKey, A: Allocator + Copy> IntoIterator for &'a IntSet<K, A> {
 
     ghost into_iter_gives = { λ set it. it ≡ set.now.walk };
 
-    fn into_iter(self) -> Keys<'a, K, (), A> {
+    /// The members by reference, as by [`iter`](IntSet::iter).
+    fn into_iter(self) -> Keys<'a, K, (), A>
+        ensures into_iter_gives { result ≡ self.now.walk }
+        ensures valid { IsSet K.number_of K.is_valid self.now }
+    {
         self.iter()
     }
 }

@@ -7,7 +7,7 @@ ghost use Rattle.intmap_set.specs.EqualityLaws.{IsEquivalence-sets_equal};
 
 use crate::set::IntSet;
 use intmap::{Cause, IntKey};
-use std::alloc::Allocator;
+use std::alloc::{AllocError, Allocator};
 use std::fmt;
 
 impl<K: IntKey, A: Allocator + Copy> PartialEq for IntSet<K, A> {
@@ -49,7 +49,8 @@ impl<K: IntKey, A: Allocator + Copy> IntSet<K, A> {
     /// grow with the number of slots and of members. It fails only with [`Cause::Memory`], if an
     /// allocation fails.
     pub fn clone(&self) -> Result<IntSet<K, A>, Cause>
-        ensures clone { IfOk result (λ made. made ≡ record self.now { placed = 0; compared = 0 }) }
+        ensures clone { IfOk result (λ made. made ≡ record self.now
+            { placed = 0; compared = 0; reserved = 0 }) }
         ensures len { IfOk result (λ made. length made.walk ≡ length self.now.walk) }
         ensures memory { IfErr result (λ cause. cause ≡ Cause.Memory) }
         ensures valid { IsSet K.number_of K.is_valid self.now }
@@ -58,5 +59,19 @@ impl<K: IntKey, A: Allocator + Copy> IntSet<K, A> {
         Ok(IntSet {
             map: self.map.clone()?,
         })
+    }
+}
+
+impl<K: IntKey, A: Allocator + Copy> Clone for IntSet<K, A> {
+    ghost is_clone = { λ set made. made ≡ record set
+        { placed = 0; compared = 0; reserved = 0 } };
+
+    /// The set that the call [`clone`](IntSet::clone) makes, for code that is generic over `Clone`,
+    /// and for `derive(Clone)`. It fails if that call does.
+    fn clone(&self) -> Result<IntSet<K, A>, AllocError> {
+        match IntSet::clone(self) {
+            Ok(made) => Ok(made),
+            Err(_) => Err(AllocError),
+        }
     }
 }

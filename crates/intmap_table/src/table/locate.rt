@@ -61,6 +61,7 @@ impl<K: IntKey, X, A: Allocator> Table<K, X, A> {
             ≡ value_of K.number_of self.now.walk key }
         ensures counted { steps.new
             ≡ steps.old + reach K.number_of self.now.walk self.now.capacity key }
+        ensures known { K.is_valid key }
     {
         let key = Sought::new(key);
         let slot = self.index_of(&key);

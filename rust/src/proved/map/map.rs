@@ -29,10 +29,11 @@ use crate::memory::alloc::{Allocator, Global};
 /// alone: there is no random seed. No call makes the number of slots smaller.
 ///
 /// Contracts see a map as a [`MapState`](../specs/Map.antt): its walk, its number of slots, its
-/// load factor in thousandths, and two counts. One counts the pairs that insertions put into larger
-/// tables, the other the keys that calls by `&mut` compared, except steps of
-/// [`get_disjoint_mut`](IntMap::get_disjoint_mut). Only contracts see the counts: they take no
-/// memory.
+/// load factor in thousandths, two counts, and for how many pairs behind the first ones of their
+/// slots there surely is memory. One counts the pairs that insertions put into larger tables, the
+/// other the keys that calls by `&mut` compared, except steps of
+/// [`get_disjoint_mut`](IntMap::get_disjoint_mut). Only contracts see these three numbers: they
+/// take no memory.
 pub struct IntMap<K, V, A: Allocator + Copy = Global> {
     table: Table<K, Kept<V>, A>,
     len: usize,
@@ -40,6 +41,7 @@ pub struct IntMap<K, V, A: Allocator + Copy = Global> {
     factor: usize,
     placed: Steps,
     compared: Steps,
+    reserved: Steps,
 }
 
 impl<K: IntKey, V, A: Allocator + Copy> IntMap<K, V, A> {

@@ -15,6 +15,12 @@ impl Tally {
     fn and_one(&self) -> Tally {
         Tally {}
     }
+
+    /// The greater of the tally and a sum.
+    #[inline(always)]
+    fn or_sum(&self, part: usize, more: usize) -> Tally {
+        Tally {}
+    }
 }
 
 /// A counter of steps. Contracts see it as the number of steps counted so far. The running program
@@ -39,5 +45,11 @@ impl Steps {
     #[inline(always)]
     pub(in crate::proved::table) fn tick(&mut self) {
         self.tally = self.tally.and_one();
+    }
+
+    /// Makes the number at least a sum. Only this crate can call it.
+    #[inline(always)]
+    pub(in crate::proved::table) fn raise_to(&mut self, part: usize, more: usize) {
+        self.tally = self.tally.or_sum(part, more);
     }
 }

@@ -19,6 +19,7 @@ pub mod walk;
 
 use crate::memory::prelude::*;
 use crate::proved::table::key::IntKey;
+use crate::proved::table::steps::Steps;
 use crate::proved::table::table::stored::{Sought, Stored};
 pub use closures::Progress;
 use locate::Location;
@@ -63,6 +64,17 @@ impl<K: IntKey, X, A: Allocator> Table<K, X, A> {
     /// The number of slots that hold a pair.
     pub fn load(&self) -> usize {
         self.slots.count()
+    }
+
+    /// The number of pairs behind the first ones of their slots.
+    fn further(&self) -> usize {
+        self.slots.further()
+    }
+
+    /// Raises a count to the number of pairs behind the first ones of their slots, and `more`. A
+    /// count that is greater stays.
+    pub fn count_further(&self, count: &mut Steps, more: usize) {
+        count.raise_to(self.further(), more);
     }
 
     /// The number of pairs that a slot holds.

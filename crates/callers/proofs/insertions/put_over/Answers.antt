@@ -2,7 +2,7 @@ use Rattle.std.proofs.Common.{◌∙◌, ap, sym}
 use Rattle.std.proofs.lemmas.Result.{IfErr-weaker}
 use Rattle.std.specs.Vec.Iter.{into_iter_items}
 use Rattle.intmap.proofs.ExtendLemmas.{items-yielded_then}
-use Rattle.callers.specs.Bindings.{value_at}
+use Rattle.intmap.specs.Unsigned.{value_at}
 use Rattle.callers.proofs.insertions.put_over.Goals as goal
 
 -- which settings were put is a list that no search writes: what the iterator gave before the failed one

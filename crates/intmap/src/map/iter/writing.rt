@@ -1,16 +1,16 @@
 //! Writes to the values one after another: by an iterator over them, by a `for` loop over a `&mut`
 //! to the map, and by a closure.
 ghost use Rattle.std.specs.Iterator.{YieldsFirstBy, item_count};
-ghost use Rattle.std.specs.Prelude.{◌≡◌, List, length, map, ◌↔◌};
+ghost use Rattle.std.specs.Prelude.{◌≡◌, List, Some, length, map, ◌↔◌};
 ghost use Rattle.std.specs.Borrow.{sem};
 ghost use Rattle.std.specs.Map.{keys_of, values_of};
 ghost use Rattle.intmap.specs.Lending.{map_lends_values};
 ghost use Rattle.intmap.specs.Map.{IsMap, map_with_values};
 ghost use Rattle.intmap_table.specs.Values.{with_values};
-ghost use Rattle.intmap_table.specs.Bindings.{IsPresent};
+ghost use Rattle.intmap_table.specs.Bindings.{IsPresent, value_of};
 ghost use Rattle.intmap_table.specs.Taking.{TakesEach};
 ghost use Rattle.intmap_table.specs.Writes.{Writes, WritesAt, TakesPairMut};
-ghost use Rattle.intmap.specs.Answering.{MakesPairs};
+ghost use Rattle.intmap.specs.Answering.{MakesPairs, MakesValue};
 
 use crate::map::IntMap;
 use crate::map::iter::IterMut;
@@ -127,6 +127,9 @@ impl<K: IntKey, V, A: Allocator + Copy> IntMap<K, V, A> {
         requires { TakesEach (WritesAt F.FnMut) (TakesPairMut F.FnMut) f self.old.walk }
         ensures mapped { (made : K × V → K × V) → MakesPairs F.FnMut f made
             → self.new.walk ≡ map made self.old.walk }
+        ensures by_pair { (q : K) (v w : V) → MakesValue F.FnMut f K.number_of q v w
+            → value_of K.number_of self.old.walk q ≡ Some v
+            → value_of K.number_of self.new.walk q ≡ Some w }
         ensures values { (last : F) × Writes (WritesAt F.FnMut) f self.old.walk self.new.walk last }
         ensures state { self.new ≡ record self.old { walk = self.new.walk } }
         ensures keys { keys_of self.new.walk ≡ keys_of self.old.walk }

@@ -64,6 +64,7 @@ impl<K: IntKey, V, A: Allocator + Copy> IntMap<K, V, A> {
                 factor: FIRST_FACTOR,
                 placed: Steps::new(),
                 compared: Steps::new(),
+                reserved: Steps::new(),
             }),
             Err(_) => Err(Cause::Memory),
         }

@@ -5,7 +5,15 @@ use crate::proved::map::load::{GREATEST_CAPACITY, threshold_of, wanted_capacity}
 use crate::proved::map::map::IntMap;
 use crate::proved::map::refusal::Cause;
 use crate::proved::table::IntKey;
+use crate::proved::table::steps::Steps;
 use crate::memory::alloc::Allocator;
+
+/// What is reserved stays reserved if the capacity stays. Growth makes it 0.
+fn keep_if_same(reserved: &mut Steps, capacity: usize, before: usize) {
+    if capacity != before {
+        *reserved = Steps::new();
+    }
+}
 
 impl<K: IntKey, V, A: Allocator + Copy> IntMap<K, V, A> {
     /// Makes the capacity at least the least power of two that is no less than the length plus
@@ -20,10 +28,12 @@ impl<K: IntKey, V, A: Allocator + Copy> IntMap<K, V, A> {
             return Err(Cause::TooLarge);
         }
         let slots = (self.len + additional).next_power_of_two();
-        let capacity = slots.max(self.table.capacity());
+        let before = self.table.capacity();
+        let capacity = slots.max(before);
         if self.table.grow_to(capacity, 0).is_err() {
             return Err(Cause::Memory);
         }
+        keep_if_same(&mut self.reserved, capacity, before);
         self.threshold = threshold_of(capacity, self.factor);
         Ok(())
     }
@@ -52,9 +62,14 @@ impl<K: IntKey, V, A: Allocator + Copy> IntMap<K, V, A> {
     /// none of them fails, as long as no call but insertions, removals and look-ups changes the
     /// map.
     ///
+    /// Contracts say so by `HasRoom`: an insertion into a map that has room for a pair doesn't fail
+    /// (its clause `has_room`), and
+    /// [`insertions_leave_room`](crate::proved::map::laws::insertions_leave_room) says what it leaves of the
+    /// room.
+    ///
     /// It fails as [`reserve_pairs`](IntMap::reserve_pairs) does, and also, with [`Cause::Memory`],
     /// if the memory for pairs that share a slot is refused. A failed call leaves the map as it
-    /// was. That the insertions don't fail is tested, not proved: contracts don't see this memory.
+    /// was.
     pub fn reserve_insertions(&mut self, additional: usize) -> Result<(), Cause> {
         self.make_room(additional, additional)
     }
@@ -82,12 +97,15 @@ impl<K: IntKey, V, A: Allocator + Copy> IntMap<K, V, A> {
     /// Makes the slots in which `pairs` pairs meet this load factor, and sets it. It also makes
     /// room for `sharing` more pairs that share a slot with another.
     fn fit(&mut self, pairs: usize, thousandths: usize, sharing: usize) -> Result<(), Cause> {
-        let Some(capacity) = wanted_capacity(pairs, self.table.capacity(), thousandths) else {
+        let before = self.table.capacity();
+        let Some(capacity) = wanted_capacity(pairs, before, thousandths) else {
             return Err(Cause::TooLarge);
         };
         if self.table.grow_to(capacity, sharing).is_err() {
             return Err(Cause::Memory);
         }
+        keep_if_same(&mut self.reserved, capacity, before);
+        self.table.count_further(&mut self.reserved, sharing);
         self.factor = thousandths;
         self.threshold = threshold_of(capacity, thousandths);
         Ok(())

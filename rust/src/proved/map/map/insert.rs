@@ -6,6 +6,7 @@ use crate::proved::map::map::IntMap;
 use crate::proved::map::refusal::{Cause, Refused};
 use crate::proved::table::IntKey;
 use crate::proved::table::kept::Kept;
+use crate::proved::table::steps::Steps;
 use crate::proved::table::table::locate::Location;
 use crate::proved::table::table::stored::Sought;
 use crate::memory::alloc::Allocator;
@@ -199,6 +200,7 @@ impl<K: IntKey, V, A: Allocator + Copy> IntMap<K, V, A> {
             Ok(at) => {
                 self.len = len;
                 self.threshold = threshold;
+                self.reserved = Steps::new();
                 Ok(at)
             }
             Err(kept) => Err(Refused {

@@ -103,6 +103,7 @@ impl<'a, K: IntKey, V, A: Allocator + Copy> IntoIterator for &'a IntMap<K, V, A>
 
     type IntoIter = Iter<'a, K, V, A>;
 
+    /// The pairs by reference, as by [`iter`](IntMap::iter).
     fn into_iter(self) -> Iter<'a, K, V, A> {
         self.iter()
     }

@@ -56,6 +56,7 @@ impl<K: IntKey, V: Clone, A: Allocator + Copy> IntMap<K, V, A> {
             factor: self.factor,
             placed: Steps::new(),
             compared: Steps::new(),
+            reserved: Steps::new(),
         })
     }
 }

@@ -86,8 +86,10 @@ impl<K: IntKey, A: Allocator + Copy> IntSet<K, A> {
     ///
     /// It fails as [`reserve_members`](IntSet::reserve_members) does, and also, with
     /// [`Cause::Memory`], if the memory for members that share a slot is refused. A failed call
-    /// leaves the set as it was. That the insertions don't fail is tested, not proved: contracts
-    /// don't see this memory.
+    /// leaves the set as it was.
+    ///
+    /// Contracts say so by `HasRoom` of the map that the set stands for: an insertion into a set
+    /// that has room for a member doesn't fail (its clause `has_room`).
     pub fn reserve_insertions(&mut self, additional: usize) -> Result<(), Cause> {
         self.map.reserve_insertions(additional)
     }

@@ -26,6 +26,7 @@ impl<'a, K: IntKey, A: Allocator + Copy> IntoIterator for &'a IntSet<K, A> {
 
     type IntoIter = Keys<'a, K, (), A>;
 
+    /// The members by reference, as by [`iter`](IntSet::iter).
     fn into_iter(self) -> Keys<'a, K, (), A> {
         self.iter()
     }

@@ -1,4 +1,5 @@
 use Rattle.std.proofs.Common.{refl, sym, subst}
+use Rattle.intmap_table.proofs.Tables.MemoryLemmas.{OnErr-always}
 use Rattle.intmap.specs.Entries.{occupied_key}
 use Rattle.intmap.specs.Insertions.{IsInsertion}
 use Rattle.intmap_table.proofs.WrittenLemmas.{IsFound-write_in, key_at-write_in, the_key-same}
@@ -26,8 +27,10 @@ returns-in-Occupied g c =
             (IsInsertion-written number g.K.IntKey.is_valid o.map.now (occupied_key o) v _ (value_of-in o _ c.value_mut_in.ensures.value) c.value_mut_in.ensures.valid);
         err = tt;
         value_returned = tt;
+        absent = tt;
         refused = tt;
         succeeds = λ free. refl;
+        has_room = λ room. refl;
       },
     )
 
@@ -42,7 +45,9 @@ returns-in-Vacant g c =
         inserted = told.inserted;
         err = tt;
         value_returned = told.value_returned;
+        absent = OnErr-always c.insert_entry.result e.missing;
         refused = told.refused;
         succeeds = told.succeeds;
+        has_room = told.has_room;
       },
     )

@@ -19,6 +19,7 @@ returns-in-Occupied g c =
         absent = tt;
         err = tt;
         succeeds = λ free. tt;
+        has_room = λ room. tt;
       },
     )
 
@@ -37,5 +38,6 @@ returns-in-Vacant g c =
         absent = OnErr-always c.insert_made.result e.missing;
         err = IfErr-weaker c.insert_made.result _ _ (λ error. made-so Made _ _ c.f-made.result error made) told.err;
         succeeds = λ free. IfErr-weaker c.insert_made.result _ _ (λ error is. subst Made is made) (told.succeeds free);
+        has_room = λ room. IfErr-weaker c.insert_made.result _ _ (λ error is. subst Made is made) (told.has_room room);
       },
     )

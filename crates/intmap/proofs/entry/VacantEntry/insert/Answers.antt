@@ -1,9 +1,8 @@
-use Rattle.std.proofs.Common.{◌≡◌, Some, refl, sym, ap, ◌∙◌}
+use Rattle.std.proofs.Common.{refl, ap, ◌∙◌}
 use mathlib.Core.Logic.{inl, inr}
 use mathlib.Core.Path.{fun_ext}
-use Rattle.intmap_table.specs.Bindings.{value_of}
 use Rattle.intmap.specs.Entries.{Vacant, entry_list}
-use Rattle.intmap.specs.Map.{MapState, written}
+use Rattle.intmap.specs.Map.{MapState}
 use Rattle.intmap.proofs.EntryLemmas.{written-added, IsInsertion-lent, IsFound-located_in, written-located_in, value_of-located_in}
 use Rattle.intmap.proofs.RefusalLemmas.{NeedsNoMemory-never_refused}
 use Rattle.intmap.proofs.entry.VacantEntry.insert.Goals as goal
@@ -20,6 +19,7 @@ returns-in-Err g c =
         value_returned = c.in-Err.ensures.value_returned;
         refused = due;
         succeeds = λ free. absurd (NeedsNoMemory-never_refused g.K.IntKey.number_of (entry_list (Vacant c.args.self)) c.args.self.key c.add.ensures.valid.capacity free c.in-Err.refused.cause due);
+        has_room = c.in-Err.ensures.has_room;
       },
     )
 
@@ -42,5 +42,6 @@ returns g c =
         value_returned = tt;
         refused = tt;
         succeeds = λ free. refl;
+        has_room = λ room. refl;
       },
     )

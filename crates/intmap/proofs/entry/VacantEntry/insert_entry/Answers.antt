@@ -1,11 +1,8 @@
-use Rattle.std.proofs.Common.{◌≡◌, Some, refl, sym, ap, ◌∙◌, subst}
+use Rattle.std.proofs.Common.{Some, refl, ap, ◌∙◌}
 use Rattle.intmap.specs.Entries.{Vacant, entry_list}
-use Rattle.intmap_table.specs.Locations.{key_at}
-use Rattle.intmap_table.specs.Walk.{slot_of}
 use Rattle.intmap.specs.Map.{MapState, with_pair}
 use Rattle.intmap_table.proofs.WrittenLemmas.{the_key-same}
 use Rattle.intmap.proofs.EntryLemmas.{next_capacity-inserted, key_at-located_in, IsFound-located_in}
-use Rattle.intmap_table.proofs.Tables.FoundLemmas.{IsFound-located, key_at-located}
 use Rattle.intmap.proofs.RefusalLemmas.{NeedsNoMemory-never_refused}
 use Rattle.intmap.proofs.entry.VacantEntry.insert_entry.Goals as goal
 use Rattle.intmap.proofs.entry.VacantEntry.insert_entry.Goals.{In-Ok}
@@ -22,6 +19,7 @@ returns-in-Err g c =
         value_returned = c.in-Err.ensures.value_returned;
         refused = due;
         succeeds = λ free. absurd (NeedsNoMemory-never_refused g.K.IntKey.number_of (entry_list (Vacant c.args.self)) c.args.self.key c.add.ensures.valid.capacity free c.in-Err.refused.cause due);
+        has_room = c.in-Err.ensures.has_room;
       },
     )
 
@@ -50,5 +48,6 @@ returns g c =
         value_returned = tt;
         refused = tt;
         succeeds = λ free. refl;
+        has_room = λ room. refl;
       },
     )

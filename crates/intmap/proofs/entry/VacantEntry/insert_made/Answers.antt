@@ -1,9 +1,8 @@
-use Rattle.std.proofs.Common.{◌≡◌, Some, Ok, sym, ap, ◌∙◌}
+use Rattle.std.proofs.Common.{Ok, sym, ap, ◌∙◌}
 use mathlib.Core.Logic.{inl, inr}
 use mathlib.Core.Path.{fun_ext}
-use Rattle.intmap_table.specs.Bindings.{value_of}
 use Rattle.intmap.specs.Entries.{Vacant, entry_list}
-use Rattle.intmap.specs.Map.{MapState, written}
+use Rattle.intmap.specs.Map.{MapState}
 use Rattle.intmap.proofs.EntryLemmas.{written-added, IsInsertion-lent, IsFound-located_in, written-located_in, value_of-located_in}
 use Rattle.intmap.proofs.RefusalLemmas.{NeedsNoMemory-never_refused}
 use Rattle.intmap.proofs.entry.VacantEntry.insert_made.Goals as goal
@@ -23,6 +22,7 @@ returns-in-Err-add g c =
           error = c.from.ensures;
         });
         succeeds = λ free. absurd (NeedsNoMemory-never_refused g.K.IntKey.number_of (entry_list (Vacant c.args.self)) c.args.self.key c.add.ensures.valid.capacity free c.in-Err-add.refused.cause (rw c.new.ensures.value at told.refused));
+        has_room = λ room. let no = told.has_room room in cc;
       },
     )
 
@@ -43,5 +43,6 @@ returns g c =
         inserted = IsInsertion-lent number valid m n k c.in-Ok.value c.args.self.missing c.add.ensures.valid (rw c.new.ensures.value at told.inserted) (rw c.new.ensures.value at told.state);
         err = tt;
         succeeds = λ free. tt;
+        has_room = λ room. tt;
       },
     )

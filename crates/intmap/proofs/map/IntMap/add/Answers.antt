@@ -1,10 +1,11 @@
-use Rattle.std.proofs.Common.{◌≡◌, ◌+◌, length, None, refl}
+use Rattle.std.proofs.Common.{◌≡◌, ◌+◌, length, None, refl, arith}
 use Rattle.intmap_table.specs.Bindings.{value_of}
 use Rattle.intmap.specs.Spots.{TakesOneMore}
 use Rattle.intmap.proofs.InsertionLemmas.{IsInsertion-added}
 use Rattle.intmap.proofs.RefusalLemmas.{RefusalIsDue-memory}
-use Rattle.intmap.proofs.MapLemmas.{MapState-same, placed-same}
+use Rattle.intmap.proofs.MapLemmas.{MapState-same, placed-same, reserved-same}
 use Rattle.intmap.proofs.SpotLemmas.{IsConsistent-one_more}
+use Rattle.intmap.proofs.ReservedLemmas.{HasRoom-takes}
 use Rattle.intmap.proofs.map.IntMap.add.Goals as goal
 use Rattle.intmap.proofs.map.IntMap.add.Goals.{After-add}
 
@@ -23,7 +24,7 @@ returns-in-Err-add-clause-refused g c =
 pub invariant_of-self : goal.invariant_of-self
 invariant_of-self g c =
     let at = (goal.at.invariant_of-self g c).After-add in let told = c.in-Ok-add.ensures in
-    IsConsistent-one_more _ _ _ _ _ _ _ _ c.self.invariant c.add.new.self.capacity c.args.key c.new.result told.capacity told.known (missing g at) (takes g at) told.walk
+    IsConsistent-one_more _ _ _ _ _ _ _ _ _ _ c.self.invariant _ _ (omega (arith, c.self.invariant.memory, told.nodes)) c.add.new.self.capacity c.args.key c.new.result told.capacity told.known (missing g at) (takes g at) told.walk
 
 pub returns-in-Ok-add-clause-inserted : goal.returns-in-Ok-add-clause-inserted
 returns-in-Ok-add-clause-inserted g c =
@@ -34,7 +35,17 @@ returns-in-Ok-add-clause-inserted g c =
 pub returns-in-Ok-add-clause-state : goal.returns-in-Ok-add-clause-state
 returns-in-Ok-add-clause-state g c =
     let told = c.in-Ok-add.ensures in
-    rw (← c.self.view_is, told.capacity) (MapState-same (rw c.new.ensures at told.walk) refl (placed-same c.self.inside.table.capacity c.self.inside.placed (length c.self.inside.table.walk + 1)))
+    rw (← c.self.view_is, told.capacity) (MapState-same (rw c.new.ensures at told.walk) refl (placed-same c.self.inside.table.capacity c.self.inside.placed (length c.self.inside.table.walk + 1)) (reserved-same c.self.inside.table.capacity c.self.inside.reserved))
 
 pub returns-in-Ok-add-clause-valid_after : goal.returns-in-Ok-add-clause-valid_after
 returns-in-Ok-add-clause-valid_after g c = (invariant_of-self g c).map
+
+pub returns-in-Err-clause-has_room : goal.returns-in-Err-clause-has_room
+returns-in-Err-clause-has_room g c room =
+    let full = rw (← c.self.view_is) at c.if-not-takes_one_more.ensures in
+    absurd (full (HasRoom-takes g.K.IntKey.number_of _ _ _ _ c.self.invariant.map.capacity (rw (← c.self.view_is) at room)))
+
+pub returns-in-Err-add-clause-has_room : goal.returns-in-Err-add-clause-has_room
+returns-in-Err-add-clause-has_room g c room =
+    let enough = (rw (← c.self.view_is) at room).memory in
+    c.in-Err-add.ensures.succeeds (omega (arith, c.self.invariant.memory, enough))

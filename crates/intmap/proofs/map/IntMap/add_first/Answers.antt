@@ -1,7 +1,7 @@
-use Rattle.std.proofs.Common.{◌+◌, length, refl}
+use Rattle.std.proofs.Common.{◌+◌, length, refl, arith}
 use Rattle.intmap.specs.Spots.{TakesOneMore}
 use Rattle.intmap.proofs.InsertionLemmas.{IsInsertion-added}
-use Rattle.intmap.proofs.MapLemmas.{MapState-same, placed-same}
+use Rattle.intmap.proofs.MapLemmas.{MapState-same, placed-same, reserved-same}
 use Rattle.intmap.proofs.SpotLemmas.{IsConsistent-one_more}
 use Rattle.intmap.proofs.map.IntMap.add_first.Goals as goal
 use Rattle.intmap.proofs.map.IntMap.add_first.Goals.{After-fill}
@@ -12,7 +12,7 @@ takes g c = rw (← c.self.view_is) at c.requires.free.more
 pub invariant_of-self : goal.invariant_of-self
 invariant_of-self g c =
     let told = c.fill.ensures in
-    IsConsistent-one_more _ _ _ _ _ _ _ _ c.self.invariant c.fill.new.self.capacity c.args.key c.new.result told.capacity told.known told.missing (takes g (goal.at.invariant_of-self g c).After-fill) told.walk
+    IsConsistent-one_more _ _ _ _ _ _ _ _ _ _ c.self.invariant _ _ (omega (arith, c.self.invariant.memory, told.nodes)) c.fill.new.self.capacity c.args.key c.new.result told.capacity told.known told.missing (takes g (goal.at.invariant_of-self g c).After-fill) told.walk
 
 pub returns-clause-inserted : goal.returns-clause-inserted
 returns-clause-inserted g c =
@@ -22,7 +22,7 @@ returns-clause-inserted g c =
 pub returns-clause-state : goal.returns-clause-state
 returns-clause-state g c =
     let told = c.fill.ensures in
-    rw (← c.self.view_is, told.capacity) (MapState-same (rw c.new.ensures at told.walk) refl (placed-same c.self.inside.table.capacity c.self.inside.placed (length c.self.inside.table.walk + 1)))
+    rw (← c.self.view_is, told.capacity) (MapState-same (rw c.new.ensures at told.walk) refl (placed-same c.self.inside.table.capacity c.self.inside.placed (length c.self.inside.table.walk + 1)) (reserved-same c.self.inside.table.capacity c.self.inside.reserved))
 
 pub returns-clause-valid_after : goal.returns-clause-valid_after
 returns-clause-valid_after g c = (invariant_of-self g c).map

@@ -51,7 +51,7 @@ pub invariant_of-self : goal.invariant_of-self
 invariant_of-self g c =
     let w = (goal.at.invariant_of-self g c).After-grow_and_add in let told = c.in-Ok.ensures in
     let fits = few g w in
-    IsConsistent-grown_with _ _ _ _ _ _ _ _ c.self.invariant c.in-Some.capacity c.grow_and_add.new.self.capacity c.threshold_of-threshold.result c.args.key c.new.result
+    IsConsistent-grown_with _ _ _ _ _ _ _ _ _ _ c.self.invariant _ _ (let none = c.new-self-inside.ensures in omega (arith, none)) c.in-Some.capacity c.grow_and_add.new.self.capacity c.threshold_of-threshold.result c.args.key c.new.result
     told.capacity c.in-Some.ensures.capacity told.known (missing g w) (omega (arith, fits, c.self.invariant.count)) c.in-Some.ensures.wanted.meets c.threshold_of-threshold.ensures told.walk
 
 pub returns-in-Ok-clause-inserted : goal.returns-in-Ok-clause-inserted
@@ -64,7 +64,8 @@ pub returns-in-Ok-clause-state : goal.returns-in-Ok-clause-state
 returns-in-Ok-clause-state g c =
     let w = (goal.at.returns-in-Ok-clause-state g c).After-grow_and_add in let told = c.in-Ok.ensures in
     rw (← c.self.view_is, told.capacity) (MapState-same (rw c.new.ensures at told.walk) refl
-    (told.placed ∙ ap (λ m. c.self.inside.placed + m) (ap (λ b. cond b 0 (length c.self.inside.table.walk + 1)) (sym (ne_eqb c.in-Some.capacity c.self.inside.table.capacity (grows g w))))))
+    (told.placed ∙ ap (λ m. c.self.inside.placed + m) (ap (λ b. cond b 0 (length c.self.inside.table.walk + 1)) (sym (ne_eqb c.in-Some.capacity c.self.inside.table.capacity (grows g w)))))
+    (c.new-self-inside.ensures ∙ ap (λ b. cond b c.self.inside.reserved 0) (sym (ne_eqb c.in-Some.capacity c.self.inside.table.capacity (grows g w)))))
 
 pub returns-in-Ok-clause-valid_after : goal.returns-in-Ok-clause-valid_after
 returns-in-Ok-clause-valid_after g c = (invariant_of-self g c).map

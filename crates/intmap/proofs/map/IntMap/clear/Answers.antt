@@ -1,4 +1,4 @@
-use Rattle.std.proofs.Common.{length, sym, ap}
+use Rattle.std.proofs.Common.{length, sym, ap, arith}
 use Rattle.intmap.proofs.MapLemmas.{IsMapWalk-empty}
 use Rattle.intmap.proofs.map.IntMap.clear.Goals as goal
 
@@ -12,4 +12,5 @@ invariant_of-self g c = record {
   map = returns-clause-valid_after g c;
   count = sym (ap length c.clear.ensures.walk);
   threshold = rw c.clear.ensures.capacity c.self.invariant.threshold;
+  memory = omega (arith, c.self.invariant.memory, c.clear.ensures.nodes);
 }

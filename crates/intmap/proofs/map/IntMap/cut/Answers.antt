@@ -1,4 +1,4 @@
-use Rattle.std.proofs.Common.{rules, None, subst}
+use Rattle.std.proofs.Common.{rules, None, subst, arith}
 use Rattle.intmap_table.specs.Bindings.{Updates}
 use Rattle.intmap.proofs.CursorLemmas.{IsConsistent-parts, Updates-parts, length-parts}
 use Rattle.intmap.proofs.map.IntMap.cut.Goals as goal
@@ -6,7 +6,7 @@ use Rattle.intmap.proofs.map.IntMap.cut.Goals as goal
 pub invariant_of-self-2 : goal.invariant_of-self-2
 invariant_of-self-2 g c =
     let cut = c.in-Some.ensures' in
-    IsConsistent-parts g.K.IntKey.number_of _ _ _ _ _ cut.first cut.before _ _ _ _ _ _ cut.capacity cut.own c.self.invariant
+    IsConsistent-parts g.K.IntKey.number_of _ _ _ _ _ cut.first cut.before _ _ _ _ _ _ _ _ _ cut.capacity cut.own (omega (arith, c.self.invariant.memory, cut.nodes)) c.self.invariant
 
 pub returns-clause-updates : goal.returns-clause-updates
 returns-clause-updates g c =

@@ -4,10 +4,11 @@ use Rattle.std.specs.Iterator.{Yields}
 use Rattle.std.proofs.iter.runs.Consumers.{total_runs}
 use Rattle.std.proofs.lemmas.List.{length_push}
 use Rattle.intmap.proofs.ExtendLemmas.{IsExtended-nil, IsExtended-push, length-new_keys}
+use Rattle.intmap.proofs.ReservedLemmas.{HasRoom-fewer, HasRoom-inserted}
 use Rattle.intmap.proofs.map.IntMap.extend.Goals as goal
 
 pub loop-key-init : goal.loop-key-init
-loop-key-init g c = (search rules, IsExtended-nil g.K.IntKey.number_of g.K.IntKey.is_valid c.args.self.now, refl, c.known.ensures.valid, c.known.ensures.valid, search (arith, rules))
+loop-key-init g c = (search rules, IsExtended-nil g.K.IntKey.number_of g.K.IntKey.is_valid c.args.self.now, refl, c.known.ensures.valid, c.known.ensures.valid, search (arith, rules), λ room. HasRoom-fewer g.K.IntKey.number_of c.args.self.now _ _ c.known.ensures.valid.capacity room (omega arith))
 
 pub loop-key-preserved : goal.loop-key-preserved
 loop-key-preserved g c =
@@ -20,6 +21,9 @@ loop-key-preserved g c =
       c.insert.ensures.valid_after,
       kept.4,
       (let goes = c.in-Some.ensures.goes.on kept.0.1 in let more = length_push c.loop-key.yielded (c.in-Some.key, c.in-Some.value) in omega (arith, goes, more, kept.5)),
+      λ room. let goes = c.in-Some.ensures.goes.on kept.0.1 in let more = length_push c.loop-key.yielded (c.in-Some.key, c.in-Some.value) in
+          HasRoom-inserted g.K.IntKey.number_of g.K.IntKey.is_valid c.loop-key.self c.insert.new.self c.in-Some.key c.in-Some.value _ kept.3
+          (HasRoom-fewer g.K.IntKey.number_of c.loop-key.self _ _ kept.3.capacity (kept.6 room) (omega (arith, goes, more, kept.5))) e.inserted e.state,
     )
 
 pub returns-in-Err-clause-stops : goal.returns-in-Err-clause-stops
@@ -69,3 +73,8 @@ returns-clause-len g c =
     let kept = c.loop-key.invariant in
     let few = length-new_keys g.K.IntKey.number_of c.args.self.now.walk c.loop-key.yielded in
     omega (arith, kept.1.len, few, kept.5)
+
+pub returns-in-Err-clause-has_room : goal.returns-in-Err-clause-has_room
+returns-in-Err-clause-has_room g c room =
+    let kept = c.loop-key.invariant in let goes = c.in-Some.ensures.goes.on kept.0.1 in
+    c.in-Err.ensures.has_room (HasRoom-fewer g.K.IntKey.number_of c.loop-key.self _ 1 kept.3.capacity (kept.6 room) (omega (arith, goes, kept.5)))

@@ -3,9 +3,10 @@ use Rattle.std.specs.Iterator.{size}
 use Rattle.std.specs.Prelude.{min}
 use Rattle.intmap.specs.Extending.{IsExtended}
 use Rattle.intmap.specs.Map.{IsMap}
+use Rattle.intmap.specs.Room.{HasRoom}
 use Rattle.intmap.proofs.map.IntMap.extend.Given as goal
 
--- the pairs so far are inserted in the map, and counted up to 2 ^ 64 - 1; the map is valid, as it was before; no more pairs came than could
+-- the pairs so far are inserted in the map, and counted up to 2 ^ 64 - 1; the map is valid, as it was before; no more pairs came than could, and if there was room for all, there is room for the rest
 abbrev pub invariant-loop-key : goal.invariant-loop-key
 invariant-loop-key g l =
     ((goal.iterator-loop-key g).can_next l.key-iterator × (goal.iterator-loop-key g).is_finite l.key-iterator)
@@ -14,3 +15,4 @@ invariant-loop-key g l =
     × IsMap g.K.IntKey.number_of g.K.IntKey.is_valid l.self
     × IsMap g.K.IntKey.number_of g.K.IntKey.is_valid l.fn.self
     × (length l.yielded + (goal.iterator-loop-key g).remaining l.key-iterator ≤ size (g.I.Iterator.remaining l.fn.iter))
+    × (HasRoom g.K.IntKey.number_of l.fn.self (size (g.I.Iterator.remaining l.fn.iter)) → HasRoom g.K.IntKey.number_of l.self (size (g.I.Iterator.remaining l.fn.iter) - length l.yielded))

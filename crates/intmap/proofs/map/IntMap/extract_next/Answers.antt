@@ -9,7 +9,7 @@ pub invariant_of-self : goal.invariant_of-self
 invariant_of-self g c =
     let asked = c.extract_next.ensures in let none = ap option_len c.in_default.is in
     IsConsistent-Extracts g.K.IntKey.number_of g.K.IntKey.is_valid (PicksAt g.F.FnMut) (λ f p b h q call. call.0) c.args.f.now c.extract_next.new.f c.self.inside.table.walk c.extract_next.new.self.walk _ _ c.extract_next.result
-    _ _ _ c.self.inside.len c.self.inside.len _ asked.step asked.capacity asked.own (omega (arith, none)) c.self.invariant
+    _ _ _ c.self.inside.len c.self.inside.len _ _ _ _ asked.step asked.capacity asked.own (omega (arith, none)) (omega (arith, c.self.invariant.memory, asked.nodes)) c.self.invariant
 
 pub returns-in_default : goal.returns-in_default
 returns-in_default g c =
@@ -21,7 +21,7 @@ invariant_of-self-2 g c =
     let asked = c.extract_next.ensures in let one = ap option_len c.in-Some.is in let old = c.self.inside.table.walk in
     let fewer = length-ExtractsBehind (PicksAt g.F.FnMut) c.args.f.now c.extract_next.new.f old c.extract_next.new.self.walk _ _ c.extract_next.result asked.step in
     IsConsistent-Extracts g.K.IntKey.number_of g.K.IntKey.is_valid (PicksAt g.F.FnMut) (λ f p b h q call. call.0) c.args.f.now c.extract_next.new.f old c.extract_next.new.self.walk _ _ c.extract_next.result
-    _ _ _ c.self.inside.len _ _ asked.step asked.capacity asked.own (omega (arith, one, fewer, c.self.invariant.count)) c.self.invariant
+    _ _ _ c.self.inside.len _ _ _ _ _ asked.step asked.capacity asked.own (omega (arith, one, fewer, c.self.invariant.count)) (omega (arith, c.self.invariant.memory, asked.nodes)) c.self.invariant
 
 pub returns : goal.returns
 returns g c =

@@ -35,6 +35,14 @@ returns-in-First-clause-inserted g c =
     let walk = ap (λ (n : MapState g.row.K.Denot g.row.V.Denot). n.walk) replaced in
     IsInsertion-replaced g.K.IntKey.number_of g.K.IntKey.is_valid m c.replace_first.new.self c.new-key.result c.args.value c.replace_first.result bound c.in-First.ensures.valid told.valid_after (rw same walk) same)
 
+pub returns-in-First-clause-updates : goal.returns-in-First-clause-updates
+returns-in-First-clause-updates g c = (returns-in-First-clause-inserted g c).updates
+
+pub returns-in-First-clause-len : goal.returns-in-First-clause-len
+returns-in-First-clause-len g c =
+    let is = searched g (goal.at.returns-in-First-clause-len g c).In-First in
+    rw (rw (is, c.new-key.ensures.value) at c.replace_first.ensures.value) at (returns-in-First-clause-inserted g c).len
+
 -- the rest of the slot is searched
 module _ (g : _) (c : In-Other g) where
   searched_all : after_rest g.K.IntKey.number_of c.spot_for.new.self c.in-Other.slot c.new-key.result ≡ after_search g.K.IntKey.number_of c.args.self.now c.new-key.result

@@ -1,10 +1,11 @@
-use Rattle.std.proofs.Common.{◌≡◌, ◌+◌, length, None, Some, refl, sym}
+use Rattle.std.proofs.Common.{◌≡◌, ◌+◌, length, None, Some, refl, sym, arith}
 use Rattle.intmap_table.specs.Bindings.{value_of}
 use Rattle.intmap.specs.Spots.{TakesOneMore}
 use Rattle.intmap.proofs.InsertionLemmas.{IsInsertion-added, IsInsertion-replaced}
 use Rattle.intmap.proofs.RefusalLemmas.{RefusalIsDue-memory}
-use Rattle.intmap.proofs.MapLemmas.{placed-same, IsConsistent-replaced}
+use Rattle.intmap.proofs.MapLemmas.{placed-same, reserved-same, IsConsistent-replaced}
 use Rattle.intmap.proofs.SpotLemmas.{IsConsistent-one_more, MapState-counted, RefusalIsDue-counted}
+use Rattle.intmap.proofs.ReservedLemmas.{HasRoom-takes}
 use Rattle.intmap.proofs.map.IntMap.insert_otherwise.Goals as goal
 use Rattle.intmap.proofs.map.IntMap.insert_otherwise.Goals.{In-Ok-Some, In-Ok-None}
 
@@ -23,7 +24,7 @@ missing g c = sym (rw c.in-Ok-None.field-0-is at c.in-Ok-None.ensures.value)
 pub invariant_of-self : goal.invariant_of-self
 invariant_of-self g c =
     let told = c.in-Ok-Some.ensures in
-    IsConsistent-replaced _ _ _ _ _ _ _ _ c.self.invariant c.put.new.self.capacity c.args.key c.new.result c.in-Ok-Some.old told.capacity told.known (bound g (goal.at.invariant_of-self g c).In-Ok-Some) told.walk
+    IsConsistent-replaced _ _ _ _ _ _ _ _ _ _ c.self.invariant _ _ (omega (arith, c.self.invariant.memory, told.nodes)) c.put.new.self.capacity c.args.key c.new.result c.in-Ok-Some.old told.capacity told.known (bound g (goal.at.invariant_of-self g c).In-Ok-Some) told.walk
 
 pub returns-in-Ok-Some-clause-inserted : goal.returns-in-Ok-Some-clause-inserted
 returns-in-Ok-Some-clause-inserted g c =
@@ -34,7 +35,7 @@ returns-in-Ok-Some-clause-inserted g c =
 pub returns-in-Ok-Some-clause-state : goal.returns-in-Ok-Some-clause-state
 returns-in-Ok-Some-clause-state g c =
     let told = c.in-Ok-Some.ensures in
-    rw (← c.self.view_is, told.capacity) (MapState-counted (rw c.new.ensures at told.walk) refl (placed-same c.self.inside.table.capacity c.self.inside.placed (length c.self.inside.table.walk + 1)) told.counted)
+    rw (← c.self.view_is, told.capacity) (MapState-counted (rw c.new.ensures at told.walk) refl (placed-same c.self.inside.table.capacity c.self.inside.placed (length c.self.inside.table.walk + 1)) told.counted (reserved-same c.self.inside.table.capacity c.self.inside.reserved))
 
 pub returns-in-Ok-Some-clause-valid_after : goal.returns-in-Ok-Some-clause-valid_after
 returns-in-Ok-Some-clause-valid_after g c = (invariant_of-self g c).map
@@ -42,7 +43,7 @@ returns-in-Ok-Some-clause-valid_after g c = (invariant_of-self g c).map
 pub invariant_of-self-in-Ok-None : goal.invariant_of-self-in-Ok-None
 invariant_of-self-in-Ok-None g c =
     let at = goal.at.invariant_of-self-in-Ok-None g c in let told = c.in-Ok-None.ensures in
-    IsConsistent-one_more _ _ _ _ _ _ _ _ c.self.invariant c.put.new.self.capacity c.args.key c.new.result told.capacity told.known (missing g at.In-Ok-None) (takes g at.In-Ok-None) told.walk
+    IsConsistent-one_more _ _ _ _ _ _ _ _ _ _ c.self.invariant _ _ (omega (arith, c.self.invariant.memory, told.nodes)) c.put.new.self.capacity c.args.key c.new.result told.capacity told.known (missing g at.In-Ok-None) (takes g at.In-Ok-None) told.walk
 
 pub returns-in-Ok-None-clause-inserted : goal.returns-in-Ok-None-clause-inserted
 returns-in-Ok-None-clause-inserted g c =
@@ -53,7 +54,7 @@ returns-in-Ok-None-clause-inserted g c =
 pub returns-in-Ok-None-clause-state : goal.returns-in-Ok-None-clause-state
 returns-in-Ok-None-clause-state g c =
     let told = c.in-Ok-None.ensures in
-    rw (← c.self.view_is, told.capacity) (MapState-counted (rw c.new.ensures at told.walk) refl (placed-same c.self.inside.table.capacity c.self.inside.placed (length c.self.inside.table.walk + 1)) told.counted)
+    rw (← c.self.view_is, told.capacity) (MapState-counted (rw c.new.ensures at told.walk) refl (placed-same c.self.inside.table.capacity c.self.inside.placed (length c.self.inside.table.walk + 1)) told.counted (reserved-same c.self.inside.table.capacity c.self.inside.reserved))
 
 pub returns-in-Ok-None-clause-valid_after : goal.returns-in-Ok-None-clause-valid_after
 returns-in-Ok-None-clause-valid_after g c = (invariant_of-self-in-Ok-None g c).map
@@ -70,4 +71,14 @@ returns-in-Ok-clause-state g c =
 
 pub returns-in-Err-add_growing-clause-refused : goal.returns-in-Err-add_growing-clause-refused
 returns-in-Err-add_growing-clause-refused g c =
-    rw (← c.self.view_is) (RefusalIsDue-counted g.K.IntKey.number_of _ c.put.new.steps c.args.key c.in-Err-add_growing.refused.cause (rw (c.copied-again.ensures, c.in-Err.ensures.err) at c.in-Err-add_growing.ensures.refused))
+    rw (← c.self.view_is) (RefusalIsDue-counted g.K.IntKey.number_of (record { walk = c.self.inside.table.walk; capacity = c.self.inside.table.capacity; factor = c.self.inside.factor; placed = c.self.inside.placed; compared = c.self.inside.compared; reserved = c.self.inside.reserved }) c.put.new.steps c.args.key c.in-Err-add_growing.refused.cause (rw (c.copied-again.ensures, c.in-Err.ensures.err) at c.in-Err-add_growing.ensures.refused))
+
+pub returns-then-adds-clause-has_room : goal.returns-then-adds-clause-has_room
+returns-then-adds-clause-has_room g c room =
+    let enough = (rw (← c.self.view_is) at room).memory in
+    c.in-Err.ensures.succeeds c.if-adds.true (omega (arith, c.self.invariant.memory, enough))
+
+pub returns-in-Err-add_growing-clause-has_room : goal.returns-in-Err-add_growing-clause-has_room
+returns-in-Err-add_growing-clause-has_room g c room =
+    let full = rw (← c.self.view_is) at c.if-adds.ensures in
+    absurd (full (HasRoom-takes g.K.IntKey.number_of _ _ _ _ c.self.invariant.map.capacity (rw (← c.self.view_is) at room)))

@@ -13,12 +13,13 @@ old g c = record {
   factor = c.self.inside.factor;
   placed = c.self.inside.placed;
   compared = c.self.inside.compared;
+  reserved = c.self.inside.reserved;
 }
 
 pub invariant_of-self : goal.invariant_of-self
 invariant_of-self g c =
     let told = c.in_default.ensures in
-    IsConsistent-taken _ _ _ _ _ _ _ _ c.self.invariant c.remove.new.self.capacity c.args.key c.self.inside.len told.capacity told.walk (rw (← told.value) (omega arith))
+    IsConsistent-taken _ _ _ _ _ _ _ _ _ _ c.self.invariant _ _ (omega (arith, c.self.invariant.memory, told.nodes)) c.remove.new.self.capacity c.args.key c.self.inside.len told.capacity told.walk (rw (← told.value) (omega arith))
 
 pub returns-in_default-clause-state : goal.returns-in_default-clause-state
 returns-in_default-clause-state g c = let told = c.in_default.ensures in rw (← c.self.view_is) (rw (told.walk, told.capacity, told.counted) refl)
@@ -43,7 +44,7 @@ returns-in_default-clause-valid_after g c = (invariant_of-self g c).map
 pub invariant_of-self-2 : goal.invariant_of-self-2
 invariant_of-self-2 g c =
     let told = c.in-Some.ensures in
-    IsConsistent-taken _ _ _ _ _ _ _ _ c.self.invariant c.remove.new.self.capacity c.args.key (c.self.inside.len - 1) told.capacity told.walk (rw (← told.value) refl)
+    IsConsistent-taken _ _ _ _ _ _ _ _ _ _ c.self.invariant _ _ (omega (arith, c.self.invariant.memory, told.nodes)) c.remove.new.self.capacity c.args.key (c.self.inside.len - 1) told.capacity told.walk (rw (← told.value) refl)
 
 pub returns-clause-state : goal.returns-clause-state
 returns-clause-state g c = let told = c.in-Some.ensures in rw (← c.self.view_is) (rw (told.walk, told.capacity, told.counted) refl)

@@ -1,4 +1,6 @@
-use Rattle.std.proofs.Common.{◌≡◌, ◌+◌, ◌≤◌, max, inl, inr, length, sym, ap, ◌∙◌, arith, refl}
+use Rattle.std.proofs.Common.{◌≡◌, ◌+◌, ◌≤◌, cond, max, inl, inr, length, sym, ap, ◌∙◌, arith, refl}
+use Rattle.std.specs.Prelude.{◌==◌}
+use Rattle.intmap.proofs.ReservedLemmas.{still-below}
 use Rattle.std.proofs.lemmas.Grind.{common_steps}
 use Rattle.std.proofs.lemmas.Bool.{cases_lt}
 use Rattle.intmap_table.specs.Classes.{IsCapacity}
@@ -20,7 +22,7 @@ module _ (g : _) (c : After-max-capacity g) where
       rw (← c.self.invariant.count) (IsLeastPower-up (c.self.inside.len + c.args.additional) c.next_power_of_two-slots.result p.power (omega (arith, p.lower_bound)) (omega (arith, p.upper_bound)))
 
   most : c.max-capacity.result ≡ max c.next_power_of_two-slots.result c.self.inside.table.capacity
-  most = c.max-capacity.ensures ∙ ap (λ n. max c.next_power_of_two-slots.result n) c.capacity.ensures.value
+  most = c.max-capacity.ensures ∙ ap (λ n. max c.next_power_of_two-slots.result n) c.capacity-before.ensures.value
 
   cap : IsCapacity c.max-capacity.result
   cap =
@@ -68,6 +70,10 @@ returns-then-is_err g c =
       valid_after = c.self.invariant.map;
     }
 
+-- what stays reserved
+still : (g : _) (c : After-threshold_of-self-inside g) → c.keep_if_same.new.reserved ≡ cond (c.max-capacity.result == c.self.inside.table.capacity) c.self.inside.reserved 0
+still g c = rw c.capacity-before.ensures.value at c.keep_if_same.ensures
+
 -- the table has as many slots as were asked for, and its pairs are in them
 grown : (g : _) (c : After-threshold_of-self-inside g)
     → (c.grow_to.new.self.capacity ≡ c.max-capacity.result) × (c.grow_to.new.self.walk ≡ walk_of g.K.IntKey.number_of c.self.inside.table.walk c.grow_to.new.self.capacity)
@@ -79,7 +85,9 @@ pub invariant_of-self-2 : goal.invariant_of-self-2
 invariant_of-self-2 g c =
     let at = (goal.at.invariant_of-self-2 g c).After-max-capacity in let told = grown g (goal.at.invariant_of-self-2 g c).After-threshold_of-self-inside in
     let more : c.self.inside.table.capacity ≤ c.grow_to.new.self.capacity = omega (arith, most g at, told.0) in
-    IsConsistent-grown _ _ _ _ _ _ _ _ c.self.invariant c.grow_to.new.self.capacity c.self.inside.factor _ (rw told.0 (cap g at)) c.self.invariant.map.factor
+    IsConsistent-grown _ _ _ _ _ _ _ _ _ _ c.self.invariant _ _
+    (let w = (goal.at.invariant_of-self-2 g c).After-threshold_of-self-inside in
+    rw (still g w) (still-below c.max-capacity.result c.self.inside.table.capacity c.self.inside.reserved c.self.inside.table.nodes c.grow_to.new.self.nodes c.self.invariant.memory c.grow_to.ensures.kept)) c.grow_to.new.self.capacity c.self.inside.factor _ (rw told.0 (cap g at)) c.self.invariant.map.factor
     (IsLoaded-larger c.self.inside.table.capacity c.grow_to.new.self.capacity (length c.self.inside.table.walk) c.self.inside.factor (capacity-positive c.self.inside.table.capacity c.self.invariant.map.capacity) more c.self.invariant.map.load)
     (rw told.0 c.threshold_of-self-inside.ensures) told.1
 
@@ -96,6 +104,9 @@ returns g c =
           capacity = omega (arith, told.0, most g at);
         };
         state = rw (← told.1) refl;
+        reserved =
+            let kept = ap (λ d. cond (d == c.self.inside.table.capacity) c.self.inside.reserved 0) told.0 in let same = still g (goal.at.returns g c).After-threshold_of-self-inside in
+            omega (arith, kept, same);
       };
       err = tt;
       refused = tt;

@@ -1,3 +1,4 @@
+use Rattle.std.proofs.Common.{arith}
 use Rattle.intmap_table.specs.Retaining.{KeepsAt}
 use Rattle.intmap_table.proofs.RetainLemmas.{length-Retains}
 use Rattle.intmap.proofs.AnsweringLemmas.{Retains-tested, value_of-answered_key, value_of-answered_pair}
@@ -7,8 +8,8 @@ use Rattle.intmap.proofs.map.IntMap.retain.Goals as goal
 pub invariant_of-self : goal.invariant_of-self
 invariant_of-self g c =
     let kept = c.retain-self-inside.ensures in
-    IsConsistent-Retains g.K.IntKey.number_of g.K.IntKey.is_valid (KeepsAt g.F.FnMut) c.args.f c.retain-self-inside.new.f c.self.inside.table.walk c.retain-self-inside.new.self.walk _ _ _ _ _ _
-    kept.pairs kept.capacity kept.own kept.count c.self.invariant
+    IsConsistent-Retains g.K.IntKey.number_of g.K.IntKey.is_valid (KeepsAt g.F.FnMut) c.args.f c.retain-self-inside.new.f c.self.inside.table.walk c.retain-self-inside.new.self.walk _ _ _ _ _ _ _ _ _
+    kept.pairs kept.capacity kept.own kept.count (omega (arith, c.self.invariant.memory, kept.nodes)) c.self.invariant
 
 pub returns-clause-by_pair : goal.returns-clause-by_pair
 returns-clause-by_pair g c q v b each is =

@@ -1,4 +1,4 @@
-use Rattle.std.proofs.Common.{rules, [], None, refl, subst, sym, ◌∙◌, add-zero}
+use Rattle.std.proofs.Common.{rules, [], None, refl, subst, sym, ◌∙◌, add-zero, arith}
 use Rattle.intmap_table.specs.Bindings.{Updates}
 use Rattle.intmap.proofs.MapLemmas.{IsConsistent-rest}
 use Rattle.intmap.proofs.CursorLemmas.{Updates-cut}
@@ -7,7 +7,7 @@ use Rattle.intmap.proofs.map.IntMap.take_front.Goals as goal
 pub invariant_of-self-2 : goal.invariant_of-self-2
 invariant_of-self-2 g c =
     let taken = c.in-Some.ensures' in
-    IsConsistent-rest _ _ _ _ _ _ _ _ c.self.invariant c.take_front.new.self.capacity _ taken.first taken.capacity taken.own
+    IsConsistent-rest _ _ _ _ _ _ _ _ _ _ c.self.invariant _ _ (omega (arith, c.self.invariant.memory, taken.nodes)) c.take_front.new.self.capacity _ taken.first taken.capacity taken.own
 
 pub returns-clause-updates : goal.returns-clause-updates
 returns-clause-updates g c =

@@ -31,8 +31,8 @@ impl<'a, K: IntKey, V, A: Allocator + Copy> Iterator for IterMut<'a, K, V, A> {
 impl<K: IntKey, V> IntMap<K, V> {
     /// A map without slots, for iterators without items. No other call takes it.
     fn none() -> IntMap<K, V> {
-        let (placed, compared) = (Steps::new(), Steps::new());
-        IntMap { table: Table::NONE, len: 0, threshold: 0, factor: 0, placed, compared }
+        let (placed, compared, reserved) = (Steps::new(), Steps::new(), Steps::new());
+        IntMap { table: Table::NONE, len: 0, threshold: 0, factor: 0, placed, compared, reserved }
     }
 }
 

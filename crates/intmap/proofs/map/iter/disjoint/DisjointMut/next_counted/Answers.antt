@@ -1,4 +1,4 @@
-use Rattle.std.proofs.Common.{rules, arith}
+use Rattle.std.proofs.Common.{rules}
 use Rattle.intmap.proofs.DisjointLemmas.{value_of-lent_pairs, first_counted}
 use Rattle.intmap.proofs.map.iter.disjoint.DisjointMut.next_counted.Goals as goal
 
