@@ -1,6 +1,6 @@
 //! Maps that are compared: their pairs matter, and the slots and the order of the walk don't.
 //! And documents that are the same after JSON.
-ghost use Rattle.std.specs.Prelude.{◌&&◌, ◌≡◌, IfOk, IsTrue, ℕ, length, true};
+ghost use Rattle.std.specs.Prelude.{◌&&◌, ◌+◌, ◌≡◌, ◌≤◌, IfOk, IsTrue, OnOk, ℕ, length, true};
 ghost use Rattle.intmap.specs.Bindings.{value_of};
 ghost use Rattle.intmap.specs.Equality.{maps_equal};
 ghost use Rattle.intmap.specs.Json.{BindSameTrees};
@@ -20,7 +20,8 @@ pub fn cloned_and_compared<A: Allocator + Copy>(map: &IntMap<u64, u64, A>) -> Re
     Ok(clone == *map)
 }
 
-/// Gives the map more slots and another load factor. Each key keeps its value.
+/// Sets the load factor, and makes a slot for each pair and for this number of further ones. Each
+/// key keeps its value.
 ///
 /// It fails if the map can't grow.
 fn grow<A: Allocator + Copy>(
@@ -28,14 +29,17 @@ fn grow<A: Allocator + Copy>(
     additional: usize,
     thousandths: usize,
 ) -> Result<(), Cause>
-    ensures { (q : ℕ) → value_of (λ k. k) map.new.walk q ≡ value_of (λ k. k) map.old.walk q }
+    ensures slots { OnOk result (length map.old.walk + additional ≤ map.new.capacity) }
+    ensures factor { OnOk result (map.new.factor ≡ thousandths) }
+    ensures values { (q : ℕ)
+        → value_of (λ k. k) map.new.walk q ≡ value_of (λ k. k) map.old.walk q }
 {
-    map.reserve(additional)?;
-    map.set_load_factor(thousandths)
+    map.set_load_factor(thousandths)?;
+    map.reserve(additional)
 }
 
-/// Clones the map, gives the clone more slots and another load factor, and returns whether it is
-/// still equal to the map, which it is.
+/// Clones the map, changes the clone by `grow`, and returns whether it is still equal to the map,
+/// which it is.
 ///
 /// It fails if the clone fails, or if growing it does.
 pub fn grown_and_compared<A: Allocator + Copy>(

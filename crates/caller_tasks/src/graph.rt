@@ -1,6 +1,6 @@
 //! Nodes that are visited, and parents of nodes.
 ghost use Rattle.std.specs.Prelude.{◌≡◌, ◌≢◌, ◌<◌, ◌≤◌, ℕ, ◌∷◌, [], ◌++◌, ◌⊎◌, None, Some, OnOk, OnErr, is_none, is_some, cond, true};
-ghost use Rattle.intmap.specs.Bindings.{value_of};
+ghost use Rattle.intmap.specs.Bindings.{Updates, value_of};
 
 use intmap::{Cause, IntMap};
 use std::alloc::Allocator;
@@ -77,8 +77,8 @@ pub fn root<A: Allocator + Copy>(parents: &IntMap<u64, u64, A>, node: u64) -> u6
     }
 }
 
-/// Joins the trees of two nodes, if they are two. Every parent stays, and what every node shares
-/// with its parent then, the two nodes share.
+/// Joins the trees of two nodes, if they are two. Every parent stays, and at most one node gets a
+/// parent. What every node shares with its parent then, the two nodes share.
 ///
 /// It fails if the insertion of a parent fails. No node then gets a parent.
 pub fn join<A: Allocator + Copy>(
@@ -90,6 +90,9 @@ pub fn join<A: Allocator + Copy>(
     ensures smaller { (q p : ℕ) → value_of (λ k. k) parents.new.walk q ≡ Some p → p < q }
     ensures kept { (q p : ℕ) → value_of (λ k. k) parents.old.walk q ≡ Some p
         → value_of (λ k. k) parents.new.walk q ≡ Some p }
+    ensures one { OnOk result ((parents.new.walk ≡ parents.old.walk)
+        ⊎ ((q : ℕ) × (p : ℕ) × (value_of (λ k. k) parents.old.walk q ≡ None)
+        × Updates (λ k. k) parents.old.walk parents.new.walk q (Some p))) }
     ensures shared { OnOk result ((f : ℕ → ℕ)
         → ((q p : ℕ) → value_of (λ k. k) parents.new.walk q ≡ Some p → f q ≡ f p)
         → f a ≡ f b) }

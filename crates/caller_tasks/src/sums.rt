@@ -1,5 +1,5 @@
 //! Sums of all values: what a count, an insertion and a merge add to them.
-ghost use Rattle.std.specs.Prelude.{[], ◌+◌, ◌-◌, ◌<◌, ◌^◌, ◌↔◌, ◌≡◌, ◌≢◌, ◌≤◌, All, Contains, IfErr, IfOk, IfSome, IsTrue, MatchOption, None, OnErr, OnOk, Some, ℕ, cond, false, is_none, length, option_map, true, unwrap_or};
+ghost use Rattle.std.specs.Prelude.{[], ◌+◌, ◌-◌, ◌<◌, ◌^◌, ◌↔◌, ◌≡◌, ◌≢◌, ◌≤◌, ◌⊎◌, All, Contains, IfErr, IfOk, IfSome, IsTrue, MatchOption, None, OnErr, OnOk, Some, ℕ, cond, false, is_none, length, option_map, true, unwrap_or};
 ghost use Rattle.std.specs.List.{sum};
 ghost use Rattle.std.specs.Map.{values_of};
 ghost use Rattle.intmap.specs.Bindings.{Updates, value_of};
@@ -77,7 +77,8 @@ pub fn add_in<A: Allocator + Copy>(
 
 /// Adds the values of another map, key by key. The sum of all values rises by theirs.
 ///
-/// It fails if a sum doesn't fit, or if the insertion of a new key fails.
+/// It fails if a sum doesn't fit, or if the insertion of a new key fails. Each value is then what
+/// it was, or the sum that it would have become.
 pub fn merge<A: Allocator + Copy>(
     sums: &mut IntMap<u64, u64, A>,
     more: &IntMap<u64, u64, A>,
@@ -87,6 +88,11 @@ pub fn merge<A: Allocator + Copy>(
         + unwrap_or (value_of (λ k. k) more.now.walk q) 0) }
     ensures total { OnOk result (sum (values_of sums.new.walk)
         ≡ sum (values_of sums.old.walk) + sum (values_of more.now.walk)) }
+    ensures err { OnErr result ((q : ℕ) → (unwrap_or (value_of (λ k. k) sums.new.walk q) 0
+        ≡ unwrap_or (value_of (λ k. k) sums.old.walk q) 0)
+        ⊎ (unwrap_or (value_of (λ k. k) sums.new.walk q) 0
+        ≡ unwrap_or (value_of (λ k. k) sums.old.walk q) 0
+        + unwrap_or (value_of (λ k. k) more.now.walk q) 0)) }
 {
     for (key, value) in more.iter() {
         add_in(sums, *key, *value)?;

@@ -14,14 +14,15 @@ use std::marker::Model;
 
 /// Counts one occurrence of the number, by its entry.
 ///
-/// It fails if the insertion of a new number fails.
+/// It fails if the insertion of a new number fails. All counts then stay.
 pub fn count_by_entry<A: Allocator + Copy>(
     tally: &mut IntMap<u64, u64, A>,
     number: u64,
 ) -> Result<(), Cause>
     requires { count_at tally.old.walk number < 2 ^ 64 - 1 }
-    ensures { OnOk result (Updates (λ key. key) tally.old.walk tally.new.walk number
+    ensures counts { OnOk result (Updates (λ key. key) tally.old.walk tally.new.walk number
         (Some (count_at tally.old.walk number + 1))) }
+    ensures err { OnErr result (tally.new.walk ≡ tally.old.walk) }
 {
     *tally.entry(number).or_insert(0)? += 1;
     Ok(())
@@ -29,14 +30,15 @@ pub fn count_by_entry<A: Allocator + Copy>(
 
 /// Counts one occurrence of the number: a closure changes its count, or the count begins with 1.
 ///
-/// It fails if the insertion of a new number fails.
+/// It fails if the insertion of a new number fails. All counts then stay.
 pub fn count_by_closure<A: Allocator + Copy>(
     tally: &mut IntMap<u64, u64, A>,
     number: u64,
 ) -> Result<(), Cause>
     requires { count_at tally.old.walk number < 2 ^ 64 - 1 }
-    ensures { OnOk result (Updates (λ key. key) tally.old.walk tally.new.walk number
+    ensures counts { OnOk result (Updates (λ key. key) tally.old.walk tally.new.walk number
         (Some (count_at tally.old.walk number + 1))) }
+    ensures err { OnErr result (tally.new.walk ≡ tally.old.walk) }
 {
     let entry = tally.entry(number).and_modify(
         |count: &mut u64|
@@ -52,14 +54,15 @@ pub fn count_by_closure<A: Allocator + Copy>(
 
 /// Counts one occurrence of the number, by a reference to its count.
 ///
-/// It fails if the insertion of a new number fails.
+/// It fails if the insertion of a new number fails. All counts then stay.
 pub fn count_by_get_mut<A: Allocator + Copy>(
     tally: &mut IntMap<u64, u64, A>,
     number: u64,
 ) -> Result<(), Cause>
     requires { count_at tally.old.walk number < 2 ^ 64 - 1 }
-    ensures { OnOk result (Updates (λ key. key) tally.old.walk tally.new.walk number
+    ensures counts { OnOk result (Updates (λ key. key) tally.old.walk tally.new.walk number
         (Some (count_at tally.old.walk number + 1))) }
+    ensures err { OnErr result (tally.new.walk ≡ tally.old.walk) }
 {
     if let Some(count) = tally.get_mut(number) {
         *count += 1;

@@ -127,7 +127,7 @@ impl<V, A: Allocator + Copy> Model for Dense<V, A> {
 }
 
 impl<V: Drop, A: Allocator + Copy> Dense<V, A> {
-    /// A table without values. Its map is made by `with_capacity`.
+    /// A table without values.
     ///
     /// It fails if an allocation fails, or if `capacity` is above 2^63.
     pub fn with_capacity(alloc: A, capacity: usize) -> Result<Dense<V, A>, Cause>
@@ -210,8 +210,7 @@ impl<A: Allocator + Copy> Model for Interner<A> {
     ghost view = { λ it. record { ids = it.ids.walk; codes = it.codes.walk } };
 }
 
-/// Gives a code without an id the next id, and inserts both ways. The map from codes to ids is
-/// changed last. If its insertion fails, the id is removed from the other map again.
+/// Gives a code without an id the next id, and inserts both ways.
 ///
 /// It fails if an insertion fails. Both maps then have the same bindings as before.
 fn bind_both<A: Allocator + Copy>(
@@ -250,7 +249,8 @@ impl<A: Allocator + Copy> Interner<A> {
         })
     }
 
-    /// The id of the code: the one that it has already, or otherwise the next.
+    /// The id of the code: the one that it has already, or otherwise the next. No other code gets
+    /// an id.
     ///
     /// It fails if the insertion of a new pair fails. Every code then keeps its id, and every id
     /// its code.
@@ -259,6 +259,7 @@ impl<A: Allocator + Copy> Interner<A> {
         ensures known { IfSome (value_at self.old.ids code) (λ id. result ≡ Ok id) }
         ensures next { value_at self.old.ids code ≡ None
             → IfOk result (λ id. id ≡ length self.old.codes) }
+        ensures others { OthersStay self.old.ids self.new.ids code }
         ensures kept { (q id : ℕ) → value_at self.old.ids q ≡ Some id
             → value_at self.new.ids q ≡ Some id }
         ensures ids_stay { OnErr result (AllStay self.old.ids self.new.ids) }

@@ -1,9 +1,12 @@
 //! Runs of commands, described by one plain list of pairs.
-ghost use Rattle.std.specs.Prelude.{◌≡◌, ◌∷◌, [], IfOk, IfErr, Some, None};
+ghost use Rattle.std.specs.Prelude.{◌≡◌, ◌++◌, ◌∷◌, [], IfOk, IfErr, Some, None};
+ghost use Rattle.intmap.specs.PlainLists.{PlainList, Stands, empty_list};
+ghost use Rattle.intmap_run.specs.Bounds.{LeavesFewSlots, PlacesFew};
+ghost use Rattle.intmap_run.specs.Runs.{Runs, RunsFrom};
 ghost use Rattle.callers_above.specs.Sessions.{RunsTwice, Stops};
 
 use intmap::{Cause, IntKey, IntMap, laws};
-use intmap_run::{Answer, Command, Judge, run};
+use intmap_run::{Answer, Command, Judge, laws as run_laws, run};
 use std::alloc::{Allocator, Global};
 
 /// Sees each number as itself, and keeps all.
@@ -39,7 +42,8 @@ pub enum Stopped<K, V, S, A: Allocator = Global> {
 
 /// Runs two lists of commands on a map, one after the other. The first commands and answers lead
 /// from every plain list of pairs that stands for the map to another list. The second ones lead
-/// from that list to one that stands for the map at the end.
+/// from that list to one that stands for the map at the end. Both are one run of all commands,
+/// which places as few pairs and leaves as few slots as every run does.
 ///
 /// It fails if there is no memory for the answers of a run. Before the first run, the map is then
 /// as it was. Before the second, it is as the first left it.
@@ -59,9 +63,21 @@ pub fn run_twice<K: IntKey, V: Drop, J: Judge<K, V>, A: Allocator + Copy>(
     ensures ok { IfOk result (λ answers. RunsTwice K.number_of (J.sees judge.now)
         (J.keeps judge.now) map.old first.items answers.0.items second.items answers.1.items
         map.new) }
+    ensures joined { IfOk result (λ answers. RunsFrom K.number_of (J.sees judge.now)
+        (J.keeps judge.now) map.old (first.items ++ second.items)
+        (answers.0.items ++ answers.1.items) map.new) }
+    ensures few_placements { IfOk result (λ answers. PlacesFew K.number_of (J.sees judge.now)
+        (J.keeps judge.now) map.old (first.items ++ second.items)
+        (answers.0.items ++ answers.1.items) map.new) }
+    ensures last_capacity { IfOk result (λ answers. LeavesFewSlots K.number_of (J.sees judge.now)
+        (J.keeps judge.now) map.old (first.items ++ second.items)
+        (answers.0.items ++ answers.1.items) map.new) }
     ensures err { IfErr result (Stops K.number_of (J.sees judge.now) (J.keeps judge.now)
         map.old first second map.new) }
 {
+    run_laws::runs_join::<K, V, J, A>();
+    run_laws::runs_place_few::<K, V, J, A>();
+    run_laws::runs_leave_few_slots::<K, V, J, A>();
     let early = match run(alloc, map, first, judge) {
         Ok(early) => early,
         Err(first) => return Err(Stopped::First(first, second)),
@@ -69,6 +85,28 @@ pub fn run_twice<K: IntKey, V: Drop, J: Judge<K, V>, A: Allocator + Copy>(
     match run(alloc, map, second, judge) {
         Ok(late) => Ok((early, late)),
         Err(second) => Err(Stopped::Second(early, second)),
+    }
+}
+
+/// Runs the commands on a new map, and returns the map with the answers. The commands and answers
+/// lead from no pairs in 4 slots to a list that stands for the map.
+///
+/// It fails if there is no memory.
+pub fn run_anew<K: IntKey, V: Drop, J: Judge<K, V>, A: Allocator + Copy>(
+    alloc: A,
+    commands: Vec<Command<K, V, A>, A>,
+    judge: &J,
+) -> Result<(IntMap<K, V, A>, Vec<Answer<K, V, J::Seen, A>, A>), Cause>
+    ensures ok { IfOk result (λ made. (t : PlainList K V)
+        × Runs K.number_of (J.sees judge.now) (J.keeps judge.now) (empty_list 4) commands.items
+        made.1.items t × Stands K.number_of t made.0) }
+    ensures err { IfErr result (λ cause. cause ≡ Cause.Memory) }
+{
+    run_laws::no_pairs_stand_for_a_new_map::<K, V>();
+    let mut map = IntMap::new(alloc)?;
+    match run(alloc, &mut map, commands, judge) {
+        Ok(answers) => Ok((map, answers)),
+        Err(_commands) => Err(Cause::Memory),
     }
 }
 

@@ -1,54 +1,79 @@
 //! Facts of sets that a caller draws from their clauses and laws: when the next member grows the
 //! table, when there is room for it, how many members two sets have together, in common and apart,
 //! which members a set made of two has, and how many of some numbers are distinct.
-ghost use Rattle.std.specs.Prelude.{◌+◌, ◌<◌, ◌||◌, ◌↔◌, ◌≡◌, ◌≤◌, IfErr, IfOk, IfSome, IsErrOf, IsSome, IsTrue, OnOk, length, not, true};
+ghost use Rattle.std.specs.Prelude.{[], ◌+◌, ◌<◌, ◌∷◌, ◌||◌, ◌↔◌, ◌≡◌, ◌≤◌, IfErr, IfOk, IfSome, IsErrOf, IsSome, IsTrue, OnErr, OnOk, false, length, not, true};
 ghost use Rattle.intmap.specs.Bindings.{HasDistinctKeys};
+ghost use Rattle.intmap.specs.Classes.{same_key};
 ghost use Rattle.intmap.specs.Growth.{IsNext, MeetsLoad};
 ghost use Rattle.intmap.specs.Map.{IsCapacityAfter, IsOutOfRange};
 ghost use Rattle.intmap.specs.Reach.{class_size};
 ghost use Rattle.intmap_set.specs.Combined.{HaveSameMembers, IsDifference, IsIntersection, IsSubset, IsUnion, difference_of, sets_equal, symmetric_difference_of};
-ghost use Rattle.intmap_set.specs.Sets.{AreBelow, holds, load_factor, paired};
+ghost use Rattle.intmap_set.specs.Sets.{AreBelow, IsAlone, Updates, holds, load_factor, paired};
 
 use intmap::{Cause, IntKey};
 use intmap_set::{IntSet, laws};
 use std::alloc::Allocator;
 
 /// Makes a key a member, and returns the number of slots afterwards. The set may come from
-/// anywhere: its load factor is 909 thousandths, as that of every set.
+/// anywhere: its load factor is 909 thousandths, as that of every set. Every other key is a member
+/// if and only if it was one.
 ///
-/// It fails if the insertion fails.
+/// It fails if the insertion of a new key fails.
 pub fn slots_with<K: IntKey, A: Allocator + Copy>(
     set: &mut IntSet<K, A>,
     key: K,
 ) -> Result<usize, Cause>
     ensures here { OnOk result (IsTrue (holds K.number_of set.new.walk key)) }
+    ensures others { (q : K) → same_key K.number_of key q ≡ false
+        → holds K.number_of set.new.walk q ≡ holds K.number_of set.old.walk q }
     ensures slots { IfOk result (λ slots. IsCapacityAfter K.number_of (paired set.old.walk)
         set.old.capacity load_factor key slots) }
     ensures too_large { IsErrOf result Cause.TooLarge
         ↔ IsOutOfRange K.number_of (paired set.old.walk) set.old.capacity load_factor key }
+    ensures new { OnErr result (holds K.number_of set.old.walk key ≡ false) }
     ensures memory { IsErrOf result Cause.Memory
         → IsNext set.old.capacity (length set.old.walk + 1) load_factor set.old.capacity
         → 0 < class_size K.number_of (paired set.old.walk) set.old.capacity key }
 {
+    laws::members_are_keys::<K>();
     set.insert(key)?;
     Ok(set.capacity())
 }
 
 /// Makes a key a member, and returns whether it is new. The numbers of the members and of the key
 /// are below the number of slots, and one member more meets the load. So a new key has a slot to
-/// itself, and the insertion never fails. It compares at most one key.
+/// itself, and the insertion never fails. It compares at most one key. Every other key is a member
+/// if and only if it was one.
 pub fn note<K: IntKey, A: Allocator + Copy>(set: &mut IntSet<K, A>, key: K) -> bool
     requires members { AreBelow K.number_of set.old.walk set.old.capacity }
     requires small { K.number_of key < set.old.capacity }
     requires room { MeetsLoad set.old.capacity (length set.old.walk + 1) load_factor }
     ensures new { result ≡ not (holds K.number_of set.old.walk key) }
     ensures here { IsTrue (holds K.number_of set.new.walk key) }
+    ensures others { (q : K) → same_key K.number_of key q ≡ false
+        → holds K.number_of set.new.walk q ≡ holds K.number_of set.old.walk q }
     ensures compared { set.new.compared ≤ set.old.compared + 1 }
 {
     laws::small_keys_are_never_refused::<K>();
     laws::small_members_are_found_at_once::<K>();
     match set.insert(key) {
         Ok(new) => new,
+        Err(_) => unreachable!(),
+    }
+}
+
+/// Makes a new key a member, where no member shares its slot, and one member more meets the load.
+/// It never fails, and the capacity stays.
+pub fn note_alone<K: IntKey, A: Allocator + Copy>(set: &mut IntSet<K, A>, key: K)
+    requires alone { IsAlone K.number_of set.old.walk set.old.capacity key }
+    requires room { MeetsLoad set.old.capacity (length set.old.walk + 1) load_factor }
+    ensures updates { Updates K.number_of set.old.walk set.new.walk key true }
+    ensures capacity { set.new.capacity ≡ set.old.capacity }
+{
+    laws::met_loads_leave_room::<K>();
+    laws::met_loads_keep_capacity::<K>();
+    match set.insert(key) {
+        Ok(_new) => (),
         Err(_) => unreachable!(),
     }
 }
@@ -150,7 +175,7 @@ pub fn count_each_alone<K: IntKey, A: Allocator + Copy>(
 /// Inserts the members of another set. Each key is a member afterwards if and only if it was one of
 /// either, and there are no fewer slots.
 ///
-/// It fails if an insertion fails.
+/// It fails if an insertion fails. Every member then stays, and every new one is of the other set.
 pub fn take_in<K: IntKey, A: Allocator + Copy>(
     set: &mut IntSet<K, A>,
     other: &IntSet<K, A>,
@@ -159,10 +184,38 @@ pub fn take_in<K: IntKey, A: Allocator + Copy>(
         ≡ (holds K.number_of set.old.walk q || holds K.number_of other.now.walk q)) }
     ensures len { OnOk result (length set.new.walk ≤ length set.old.walk + length other.now.walk) }
     ensures capacity { OnOk result (set.old.capacity ≤ set.new.capacity) }
+    ensures stay { OnErr result (IsSubset K.number_of set.old.walk set.new.walk) }
+    ensures new { OnErr result ((q : K) → IsTrue (holds K.number_of set.new.walk q)
+        → IsTrue (holds K.number_of set.old.walk q || holds K.number_of other.now.walk q)) }
 {
     laws::union_and_intersection_count_both::<K>();
-    set.extend_from_set(other)?;
-    Ok(())
+    match set.extend_from_set(other) {
+        Ok(()) => Ok(()),
+        Err(refused) => Err(refused.cause),
+    }
+}
+
+/// Takes in the one member of another set, which is new here. The numbers of all members are below
+/// the number of slots, and one member more meets the load. So the insertion never fails.
+pub fn take_in_one<K: IntKey, A: Allocator + Copy>(
+    set: &mut IntSet<K, A>,
+    other: &IntSet<K, A>,
+    key: K,
+)
+    requires one { other.now.walk ≡ key ∷ [] }
+    requires members { AreBelow K.number_of set.old.walk set.old.capacity }
+    requires small { K.number_of key < set.old.capacity }
+    requires new { holds K.number_of set.old.walk key ≡ false }
+    requires room { MeetsLoad set.old.capacity (length set.old.walk + 1) load_factor }
+    ensures { IsUnion K.number_of set.old.walk other.now.walk set.new.walk }
+{
+    laws::small_new_keys_are_alone::<K>();
+    laws::met_loads_leave_room::<K>();
+    laws::keys_that_need_no_memory_are_never_refused::<K>();
+    match set.extend_from_set(other) {
+        Ok(()) => (),
+        Err(_refused) => unreachable!(),
+    }
 }
 
 // Groups of ids as sets: which members of one group are in another, and groups made of two.

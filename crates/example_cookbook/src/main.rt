@@ -14,9 +14,11 @@ use std::alloc::Global;
 mod fixed;
 mod group;
 mod keep;
+mod nested;
 
 fn main(rt: HostRuntime) -> Result<()> {
     group_into_lists(&rt)?;
+    order_units(&rt)?;
     use_cells_as_keys(&rt)?;
     keep_what_fails(&rt, &FailingAlloc::new(rt.alloc(), 0))?;
     fill_a_fixed_map(&rt)
@@ -28,6 +30,16 @@ fn group_into_lists(rt: &HostRuntime) -> Result<()> {
     for (customer, orders) in &group::orders_by_customer(rt.alloc(), &orders)? {
         println!(rt; "customer {customer}: {orders:?}")?;
     }
+    Ok(())
+}
+
+/// Prints how many units of each article each customer ordered.
+fn order_units(rt: &HostRuntime) -> Result<()> {
+    let mut units = IntMap::new(rt.alloc())?;
+    for (customer, article, more) in [(3, 70, 2), (8, 70, 1), (3, 70, 4)] {
+        nested::order(rt.alloc(), &mut units, customer, article, more)?;
+    }
+    println!(rt; "{units:?}")?;
     Ok(())
 }
 

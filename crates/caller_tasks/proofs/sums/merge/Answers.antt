@@ -1,4 +1,4 @@
-use Rattle.std.proofs.Common.{rules, arith, ◌≡◌, ◌+◌, ◌∷◌, ℕ, ap, subst, sym}
+use Rattle.std.proofs.Common.{rules, arith, ◌≡◌, ◌+◌, ◌∷◌, ℕ, ap, inl, subst, sym}
 use Rattle.std.proofs.lemmas.Bool.Decides.{nat_tests}
 use Rattle.std.proofs.lemmas.Grind.{common_steps}
 use Rattle.std.proofs.lemmas.List.Sums.{fold_more}
@@ -15,6 +15,7 @@ loop-key-init g c =
     let all : c.into_iter-key-iterator.result ≡ c.args.more.now.walk = search rules in
     record {
       total = ap (λ L. sum (values_of c.args.sums.now.walk) + sum (values_of L)) all;
+      all_or_none = λ q. inl (ap (λ L. unwrap_or (value_of (λ k. k) L q) 0) all);
       distinct = subst (λ L. HasDistinctKeys (λ k. k) L) (sym all) c.iter-key-items.ensures.valid.distinct;
       values = λ q. ap (λ L. unwrap_or (value_of (λ k. k) c.args.sums.now.walk q) 0 + unwrap_or (value_of (λ k. k) L q) 0) all;
     }
@@ -27,6 +28,9 @@ loop-key-preserved g c =
     let once : HasDistinctKeys (λ k. k) (pair ∷ rest) = subst (λ L. HasDistinctKeys (λ k. k) L) is before.distinct in
     record {
       total = let so_far = rw is at before.total in let more = step.total in grind (arith, common_steps, fold_more, so_far, more);
+      all_or_none = λ q.
+          (let left = rw is at before.all_or_none q in let none = value_of-rest (λ k. k) pair rest once q in
+          grind (arith, nat_tests, common_steps, left, none));
       distinct = HasDistinctKeys-tail (λ k. k) pair rest once;
       values = λ q.
           (let so_far = rw is at before.values q in let here = step.here in let others = step.others q in let none = value_of-rest (λ k. k) pair rest once q in
