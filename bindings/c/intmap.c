@@ -20,7 +20,7 @@
 //     grep -v '^// Compilers: ' intmap.c | sha256sum
 //
 // Compilers: rattle-kit-13f logic dac8208d650f15bf; clang version 22.1.8
-// Sources: a9b92d6ef791d021529387b1b3cd771674185d0884035b9894d813def9e16e89
+// Sources: 260c969aaa9a440d6dad8d7c57acbcc9e71e52c9cdd3ae45d287ff4c7f26abce
 //
 // SPDX-License-Identifier: MIT
 //
@@ -513,7 +513,7 @@ enum {
     FOUND_PAIR_STATUS = 16,
     FOUND_PAIR_SIZE = 24
 };
-// A place for a pair behind the first one of its slot.
+// A place for a pair.
 // Node<(Stored<u64>, Kept<u64>)>, in crates/intmap_table/src/linked/node.rt
 enum {
     NODE_HAS_PAIR = 0,
@@ -522,16 +522,6 @@ enum {
     NODE_KEY = 8,
     NODE_VALUE = 16,
     NODE_SIZE = 24
-};
-// A slot.
-// Slot<(Stored<u64>, Kept<u64>)>, in crates/intmap_table/src/linked/slot.rt
-enum {
-    SLOT_HAS_PAIR = 0,
-    SLOT_HIGH = 2,
-    SLOT_LOW = 4,
-    SLOT_KEY = 8,
-    SLOT_VALUE = 16,
-    SLOT_SIZE = 24
 };
 // Vec, in Rattle's library
 enum {
@@ -557,39 +547,38 @@ enum {
 // Numbers that the sources name. Statuses are those of intmap.h, without a sign.
 
 #define MULTIPLIER UINT64_C(11400714819323198549)
+#define NODE_LIMIT UINT64_C(281470681743360)
 #define NOWHERE_HIGH 65535
 #define NOWHERE UINT64_C(281474976710655)
 #define NOWHERE_LOW 4294967295u
-#define NODE_LIMIT UINT64_C(281470681743360)
 #define NO_MEMORY 4294967295u
 #define TOO_LARGE 4294967294u
 #define GREATEST_CAPACITY UINT64_C(9223372036854775808)
 #define MOST_FIRST_PAIRS UINT64_C(8393268553537845985)
 
 static ALWAYS_INLINE struct byte_address intmap_get_counted(char *map, uint64_t key);
+static ALWAYS_INLINE struct word_word chain_last_in(char *pool, uint64_t from);
 static ALWAYS_INLINE uint64_t chain_seek(char *pool, uint64_t from, uint64_t place);
-static ALIGNED NOINLINE struct word_word removal_take_first_of_several(char *slot, uint64_t link, char *pool);
-static ALIGNED NOINLINE struct byte_word removal_remove_of_several(char *slot, uint64_t link, char *pool, uint64_t key);
+static ALIGNED NOINLINE struct word_word removal_pop_front_of_several(char *slot, uint64_t link, char *pool);
+static COLD bool vec_grow_amortized(char *nodes_at);
+static ALIGNED NOINLINE struct byte_word removal_remove_of_several(char *slot, uint64_t link, char *pool, uint64_t key_number);
 static ALWAYS_INLINE void slots_clone(char *result, char *map);
 static ALIGNED NOINLINE struct byte_word clone_clone_chain(char *pool, uint64_t from, char *made);
 static ALWAYS_INLINE void pool_add_new(char *result, char *nodes_at, uint64_t link, uint64_t a3, uint64_t a4);
-static COLD bool vec_grow_amortized(char *nodes_at);
-static ALIGNED NOINLINE void slots_add_empty(char *slots, uint64_t count);
 static COLD bool vec_grow_amortized_2(char *vec, uint64_t a1);
+static ALIGNED NOINLINE void slots_add_empty(char *slots, uint64_t count);
 static ALIGNED uint32_t make_keep(char *handle, char *made);
 static ALIGNED void intmap_of_slots(char *result, uint64_t slots);
 static ALIGNED NOINLINE struct byte_address handle_make_first(void);
-static ALIGNED NOINLINE void intmap_add_growing(char *result, char *map, uint64_t slot, uint64_t key, uint64_t value);
+static ALIGNED NOINLINE void intmap_add_growing(char *result, char *map, uint64_t slot, uint64_t key_key, uint64_t key_number, uint64_t value);
 static ALIGNED uint8_t slots_enlarge(char *map, uint64_t capacity, uint64_t room);
-static ALIGNED NOINLINE void growth_put_before_first(char *slot, char *a1, uint64_t a2, uint64_t a3);
-static ALIGNED NOINLINE void growth_put_behind_first(char *slot, char *a1, uint64_t a2, uint64_t a3);
+static ALIGNED NOINLINE void growth_put_before_first(char *node, char *a1, uint64_t a2, uint64_t a3);
+static ALIGNED NOINLINE void growth_put_behind_first(char *node, char *a1, uint64_t a2, uint64_t a3);
 static ALIGNED NOINLINE void insertion_push_further(char *result, char *slot, char *pool, uint64_t a3, uint64_t a4);
-static ALWAYS_INLINE struct word_word chain_last_in(char *pool, uint64_t from);
+static ALWAYS_INLINE struct word_word chain_last_in_2(char *pool, uint64_t from);
 static COLD uint64_t insertion_replace_first_of_several(char *slot, uint64_t link, char *pool, uint64_t a3, uint64_t a4);
-static ALWAYS_INLINE uint64_t chain_last_in_2(char *pool, uint64_t from);
-static ALIGNED NOINLINE void intmap_insert_otherwise(char *result, char *map, uint64_t slot, uint64_t key, uint64_t value);
+static ALIGNED NOINLINE void intmap_insert_otherwise(char *result, char *map, uint64_t slot, uint64_t key_key, uint64_t key_number, uint64_t value);
 static ALWAYS_INLINE void pool_add_new_2(char *result, char *nodes_at, uint64_t a3, uint64_t a4);
-static COLD bool vec_grow_amortized_3(char *nodes_at);
 static ALIGNED uint8_t table_grow_to(char *map, uint64_t capacity, uint64_t additional);
 static ALWAYS_INLINE void do_intmap_place(char *word, uint64_t key, char *at);
 static ALWAYS_INLINE uint32_t do_intmap_version(void);
@@ -620,32 +609,62 @@ static ALWAYS_INLINE uint32_t do_intmap_set_load_factor(char *handle, uint64_t t
 // The same as `get`, but each comparison of a stored key with the sought one is counted in `steps`.
 // intmap::map::IntMap::get_counted, in crates/intmap/src/map/get.rt
 static ALWAYS_INLINE struct byte_address intmap_get_counted(char *map, uint64_t key) {
-    char *x2;
-    char *slot = load_address(map + INT_MAP_SLOTS) + ((load64(map + INT_MAP_MASK) & (key * MULTIPLIER)) * SLOT_SIZE);
-    if (load8(slot + SLOT_HAS_PAIR) != 1) {
+    char *node_2;
+    char *node = load_address(map + INT_MAP_SLOTS) + ((load64(map + INT_MAP_MASK) & (key * MULTIPLIER)) * NODE_SIZE);
+    if (load8(node + NODE_HAS_PAIR) != 1) {
         return made_byte_address(0, NULL);
     }
-    if (load64(slot + SLOT_KEY) == key) {
-        x2 = slot;
+    uint64_t link = link_of(load16(node + NODE_HIGH), load32(node + NODE_LOW));
+    if (load64(node + NODE_KEY) == key) {
+        node_2 = node;
     } else {
         uint64_t nodes_len = load64(map + INT_MAP_NODES_LEN);
-        uint64_t at = link_of(load16(slot + SLOT_HIGH), load32(slot + SLOT_LOW));
+        if (nodes_len <= link) {
+            return made_byte_address(0, NULL);
+        }
+        char *nodes = load_address(map + INT_MAP_NODES);
+        uint64_t at = link;
         for (;;) {
-            if (nodes_len <= at) {
+            char *node_3 = nodes + (at * NODE_SIZE);
+            if (load8(node_3 + NODE_HAS_PAIR) != 1) {
                 return made_byte_address(0, NULL);
             }
-            char *node = load_address(map + INT_MAP_NODES) + (at * NODE_SIZE);
-            if (load8(node + NODE_HAS_PAIR) != 1) {
-                return made_byte_address(0, NULL);
-            }
-            if (load64(node + NODE_KEY) == key) {
-                x2 = node;
+            if (load64(node_3 + NODE_KEY) == key) {
+                node_2 = node_3;
                 break;
             }
-            at = link_of(load16(node + NODE_HIGH), load32(node + NODE_LOW));
+            uint64_t link_2 = link_of(load16(node_3 + NODE_HIGH), load32(node_3 + NODE_LOW));
+            if (nodes_len <= link_2) {
+                return made_byte_address(0, NULL);
+            }
+            at = link_2;
         }
     }
-    return made_byte_address(1, x2 + 16);
+    return made_byte_address(1, node_2 + NODE_VALUE);
+}
+
+// The last node of a chain (no node if there is no pair), and the number of pairs.
+// intmap_table::linked::chain::last_in, in crates/intmap_table/src/linked/chain.rt
+static ALWAYS_INLINE struct word_word chain_last_in(char *pool, uint64_t from) {
+    if (from >= NODE_LIMIT) {
+        return made_word_word(NOWHERE, 0);
+    }
+    char *nodes = load_address(pool + POOL_NODES);
+    uint64_t r3_017 = 0;
+    uint64_t at = from;
+    for (;;) {
+        char *node = nodes + (at * NODE_SIZE);
+        if (load8(node + NODE_HAS_PAIR) != 1) {
+            abort(); // The proof excludes this.
+        }
+        uint16_t high = load16(node + NODE_HIGH);
+        uint64_t r14 = r3_017 + 1;
+        if (high == NOWHERE_HIGH) {
+            return made_word_word(at, r14);
+        }
+        r3_017 = r14;
+        at = link_of(high, load32(node + NODE_LOW));
+    }
 }
 
 // The node at a place of a chain.
@@ -656,25 +675,25 @@ static ALWAYS_INLINE uint64_t chain_seek(char *pool, uint64_t from, uint64_t pla
     }
     char *nodes = load_address(pool + POOL_NODES);
     uint64_t at = from;
-    uint64_t r2_013 = 0;
+    uint64_t r2_014 = 0;
     for (;;) {
         char *node = nodes + (at * NODE_SIZE);
         if (load8(node + NODE_HAS_PAIR) != 1) {
             abort(); // The proof excludes this.
         }
         uint64_t link = link_of(load16(node + NODE_HIGH), load32(node + NODE_LOW));
-        uint64_t r12 = r2_013 + 1;
+        uint64_t r12 = r2_014 + 1;
         if (r12 == place) {
             return link;
         }
         at = link;
-        r2_013 = r12;
+        r2_014 = r12;
     }
 }
 
 // Removes the first pair of a slot that holds others, which move up by one place.
-// intmap_table::linked::row::removal::take_first_of_several, in crates/intmap_table/src/linked/row/removal.rt
-static ALIGNED NOINLINE struct word_word removal_take_first_of_several(char *slot, uint64_t link, char *pool) {
+// intmap_table::linked::row::removal::pop_front_of_several, in crates/intmap_table/src/linked/row/removal.rt
+static ALIGNED NOINLINE struct word_word removal_pop_front_of_several(char *slot, uint64_t link, char *pool) {
     char *node = load_address(pool + POOL_NODES) + (link * NODE_SIZE);
     if (load8(node + NODE_HAS_PAIR) != 1) {
         abort(); // The proof excludes this.
@@ -690,26 +709,60 @@ static ALIGNED NOINLINE struct word_word removal_take_first_of_several(char *slo
     memset(node + NODE_KEY, 0, PAIR_SIZE);
     store64(pool + POOL_FREE, link);
     store64(pool + POOL_SPARE, load64(pool + POOL_SPARE) + 1);
-    if (load8(slot + SLOT_HAS_PAIR) != 1) {
+    if (load8(slot + NODE_HAS_PAIR) != 1) {
         abort(); // The proof excludes this.
     }
-    store16(slot + SLOT_HIGH, high);
-    store32(slot + SLOT_LOW, low);
-    uint64_t key_2 = load64(slot + SLOT_KEY);
-    uint64_t value_2 = load64(slot + SLOT_VALUE);
-    store64(slot + SLOT_KEY, key);
-    store64(slot + SLOT_VALUE, value);
+    store16(slot + NODE_HIGH, high);
+    store32(slot + NODE_LOW, low);
+    uint64_t key_2 = load64(slot + NODE_KEY);
+    uint64_t value_2 = load64(slot + NODE_VALUE);
+    store64(slot + NODE_KEY, key);
+    store64(slot + NODE_VALUE, value);
     return made_word_word(key_2, value_2);
+}
+
+// std_alloc::vec::Vec::grow_amortized, in Rattle's library std_alloc
+static COLD bool vec_grow_amortized(char *nodes_at) {
+    struct word_word r0;
+    uint64_t nodes_len = load64(nodes_at + POOL_NODES_LEN);
+    if (nodes_len == UINT64_MAX) {
+        return false;
+    }
+    uint64_t nodes_room = load64(nodes_at + POOL_NODES_ROOM);
+    uint64_t x0 = greater(nodes_len, 3);
+    uint64_t a2_a1 = x0 + 1;
+    uint64_t x1 = greater(a2_a1, nodes_room << 1);
+    uint64_t common_ret_op = (nodes_room < UINT64_C(4611686018427387904)) ? x1 : a2_a1;
+    if (common_ret_op >= TOO_MANY(24)) {
+        return false;
+    }
+    if (nodes_room == 0) {
+        struct word_word block = rattle_alloc(x1 * 24, 8);
+        if ((block.first & 1) == 0) {
+            return false;
+        }
+        r0 = block;
+    } else {
+        struct word_word block_2 = rattle_realloc(load_address(nodes_at + POOL_NODES), nodes_len * 24, common_ret_op * 24, 8);
+        if ((block_2.first & 1) == 0) {
+            return false;
+        }
+        r0 = block_2;
+    }
+    store_address(nodes_at + POOL_NODES, (char *)(uintptr_t)r0.second);
+    store64(nodes_at + POOL_NODES_ROOM, common_ret_op);
+    return true;
 }
 
 // Removes the key's pair from a slot that holds several.
 // intmap_table::linked::row::removal::remove_of_several, in crates/intmap_table/src/linked/row/removal.rt
-static ALIGNED NOINLINE struct byte_word removal_remove_of_several(char *slot, uint64_t link, char *pool, uint64_t key) {
-    if (load8(slot + SLOT_HAS_PAIR) != 1) {
+static ALIGNED NOINLINE struct byte_word removal_remove_of_several(char *slot, uint64_t link, char *pool, uint64_t key_number) {
+    if (load8(slot + NODE_HAS_PAIR) != 1) {
         abort(); // The proof excludes this.
     }
-    if (load64(slot + SLOT_KEY) == key) {
-        uint64_t r6, at, r2_0, link_2;
+    if (load64(slot + NODE_KEY) == key_number) {
+        uint32_t low_2;
+        uint64_t r8_2, at, r2_0;
         char *nodes = load_address(pool + POOL_NODES);
         uint64_t r8 = link * NODE_SIZE;
         char *node = nodes + r8;
@@ -717,33 +770,37 @@ static ALIGNED NOINLINE struct byte_word removal_remove_of_several(char *slot, u
             abort(); // The proof excludes this.
         }
         uint16_t high = load16(node + NODE_HIGH);
+        uint32_t low = load32(node + NODE_LOW);
         if (high == NOWHERE_HIGH) {
-            r6 = r8;
+            low_2 = low;
+            r8_2 = r8;
             at = NOWHERE;
             r2_0 = link;
         } else {
-            uint64_t at_2 = link_of(high, load32(node + NODE_LOW));
+            uint64_t at_2 = link_of(high, low);
             uint64_t r2_0_2 = link;
             for (;;) {
-                uint64_t r8_2 = at_2 * NODE_SIZE;
-                char *node_2 = nodes + r8_2;
+                uint64_t r8_3 = at_2 * NODE_SIZE;
+                char *node_2 = nodes + r8_3;
                 if (load8(node_2 + NODE_HAS_PAIR) != 1) {
                     abort(); // The proof excludes this.
                 }
                 uint16_t high_2 = load16(node_2 + NODE_HIGH);
+                uint32_t low_3 = load32(node_2 + NODE_LOW);
                 if (high_2 == NOWHERE_HIGH) {
-                    r6 = r8_2;
+                    low_2 = low_3;
+                    r8_2 = r8_3;
                     at = r2_0_2;
                     r2_0 = at_2;
                     break;
                 }
                 r2_0_2 = at_2;
-                at_2 = link_of(high_2, load32(node_2 + NODE_LOW));
+                at_2 = link_of(high_2, low_3);
             }
         }
-        char *node_3 = nodes + r6;
+        char *node_3 = nodes + r8_2;
         uint64_t free = load64(pool + POOL_FREE);
-        uint64_t key_2 = load64(node_3 + NODE_KEY);
+        uint64_t key = load64(node_3 + NODE_KEY);
         uint64_t value = load64(node_3 + NODE_VALUE);
         store16(node_3 + NODE_HAS_PAIR, 0);
         store16(node_3 + NODE_HIGH, (uint16_t)(free >> 32));
@@ -752,71 +809,75 @@ static ALIGNED NOINLINE struct byte_word removal_remove_of_several(char *slot, u
         store64(pool + POOL_FREE, r2_0);
         store64(pool + POOL_SPARE, load64(pool + POOL_SPARE) + 1);
         if (at > UINT64_C(281470681743359)) {
-            link_2 = NOWHERE;
+            if (load8(slot + NODE_HAS_PAIR) != 1) {
+                abort(); // The proof excludes this.
+            }
+            store16(slot + NODE_HIGH, NOWHERE_HIGH);
+            store32(slot + NODE_LOW, low_2);
         } else {
             char *node_4 = load_address(pool + POOL_NODES) + (at * NODE_SIZE);
             if (load8(node_4 + NODE_HAS_PAIR) != 1) {
                 abort(); // The proof excludes this.
             }
             store16(node_4 + NODE_HIGH, NOWHERE_HIGH);
-            store32(node_4 + NODE_LOW, NOWHERE_LOW);
-            link_2 = link;
+            store32(node_4 + NODE_LOW, low_2);
+            if (load8(slot + NODE_HAS_PAIR) != 1) {
+                abort(); // The proof excludes this.
+            }
         }
-        if (load8(slot + SLOT_HAS_PAIR) != 1) {
-            abort(); // The proof excludes this.
-        }
-        store16(slot + SLOT_HIGH, (uint16_t)(link_2 >> 32));
-        store32(slot + SLOT_LOW, (uint32_t)link_2);
-        uint64_t value_2 = load64(slot + SLOT_VALUE);
-        store64(slot + SLOT_KEY, key_2);
-        store64(slot + SLOT_VALUE, value);
+        uint64_t value_2 = load64(slot + NODE_VALUE);
+        store64(slot + NODE_KEY, key);
+        store64(slot + NODE_VALUE, value);
         return made_byte_word(1, value_2);
     }
     uint64_t nodes_len = load64(pool + POOL_NODES_LEN);
+    if (nodes_len <= link) {
+        return made_byte_word(0, 0);
+    }
+    char *nodes_2 = load_address(pool + POOL_NODES);
     uint64_t at_3 = link;
     uint64_t at_4 = NOWHERE;
     for (;;) {
-        if (nodes_len <= at_3) {
-            return made_byte_word(0, 0);
-        }
-        char *nodes_2 = load_address(pool + POOL_NODES);
-        uint64_t r8_3 = at_3 * NODE_SIZE;
-        char *node_5 = nodes_2 + r8_3;
+        uint64_t r8_4 = at_3 * NODE_SIZE;
+        char *node_5 = nodes_2 + r8_4;
         if (load8(node_5 + NODE_HAS_PAIR) != 1) {
             return made_byte_word(0, 0);
         }
-        uint16_t high_3 = load16(node_5 + NODE_HIGH);
-        uint64_t link_3 = link_of(high_3, load32(node_5 + NODE_LOW));
-        if (load64(node_5 + NODE_KEY) == key) {
-            uint64_t key_3, r6_2, at_5, at_6, link_4, value_4;
+        if (load64(node_5 + NODE_KEY) == key_number) {
+            uint32_t low_5;
+            uint64_t r8_5, at_5, at_6;
+            uint16_t high_3 = load16(node_5 + NODE_HIGH);
+            uint32_t low_4 = load32(node_5 + NODE_LOW);
             if (high_3 == NOWHERE_HIGH) {
-                key_3 = key;
-                r6_2 = r8_3;
+                low_5 = low_4;
+                r8_5 = r8_4;
                 at_5 = at_4;
                 at_6 = at_3;
             } else {
-                uint64_t at_7 = link_3;
+                uint64_t at_7 = link_of(high_3, low_4);
                 uint64_t at_8 = at_3;
                 for (;;) {
-                    uint64_t r8_4 = at_7 * NODE_SIZE;
-                    char *node_6 = nodes_2 + r8_4;
+                    uint64_t r8_6 = at_7 * NODE_SIZE;
+                    char *node_6 = nodes_2 + r8_6;
                     if (load8(node_6 + NODE_HAS_PAIR) != 1) {
                         abort(); // The proof excludes this.
                     }
                     uint16_t high_4 = load16(node_6 + NODE_HIGH);
+                    uint32_t low_6 = load32(node_6 + NODE_LOW);
                     if (high_4 == NOWHERE_HIGH) {
-                        key_3 = load64(node_6 + NODE_KEY);
-                        r6_2 = r8_4;
+                        low_5 = low_6;
+                        r8_5 = r8_6;
                         at_5 = at_8;
                         at_6 = at_7;
                         break;
                     }
                     at_8 = at_7;
-                    at_7 = link_of(high_4, load32(node_6 + NODE_LOW));
+                    at_7 = link_of(high_4, low_6);
                 }
             }
-            char *node_7 = nodes_2 + r6_2;
+            char *node_7 = nodes_2 + r8_5;
             uint64_t free_2 = load64(pool + POOL_FREE);
+            uint64_t key_2 = load64(node_7 + NODE_KEY);
             uint64_t value_3 = load64(node_7 + NODE_VALUE);
             store16(node_7 + NODE_HAS_PAIR, 0);
             store16(node_7 + NODE_HIGH, (uint16_t)(free_2 >> 32));
@@ -825,37 +886,37 @@ static ALIGNED NOINLINE struct byte_word removal_remove_of_several(char *slot, u
             store64(pool + POOL_FREE, at_6);
             store64(pool + POOL_SPARE, load64(pool + POOL_SPARE) + 1);
             if (at_5 > UINT64_C(281470681743359)) {
-                link_4 = NOWHERE;
+                if (load8(slot + NODE_HAS_PAIR) != 1) {
+                    abort(); // The proof excludes this.
+                }
+                store16(slot + NODE_HIGH, NOWHERE_HIGH);
+                store32(slot + NODE_LOW, low_5);
             } else {
                 char *node_8 = load_address(pool + POOL_NODES) + (at_5 * NODE_SIZE);
                 if (load8(node_8 + NODE_HAS_PAIR) != 1) {
                     abort(); // The proof excludes this.
                 }
                 store16(node_8 + NODE_HIGH, NOWHERE_HIGH);
-                store32(node_8 + NODE_LOW, NOWHERE_LOW);
-                link_4 = link;
+                store32(node_8 + NODE_LOW, low_5);
             }
             if (at_6 == at_3) {
-                value_4 = value_3;
-            } else {
-                char *node_9 = load_address(pool + POOL_NODES) + r8_3;
-                if (load8(node_9 + NODE_HAS_PAIR) != 1) {
-                    abort(); // The proof excludes this.
-                }
-                uint64_t value_5 = load64(node_9 + NODE_VALUE);
-                store64(node_9 + NODE_KEY, key_3);
-                store64(node_9 + NODE_VALUE, value_3);
-                value_4 = value_5;
+                return made_byte_word(1, value_3);
             }
-            if (load8(slot + SLOT_HAS_PAIR) != 1) {
+            char *node_9 = load_address(pool + POOL_NODES) + r8_4;
+            if (load8(node_9 + NODE_HAS_PAIR) != 1) {
                 abort(); // The proof excludes this.
             }
-            store16(slot + SLOT_HIGH, (uint16_t)(link_4 >> 32));
-            store32(slot + SLOT_LOW, (uint32_t)link_4);
+            uint64_t value_4 = load64(node_9 + NODE_VALUE);
+            store64(node_9 + NODE_KEY, key_2);
+            store64(node_9 + NODE_VALUE, value_3);
             return made_byte_word(1, value_4);
         }
+        uint64_t link_2 = link_of(load16(node_5 + NODE_HIGH), load32(node_5 + NODE_LOW));
+        if (nodes_len <= link_2) {
+            return made_byte_word(0, 0);
+        }
         at_4 = at_3;
-        at_3 = link_3;
+        at_3 = link_2;
     }
 }
 
@@ -963,9 +1024,9 @@ arm_5:;
         uint64_t r4 = 0;
         uint64_t r4_2 = bits;
         for (;;) {
-            uint64_t r4_4, r4_5, key_2, value_2;
-            uint16_t r19_2, r19_3;
-            uint32_t r19_4;
+            uint64_t r4_4, r4_5;
+            uint16_t r19_2;
+            uint32_t r19_3;
             if (r4_2 == 0) {
                 uint64_t words_len_2 = load64(map + INT_MAP_WORDS_LEN);
                 uint64_t r4_3 = r4;
@@ -996,63 +1057,52 @@ arm_5:;
                 r4_5 = r4_2;
             }
             uint64_t r49 = place_of_lowest_1(r4_5);
-            uint64_t index = r49 | (r4_4 << 6);
+            uint64_t at = r49 | (r4_4 << 6);
             uint64_t r64 = (r4_5 - 1) & r4_5;
-            if (load64(vec + VEC_LEN) <= index) {
-                uint64_t a1_a0 = lesser(index + 64, slots_len_2);
+            if (load64(vec + VEC_LEN) <= at) {
+                uint64_t a1_a0 = lesser(at + 64, slots_len_2);
                 slots_add_empty(vec, a1_a0);
             }
-            uint64_t r63 = index * SLOT_SIZE;
-            char *slot = slots + r63;
-            if (load8(slot + SLOT_HAS_PAIR) == 1) {
-                uint16_t high = load16(slot + SLOT_HIGH);
-                uint64_t value = load64(slot + SLOT_VALUE);
-                uint64_t key = load64(slot + SLOT_KEY);
-                if (high == NOWHERE_HIGH) {
-                    key_2 = key;
-                    value_2 = value;
-                    r19_2 = 1;
-                    r19_3 = NOWHERE_HIGH;
-                    r19_4 = NOWHERE_LOW;
-                } else {
-                    struct byte_word r92 = clone_clone_chain(map + INT_MAP_NODES, link_of(high, load32(slot + SLOT_LOW)), nodes_at);
-                    if (r92.first != 0) {
-                        memset(r0_24, 0, 24);
-                        memset(r0_25, 0, 40);
-                        if (load64(nodes_at + POOL_NODES_ROOM) != 0) {
-                            rattle_dealloc(load_address(nodes_at + POOL_NODES));
-                        }
-                        if (!r12_2) {
-                            rattle_dealloc(r20);
-                        }
-                        if (load64(vec + VEC_ROOM) != 0) {
-                            rattle_dealloc(load_address(vec + VEC_ADDRESS));
-                        }
-                        store8(result + MADE_SLOTS_HAS_FAILED, 1);
-                        memset(result + MADE_SLOTS_MASK, 0, 32);
-                        memcpy(result + MADE_SLOTS_SLOTS, r0_24, VEC_SIZE);
-                        memcpy(result + MADE_SLOTS_NODES, r0_25, POOL_SIZE);
-                        return;
-                    }
-                    key_2 = key;
-                    value_2 = value;
-                    r19_2 = 1;
-                    r19_3 = (uint16_t)(r92.second >> 32);
-                    r19_4 = (uint32_t)r92.second;
-                }
+            uint64_t r63 = at * NODE_SIZE;
+            char *node = slots + r63;
+            if (load8(node + NODE_HAS_PAIR) != 1) {
+                abort(); // The proof excludes this.
+            }
+            uint16_t high = load16(node + NODE_HIGH);
+            uint64_t value = load64(node + NODE_VALUE);
+            uint64_t key = load64(node + NODE_KEY);
+            if (high == NOWHERE_HIGH) {
+                r19_2 = NOWHERE_HIGH;
+                r19_3 = NOWHERE_LOW;
             } else {
-                key_2 = 0;
-                value_2 = 0;
-                r19_2 = 0;
-                r19_3 = 0;
-                r19_4 = 0;
+                struct byte_word r72 = clone_clone_chain(map + INT_MAP_NODES, link_of(high, load32(node + NODE_LOW)), nodes_at);
+                if (r72.first != 0) {
+                    memset(r0_24, 0, 24);
+                    memset(r0_25, 0, 40);
+                    if (load64(nodes_at + POOL_NODES_ROOM) != 0) {
+                        rattle_dealloc(load_address(nodes_at + POOL_NODES));
+                    }
+                    if (!r12_2) {
+                        rattle_dealloc(r20);
+                    }
+                    if (load64(vec + VEC_ROOM) != 0) {
+                        rattle_dealloc(load_address(vec + VEC_ADDRESS));
+                    }
+                    store8(result + MADE_SLOTS_HAS_FAILED, 1);
+                    memset(result + MADE_SLOTS_MASK, 0, 32);
+                    memcpy(result + MADE_SLOTS_SLOTS, r0_24, VEC_SIZE);
+                    memcpy(result + MADE_SLOTS_NODES, r0_25, POOL_SIZE);
+                    return;
+                }
+                r19_2 = (uint16_t)(r72.second >> 32);
+                r19_3 = (uint32_t)r72.second;
             }
             char *r9 = load_address(vec + VEC_ADDRESS) + r63;
-            store16(r9, r19_2);
-            store16(r9 + 2, r19_3);
-            store32(r9 + 4, r19_4);
-            store64(r9 + 8, key_2);
-            store64(r9 + 16, value_2);
+            store16(r9, 1);
+            store16(r9 + 2, r19_2);
+            store32(r9 + 4, r19_3);
+            store64(r9 + 8, key);
+            store64(r9 + 16, value);
             r4 = r4_4;
             r4_2 = r64;
         }
@@ -1109,7 +1159,7 @@ static ALWAYS_INLINE void pool_add_new(char *result, char *nodes_at, uint64_t li
     if (nodes_len != NODE_LIMIT) {
         uint64_t nodes_len_2;
         if (load64(nodes_at + POOL_NODES_ROOM) == nodes_len) {
-            bool r24 = vec_grow_amortized(nodes_at);
+            bool r24 = vec_grow_amortized_2(nodes_at, 1);
             if (!r24) {
                 goto join_5;
             }
@@ -1136,35 +1186,34 @@ join_5:;
 }
 
 // std_alloc::vec::Vec::grow_amortized, in Rattle's library std_alloc
-static COLD bool vec_grow_amortized(char *nodes_at) {
+static COLD bool vec_grow_amortized_2(char *vec, uint64_t a1) {
     struct word_word r0;
-    uint64_t nodes_len = load64(nodes_at + POOL_NODES_LEN);
-    if (nodes_len == UINT64_MAX) {
+    uint64_t len = load64(vec + VEC_LEN);
+    if (a1 > (~len)) {
         return false;
     }
-    uint64_t nodes_room = load64(nodes_at + POOL_NODES_ROOM);
-    uint64_t x0 = greater(nodes_len, 3);
-    uint64_t a2_a1 = x0 + 1;
-    uint64_t x1 = greater(a2_a1, nodes_room << 1);
-    uint64_t common_ret_op = (nodes_room < UINT64_C(4611686018427387904)) ? x1 : a2_a1;
+    uint64_t room = load64(vec + VEC_ROOM);
+    uint64_t a2_a1 = greater(len + a1, 4);
+    uint64_t x0 = greater(a2_a1, room << 1);
+    uint64_t common_ret_op = (room < UINT64_C(4611686018427387904)) ? x0 : a2_a1;
     if (common_ret_op >= TOO_MANY(24)) {
         return false;
     }
-    if (nodes_room == 0) {
-        struct word_word block = rattle_alloc(x1 * 24, 8);
+    if (room == 0) {
+        struct word_word block = rattle_alloc(x0 * 24, 8);
         if ((block.first & 1) == 0) {
             return false;
         }
         r0 = block;
     } else {
-        struct word_word block_2 = rattle_realloc(load_address(nodes_at + POOL_NODES), nodes_len * 24, common_ret_op * 24, 8);
+        struct word_word block_2 = rattle_realloc(load_address(vec + VEC_ADDRESS), len * 24, common_ret_op * 24, 8);
         if ((block_2.first & 1) == 0) {
             return false;
         }
         r0 = block_2;
     }
-    store_address(nodes_at + POOL_NODES, (char *)(uintptr_t)r0.second);
-    store64(nodes_at + POOL_NODES_ROOM, common_ret_op);
+    store_address(vec + VEC_ADDRESS, (char *)(uintptr_t)r0.second);
+    store64(vec + VEC_ROOM, common_ret_op);
     return true;
 }
 
@@ -1203,38 +1252,6 @@ static ALIGNED NOINLINE void slots_add_empty(char *slots, uint64_t count) {
         }
         r2 = r41;
     }
-}
-
-// std_alloc::vec::Vec::grow_amortized, in Rattle's library std_alloc
-static COLD bool vec_grow_amortized_2(char *vec, uint64_t a1) {
-    struct word_word r0;
-    uint64_t len = load64(vec + VEC_LEN);
-    if (a1 > (~len)) {
-        return false;
-    }
-    uint64_t room = load64(vec + VEC_ROOM);
-    uint64_t a2_a1 = greater(len + a1, 4);
-    uint64_t x0 = greater(a2_a1, room << 1);
-    uint64_t common_ret_op = (room < UINT64_C(4611686018427387904)) ? x0 : a2_a1;
-    if (common_ret_op >= TOO_MANY(24)) {
-        return false;
-    }
-    if (room == 0) {
-        struct word_word block = rattle_alloc(x0 * 24, 8);
-        if ((block.first & 1) == 0) {
-            return false;
-        }
-        r0 = block;
-    } else {
-        struct word_word block_2 = rattle_realloc(load_address(vec + VEC_ADDRESS), len * 24, common_ret_op * 24, 8);
-        if ((block_2.first & 1) == 0) {
-            return false;
-        }
-        r0 = block_2;
-    }
-    store_address(vec + VEC_ADDRESS, (char *)(uintptr_t)r0.second);
-    store64(vec + VEC_ROOM, common_ret_op);
-    return true;
 }
 
 // Puts a new map into the handle and returns `OK`.
@@ -1462,10 +1479,10 @@ static ALIGNED NOINLINE struct byte_address handle_make_first(void) {
 
 // Adds the pair of an absent key, if the slots don't take one more, and returns where it is.
 // intmap::map::IntMap::add_growing, in crates/intmap/src/map/insert.rt
-static ALIGNED NOINLINE void intmap_add_growing(char *result, char *map, uint64_t slot, uint64_t key, uint64_t value) {
+static ALIGNED NOINLINE void intmap_add_growing(char *result, char *map, uint64_t slot, uint64_t key_key, uint64_t key_number, uint64_t value) {
     u128 r15;
-    uint64_t r0, x2, r17_2, r17_3, r22, r22_3;
-    uint8_t r22_2;
+    uint64_t r0, x2, r19, r19_2, r25, r25_3;
+    uint8_t r25_2;
     uint64_t r4_room[3];
     char *r4 = (char *)r4_room;
     uint64_t len = load64(map + INT_MAP_LEN);
@@ -1477,9 +1494,9 @@ static ALIGNED NOINLINE void intmap_add_growing(char *result, char *map, uint64_
         store64(result + 24, 0);
         return;
     }
-    uint64_t r45 = len + 1;
+    uint64_t r49 = len + 1;
     uint64_t slots_len = load64(map + INT_MAP_SLOTS_LEN);
-    u128 r10 = u128_mul(u128_of(r45), u128_of(1000u));
+    u128 r10 = u128_mul(u128_of(r49), u128_of(1000u));
     u128 r13 = u128_add(u128_of(load64(map + INT_MAP_FACTOR)), u128_of(1u));
     u128 r187 = u128_mul(r13, u128_of(slots_len));
     if (u128_above(r187, r10)) {
@@ -1508,28 +1525,28 @@ static ALIGNED NOINLINE void intmap_add_growing(char *result, char *map, uint64_
     }
     u128 r17 = u128_less_one(r15);
     uint64_t r8_0 = u128_above(r17, u128_two(999, UINT64_MAX)) ? UINT64_MAX : u128_low(u128_div(r17, u128_of(1000u)));
-    uint64_t r2 = r0 - 1;
-    uint64_t index = r2 & (key * MULTIPLIER);
+    uint64_t r4_2 = r0 - 1;
+    uint64_t index = r4_2 & (key_number * MULTIPLIER);
     uint64_t nodes_len = load64(map + INT_MAP_NODES_LEN);
     uint64_t r10_2 = nodes_len - load64(map + INT_MAP_SPARE);
-    char *slot_2 = load_address(map + INT_MAP_SLOTS) + (slot * SLOT_SIZE);
-    if (load8(slot_2 + SLOT_HAS_PAIR) == 1) {
-        if (((load64(slot_2 + SLOT_KEY) * MULTIPLIER) & r2) != index) {
-            uint64_t at = link_of(load16(slot_2 + SLOT_HIGH), load32(slot_2 + SLOT_LOW));
+    char *node = load_address(map + INT_MAP_SLOTS) + (slot * NODE_SIZE);
+    if (load8(node + NODE_HAS_PAIR) == 1) {
+        if (((load64(node + NODE_KEY) * MULTIPLIER) & r4_2) != index) {
+            uint64_t at = link_of(load16(node + NODE_HIGH), load32(node + NODE_LOW));
             for (;;) {
                 if (nodes_len <= at) {
                     x2 = r10_2;
                     goto after_Slots_needed;
                 }
-                char *node = load_address(map + INT_MAP_NODES) + (at * NODE_SIZE);
-                if (load8(node + NODE_HAS_PAIR) != 1) {
+                char *node_2 = load_address(map + INT_MAP_NODES) + (at * NODE_SIZE);
+                if (load8(node_2 + NODE_HAS_PAIR) != 1) {
                     x2 = r10_2;
                     goto after_Slots_needed;
                 }
-                if (((load64(node + NODE_KEY) * MULTIPLIER) & r2) == index) {
+                if (((load64(node_2 + NODE_KEY) * MULTIPLIER) & r4_2) == index) {
                     break;
                 }
-                at = link_of(load16(node + NODE_HIGH), load32(node + NODE_LOW));
+                at = link_of(load16(node_2 + NODE_HIGH), load32(node_2 + NODE_LOW));
             }
         }
         x2 = r10_2 + 1;
@@ -1539,28 +1556,28 @@ static ALIGNED NOINLINE void intmap_add_growing(char *result, char *map, uint64_
 after_Slots_needed:;
     uint8_t r18_2 = slots_enlarge(map, r0, x2);
     if ((r18_2 & 1) != 0) {
-        r17_2 = value;
-        r17_3 = 1;
-        r22 = 0;
-        r22_2 = 0;
-        r22_3 = 0;
+        r19 = value;
+        r19_2 = 1;
+        r25 = 0;
+        r25_2 = 0;
+        r25_3 = 0;
     } else {
         uint64_t common_ret_op;
-        char *slot_3 = load_address(map + INT_MAP_SLOTS) + (index * SLOT_SIZE);
-        uint8_t has_pair = load8(slot_3 + SLOT_HAS_PAIR);
+        char *node_3 = load_address(map + INT_MAP_SLOTS) + (index * NODE_SIZE);
+        uint8_t has_pair = load8(node_3 + NODE_HAS_PAIR);
         if (has_pair == 1) {
             memset(r4, 0, 24);
-            insertion_push_further(r4, slot_3, map + INT_MAP_NODES, key, value);
+            insertion_push_further(r4, node_3, map + INT_MAP_NODES, key_key, value);
             if (load8(r4) != 0) {
                 abort(); // The proof excludes this.
             }
             common_ret_op = load64(r4 + 8);
         } else {
-            store16(slot_3 + SLOT_HAS_PAIR, 1);
-            store16(slot_3 + SLOT_HIGH, NOWHERE_HIGH);
-            store32(slot_3 + SLOT_LOW, NOWHERE_LOW);
-            store64(slot_3 + SLOT_KEY, key);
-            store64(slot_3 + SLOT_VALUE, value);
+            store16(node_3 + NODE_HAS_PAIR, 1);
+            store16(node_3 + NODE_HIGH, NOWHERE_HIGH);
+            store32(node_3 + NODE_LOW, NOWHERE_LOW);
+            store64(node_3 + NODE_KEY, key_key);
+            store64(node_3 + NODE_VALUE, value);
             if (has_pair != 0) {
                 abort(); // The proof excludes this.
             }
@@ -1568,19 +1585,19 @@ after_Slots_needed:;
         }
         char *r11 = load_address(map + INT_MAP_WORDS) + ((index >> 3) & UINT64_C(0x1FFFFFFFFFFFFFF8));
         store64(r11, load64(r11) | ((uint64_t)1 << (index & 63)));
-        store64(map + INT_MAP_LEN, r45);
+        store64(map + INT_MAP_LEN, r49);
         store64(map + INT_MAP_THRESHOLD, r8_0);
-        r17_2 = key;
-        r17_3 = 0;
-        r22 = (uint64_t)((index >> 8) & UINT64_C(72057594037927935));
-        r22_2 = (uint8_t)index;
-        r22_3 = common_ret_op;
+        r19 = key_key;
+        r19_2 = 0;
+        r25 = (uint64_t)((index >> 8) & UINT64_C(72057594037927935));
+        r25_2 = (uint8_t)index;
+        r25_3 = common_ret_op;
     }
-    store64(result, r17_3);
-    store64(result + 8, r17_2);
-    store8(result + 16, r22_2);
-    store_bytes(result + 17, r22, 7);
-    store64(result + 24, r22_3);
+    store64(result, r19_2);
+    store64(result + 8, r19);
+    store8(result + 16, r25_2);
+    store_bytes(result + 17, r25, 7);
+    store64(result + 24, r25_3);
 }
 
 // Adds slots, so that there are `capacity`, and moves all pairs, in the order of the walk, to their slots among
@@ -1708,98 +1725,98 @@ static ALIGNED uint8_t slots_enlarge(char *map, uint64_t capacity, uint64_t room
                 r0_6 = r0_3;
             }
             uint64_t r49 = place_of_lowest_1(r0_6);
-            uint64_t index = r49 | (r0_5 << 6);
+            uint64_t at = r49 | (r0_5 << 6);
             uint64_t r64 = (r0_6 - 1) & r0_6;
-            char *slot = load_address(map + INT_MAP_SLOTS) + (index * SLOT_SIZE);
-            if (load8(slot + SLOT_HAS_PAIR) != 1) {
+            char *node = load_address(map + INT_MAP_SLOTS) + (at * NODE_SIZE);
+            if (load8(node + NODE_HAS_PAIR) != 1) {
                 abort(); // The proof excludes this.
             }
-            uint16_t high = load16(slot + SLOT_HIGH);
-            uint64_t link = link_of(high, load32(slot + SLOT_LOW));
-            uint64_t key = load_key(slot + SLOT_KEY);
-            uint64_t index_2 = (key * MULTIPLIER) & invariant_op7;
-            uint64_t index_3 = index_2 + index;
-            uint64_t value = load64(slot + SLOT_VALUE);
-            memset(slot, 0, SLOT_SIZE);
-            char *slot_2 = load_address(map + INT_MAP_SLOTS) + (index_3 * SLOT_SIZE);
-            uint8_t has_pair = load8(slot_2 + SLOT_HAS_PAIR);
+            uint16_t high = load16(node + NODE_HIGH);
+            uint64_t link = link_of(high, load32(node + NODE_LOW));
+            uint64_t key = load_key(node + NODE_KEY);
+            uint64_t index = (key * MULTIPLIER) & invariant_op7;
+            uint64_t at_2 = index + at;
+            uint64_t value = load64(node + NODE_VALUE);
+            memset(node, 0, NODE_SIZE);
+            char *node_2 = load_address(map + INT_MAP_SLOTS) + (at_2 * NODE_SIZE);
+            uint8_t has_pair = load8(node_2 + NODE_HAS_PAIR);
             if (has_pair == 1) {
-                growth_put_before_first(slot_2, r4, key, value);
+                growth_put_before_first(node_2, r4, key, value);
             } else {
-                store16(slot_2 + SLOT_HAS_PAIR, 1);
-                store16(slot_2 + SLOT_HIGH, NOWHERE_HIGH);
-                store32(slot_2 + SLOT_LOW, NOWHERE_LOW);
-                store64(slot_2 + SLOT_KEY, key);
-                store64(slot_2 + SLOT_VALUE, value);
+                store16(node_2 + NODE_HAS_PAIR, 1);
+                store16(node_2 + NODE_HIGH, NOWHERE_HIGH);
+                store32(node_2 + NODE_LOW, NOWHERE_LOW);
+                store64(node_2 + NODE_KEY, key);
+                store64(node_2 + NODE_VALUE, value);
                 if (has_pair != 0) {
                     abort(); // The proof excludes this.
                 }
             }
-            char *r11 = r9 + ((index_3 >> 3) & UINT64_C(0x1FFFFFFFFFFFFFF8));
-            store64(r11, load64(r11) | ((uint64_t)1 << (index_3 & 63)));
+            char *r11 = r9 + ((at_2 >> 3) & UINT64_C(0x1FFFFFFFFFFFFFF8));
+            store64(r11, load64(r11) | ((uint64_t)1 << (at_2 & 63)));
             if (high != NOWHERE_HIGH) {
-                uint64_t at = NOWHERE;
-                uint64_t at_2 = link;
+                uint64_t at_3 = NOWHERE;
+                uint64_t at_4 = link;
                 for (;;) {
-                    char *node = load_address(map + INT_MAP_NODES) + (at_2 * NODE_SIZE);
-                    if (load8(node + NODE_HAS_PAIR) != 1) {
+                    char *node_3 = load_address(map + INT_MAP_NODES) + (at_4 * NODE_SIZE);
+                    if (load8(node_3 + NODE_HAS_PAIR) != 1) {
                         abort(); // The proof excludes this.
                     }
-                    uint16_t high_2 = load16(node + NODE_HIGH);
-                    uint64_t link_2 = link_of(high_2, load32(node + NODE_LOW));
-                    store16(node + NODE_HIGH, (uint16_t)(at >> 32));
-                    store32(node + NODE_LOW, (uint32_t)at);
+                    uint16_t high_2 = load16(node_3 + NODE_HIGH);
+                    uint64_t link_2 = link_of(high_2, load32(node_3 + NODE_LOW));
+                    store16(node_3 + NODE_HIGH, (uint16_t)(at_3 >> 32));
+                    store32(node_3 + NODE_LOW, (uint32_t)at_3);
                     if (high_2 == NOWHERE_HIGH) {
-                        if (at_2 >= NODE_LIMIT) {
+                        if (at_4 >= NODE_LIMIT) {
                             break;
                         }
-                        uint64_t at_3 = at_2;
+                        uint64_t at_5 = at_4;
                         for (;;) {
-                            char *node_2 = load_address(map + INT_MAP_NODES) + (at_3 * NODE_SIZE);
-                            if (load8(node_2 + NODE_HAS_PAIR) != 1) {
+                            char *node_4 = load_address(map + INT_MAP_NODES) + (at_5 * NODE_SIZE);
+                            if (load8(node_4 + NODE_HAS_PAIR) != 1) {
                                 abort(); // The proof excludes this.
                             }
-                            uint64_t key_2 = load_key(node_2 + NODE_KEY);
-                            uint64_t index_4 = (key_2 * MULTIPLIER) & invariant_op;
-                            uint64_t index_5 = index_4 + index;
-                            uint16_t high_3 = load16(node_2 + NODE_HIGH);
-                            uint64_t link_3 = link_of(high_3, load32(node_2 + NODE_LOW));
+                            uint64_t key_2 = load_key(node_4 + NODE_KEY);
+                            uint64_t index_2 = (key_2 * MULTIPLIER) & invariant_op;
+                            uint64_t at_6 = index_2 + at;
+                            uint16_t high_3 = load16(node_4 + NODE_HIGH);
+                            uint64_t link_3 = link_of(high_3, load32(node_4 + NODE_LOW));
                             uint64_t free = load64(map + INT_MAP_FREE);
-                            uint64_t value_2 = load64(node_2 + NODE_VALUE);
-                            store16(node_2 + NODE_HAS_PAIR, 0);
-                            store16(node_2 + NODE_HIGH, (uint16_t)(free >> 32));
-                            store32(node_2 + NODE_LOW, (uint32_t)free);
-                            memset(node_2 + NODE_KEY, 0, PAIR_SIZE);
-                            store64(map + INT_MAP_FREE, at_3);
+                            uint64_t value_2 = load64(node_4 + NODE_VALUE);
+                            store16(node_4 + NODE_HAS_PAIR, 0);
+                            store16(node_4 + NODE_HIGH, (uint16_t)(free >> 32));
+                            store32(node_4 + NODE_LOW, (uint32_t)free);
+                            memset(node_4 + NODE_KEY, 0, PAIR_SIZE);
+                            store64(map + INT_MAP_FREE, at_5);
                             store64(map + INT_MAP_SPARE, load64(map + INT_MAP_SPARE) + 1);
-                            char *slot_3 = load_address(map + INT_MAP_SLOTS) + (index_5 * SLOT_SIZE);
-                            uint8_t has_pair_2 = load8(slot_3 + SLOT_HAS_PAIR);
+                            char *node_5 = load_address(map + INT_MAP_SLOTS) + (at_6 * NODE_SIZE);
+                            uint8_t has_pair_2 = load8(node_5 + NODE_HAS_PAIR);
                             if (has_pair_2 == 1) {
-                                if (index_2 == index_4) {
-                                    growth_put_behind_first(slot_3, r4, key_2, value_2);
+                                if (index == index_2) {
+                                    growth_put_behind_first(node_5, r4, key_2, value_2);
                                 } else {
-                                    growth_put_before_first(slot_3, r4, key_2, value_2);
+                                    growth_put_before_first(node_5, r4, key_2, value_2);
                                 }
                             } else {
-                                store16(slot_3 + SLOT_HAS_PAIR, 1);
-                                store16(slot_3 + SLOT_HIGH, NOWHERE_HIGH);
-                                store32(slot_3 + SLOT_LOW, NOWHERE_LOW);
-                                store64(slot_3 + SLOT_KEY, key_2);
-                                store64(slot_3 + SLOT_VALUE, value_2);
+                                store16(node_5 + NODE_HAS_PAIR, 1);
+                                store16(node_5 + NODE_HIGH, NOWHERE_HIGH);
+                                store32(node_5 + NODE_LOW, NOWHERE_LOW);
+                                store64(node_5 + NODE_KEY, key_2);
+                                store64(node_5 + NODE_VALUE, value_2);
                                 if (has_pair_2 != 0) {
                                     abort(); // The proof excludes this.
                                 }
                             }
-                            char *r11_2 = r9 + ((index_5 >> 3) & UINT64_C(0x1FFFFFFFFFFFFFF8));
-                            store64(r11_2, load64(r11_2) | ((uint64_t)1 << (index_5 & 63)));
+                            char *r11_2 = r9 + ((at_6 >> 3) & UINT64_C(0x1FFFFFFFFFFFFFF8));
+                            store64(r11_2, load64(r11_2) | ((uint64_t)1 << (at_6 & 63)));
                             if (high_3 == NOWHERE_HIGH) {
                                 goto loop_2_backedge;
                             }
-                            at_3 = link_3;
+                            at_5 = link_3;
                         }
                     }
-                    at = at_2;
-                    at_2 = link_2;
+                    at_3 = at_4;
+                    at_4 = link_2;
                 }
             }
         loop_2_backedge:;
@@ -1822,7 +1839,7 @@ arm_7:;
         memset(map + INT_MAP_SLOTS_LEN, 0, 16);
         return 1;
     }
-    uint64_t r12_2 = slots_len_2 * SLOT_SIZE;
+    uint64_t r12_2 = slots_len_2 * NODE_SIZE;
     struct word_word block_5 = rattle_realloc(load_address(map + INT_MAP_SLOTS), r12_2, r12_2, 8);
     if ((block_5.first & 1) == 0) {
         return 1;
@@ -1834,19 +1851,19 @@ arm_7:;
 
 // Puts a pair before the first one of a slot that holds some, and returns its place.
 // intmap_table::linked::row::growth::put_before_first, in crates/intmap_table/src/linked/row/growth.rt
-static ALIGNED NOINLINE void growth_put_before_first(char *slot, char *a1, uint64_t a2, uint64_t a3) {
+static ALIGNED NOINLINE void growth_put_before_first(char *node, char *a1, uint64_t a2, uint64_t a3) {
     uint64_t r10;
     uint64_t r0_room[3];
     char *r0 = (char *)r0_room;
-    if (load8(slot + SLOT_HAS_PAIR) != 1) {
+    if (load8(node + NODE_HAS_PAIR) != 1) {
         abort(); // The proof excludes this.
     }
-    uint16_t high = load16(slot + SLOT_HIGH);
-    uint32_t low = load32(slot + SLOT_LOW);
-    uint64_t key = load64(slot + SLOT_KEY);
-    uint64_t value = load64(slot + SLOT_VALUE);
-    store64(slot + SLOT_KEY, a2);
-    store64(slot + SLOT_VALUE, a3);
+    uint16_t high = load16(node + NODE_HIGH);
+    uint32_t low = load32(node + NODE_LOW);
+    uint64_t key = load64(node + NODE_KEY);
+    uint64_t value = load64(node + NODE_VALUE);
+    store64(node + NODE_KEY, a2);
+    store64(node + NODE_VALUE, a3);
     uint64_t r19 = load64(a1 + 32);
     if (r19 == 0) {
         pool_add_new(r0, a1, link_of(high, low), key, value);
@@ -1873,24 +1890,24 @@ static ALIGNED NOINLINE void growth_put_before_first(char *slot, char *a1, uint6
         }
         r10 = r34;
     }
-    if (load8(slot + SLOT_HAS_PAIR) != 1) {
+    if (load8(node + NODE_HAS_PAIR) != 1) {
         abort(); // The proof excludes this.
     }
-    store16(slot + SLOT_HIGH, (uint16_t)(r10 >> 32));
-    store32(slot + SLOT_LOW, (uint32_t)r10);
+    store16(node + NODE_HIGH, (uint16_t)(r10 >> 32));
+    store32(node + NODE_LOW, (uint32_t)r10);
 }
 
 // Puts a pair behind the first one of a slot that holds some, and returns its place.
 // intmap_table::linked::row::growth::put_behind_first, in crates/intmap_table/src/linked/row/growth.rt
-static ALIGNED NOINLINE void growth_put_behind_first(char *slot, char *a1, uint64_t a2, uint64_t a3) {
+static ALIGNED NOINLINE void growth_put_behind_first(char *node, char *a1, uint64_t a2, uint64_t a3) {
     uint64_t r7;
     uint64_t r0_room[3];
     char *r0 = (char *)r0_room;
-    if (load8(slot + SLOT_HAS_PAIR) != 1) {
+    if (load8(node + NODE_HAS_PAIR) != 1) {
         abort(); // The proof excludes this.
     }
-    uint16_t high = load16(slot + SLOT_HIGH);
-    uint32_t low = load32(slot + SLOT_LOW);
+    uint16_t high = load16(node + NODE_HIGH);
+    uint32_t low = load32(node + NODE_LOW);
     uint64_t r19 = load64(a1 + 32);
     if (r19 == 0) {
         pool_add_new(r0, a1, link_of(high, low), a2, a3);
@@ -1917,70 +1934,36 @@ static ALIGNED NOINLINE void growth_put_behind_first(char *slot, char *a1, uint6
         }
         r7 = r34;
     }
-    if (load8(slot + SLOT_HAS_PAIR) != 1) {
+    if (load8(node + NODE_HAS_PAIR) != 1) {
         abort(); // The proof excludes this.
     }
-    store16(slot + SLOT_HIGH, (uint16_t)(r7 >> 32));
-    store32(slot + SLOT_LOW, (uint32_t)r7);
+    store16(node + NODE_HIGH, (uint16_t)(r7 >> 32));
+    store32(node + NODE_LOW, (uint32_t)r7);
 }
 
 // Puts a pair last, and returns its place.
 // intmap_table::linked::row::insertion::push_further, in crates/intmap_table/src/linked/row/insertion.rt
 static ALIGNED NOINLINE void insertion_push_further(char *result, char *slot, char *pool, uint64_t a3, uint64_t a4) {
-    uint64_t spare, r13_6_8_copyload102, r4_0, r11, r11_2, r8;
+    uint64_t r7;
     uint64_t r0_room[3];
     char *r0 = (char *)r0_room;
-    uint64_t r0_2_room[3];
-    char *r0_2 = (char *)r0_2_room;
-    if (load8(slot + SLOT_HAS_PAIR) != 1) {
+    if (load8(slot + NODE_HAS_PAIR) != 1) {
         abort(); // The proof excludes this.
     }
-    uint16_t high = load16(slot + SLOT_HIGH);
-    uint64_t link = link_of(high, load32(slot + SLOT_LOW));
-    if (high != NOWHERE_HIGH) {
-        uint64_t r21;
-        struct word_word at = chain_last_in(pool, link);
-        uint64_t spare_2 = load64(pool + POOL_SPARE);
-        if (spare_2 == 0) {
-            pool_add_new(r0_2, pool, NOWHERE, a3, a4);
-            uint64_t r21_6_8_copyload99 = load64(r0_2 + 8);
-            if (load8(r0_2) != 0) {
-                r11_2 = r21_6_8_copyload99;
-                r8 = load64(r0_2 + 16);
-                goto arm_7;
-            }
-            r21 = r21_6_8_copyload99;
-        } else {
-            uint64_t free_2 = load64(pool + POOL_FREE);
-            char *node_2 = load_address(pool + POOL_NODES) + (free_2 * NODE_SIZE);
-            if (load8(node_2 + NODE_HAS_PAIR) != 0) {
-                abort(); // The proof excludes this.
-            }
-            store64(pool + POOL_FREE, link_of(load16(node_2 + NODE_HIGH), load32(node_2 + NODE_LOW)));
-            store64(pool + POOL_SPARE, spare_2 - 1);
-            uint8_t has_pair_2 = load8(node_2 + NODE_HAS_PAIR);
-            store16(node_2 + NODE_HAS_PAIR, 1);
-            store16(node_2 + NODE_HIGH, NOWHERE_HIGH);
-            store32(node_2 + NODE_LOW, NOWHERE_LOW);
-            store64(node_2 + NODE_KEY, a3);
-            store64(node_2 + NODE_VALUE, a4);
-            if (has_pair_2 != 0) {
-                abort(); // The proof excludes this.
-            }
-            r21 = free_2;
+    struct word_word at = chain_last_in_2(pool, link_of(load16(slot + NODE_HIGH), load32(slot + NODE_LOW)));
+    uint64_t spare = load64(pool + POOL_SPARE);
+    if (spare == 0) {
+        pool_add_new(r0, pool, NOWHERE, a3, a4);
+        uint64_t r7_6_8_copyload35 = load64(r0 + 8);
+        uint64_t r7_9_8_copyload36 = load64(r0 + 16);
+        if (load8(r0) != 0) {
+            store64(result, 1);
+            store64(result + 8, r7_6_8_copyload35);
+            store64(result + 16, r7_9_8_copyload36);
+            return;
         }
-        char *node_3 = load_address(pool + POOL_NODES) + (at.first * NODE_SIZE);
-        if (load8(node_3 + NODE_HAS_PAIR) != 1) {
-            abort(); // The proof excludes this.
-        }
-        store16(node_3 + NODE_HIGH, (uint16_t)(r21 >> 32));
-        store32(node_3 + NODE_LOW, (uint32_t)r21);
-        r4_0 = link;
-        r11 = at.second + 2;
-        goto arm_6;
-    }
-    spare = load64(pool + POOL_SPARE);
-    if (spare != 0) {
+        r7 = r7_6_8_copyload35;
+    } else {
         uint64_t free = load64(pool + POOL_FREE);
         char *node = load_address(pool + POOL_NODES) + (free * NODE_SIZE);
         if (load8(node + NODE_HAS_PAIR) != 0) {
@@ -1997,69 +1980,56 @@ static ALIGNED NOINLINE void insertion_push_further(char *result, char *slot, ch
         if (has_pair != 0) {
             abort(); // The proof excludes this.
         }
-        r4_0 = free;
-        r11 = 1;
-        goto arm_6;
+        r7 = free;
     }
-    pool_add_new(r0, pool, NOWHERE, a3, a4);
-    r13_6_8_copyload102 = load64(r0 + 8);
-    if (load8(r0) == 0) {
-        r4_0 = r13_6_8_copyload102;
-        r11 = 1;
-        goto arm_6;
-    }
-    r11_2 = r13_6_8_copyload102;
-    r8 = load64(r0 + 16);
-arm_7:;
-    store64(result, 1);
-    store64(result + 8, r11_2);
-    store64(result + 16, r8);
-    return;
-arm_6:;
-    if (load8(slot + SLOT_HAS_PAIR) != 1) {
-        abort(); // The proof excludes this.
-    }
-    store16(slot + SLOT_HIGH, (uint16_t)(r4_0 >> 32));
-    store32(slot + SLOT_LOW, (uint32_t)r4_0);
-    store64(result, 0);
-    store64(result + 8, r11);
-    store64(result + 16, 0);
-}
-
-// The last node of a chain, and its place there.
-// intmap_table::linked::chain::last_in, in crates/intmap_table/src/linked/chain.rt
-static ALWAYS_INLINE struct word_word chain_last_in(char *pool, uint64_t from) {
-    char *nodes = load_address(pool + POOL_NODES);
-    char *node = nodes + (from * NODE_SIZE);
-    if (load8(node + NODE_HAS_PAIR) != 1) {
-        abort(); // The proof excludes this.
-    }
-    uint16_t high = load16(node + NODE_HIGH);
-    if (high == NOWHERE_HIGH) {
-        return made_word_word(from, 0);
-    }
-    uint64_t at = link_of(high, load32(node + NODE_LOW));
-    uint64_t r2_048 = 0;
-    for (;;) {
-        char *node_2 = nodes + (at * NODE_SIZE);
+    if (at.first > UINT64_C(281470681743359)) {
+        if (load8(slot + NODE_HAS_PAIR) != 1) {
+            abort(); // The proof excludes this.
+        }
+        store16(slot + NODE_HIGH, (uint16_t)(r7 >> 32));
+        store32(slot + NODE_LOW, (uint32_t)r7);
+    } else {
+        char *node_2 = load_address(pool + POOL_NODES) + (at.first * NODE_SIZE);
         if (load8(node_2 + NODE_HAS_PAIR) != 1) {
             abort(); // The proof excludes this.
         }
-        uint64_t r14 = r2_048 + 1;
-        uint16_t high_2 = load16(node_2 + NODE_HIGH);
-        if (high_2 == NOWHERE_HIGH) {
+        store16(node_2 + NODE_HIGH, (uint16_t)(r7 >> 32));
+        store32(node_2 + NODE_LOW, (uint32_t)r7);
+    }
+    store64(result, 0);
+    store64(result + 8, at.second + 1);
+    store64(result + 16, 0);
+}
+
+// The last node of a chain (no node if there is no pair), and the number of pairs.
+// intmap_table::linked::chain::last_in, in crates/intmap_table/src/linked/chain.rt
+static ALWAYS_INLINE struct word_word chain_last_in_2(char *pool, uint64_t from) {
+    if (from >= NODE_LIMIT) {
+        return made_word_word(NOWHERE, 0);
+    }
+    char *nodes = load_address(pool + POOL_NODES);
+    uint64_t r3_017 = 0;
+    uint64_t at = from;
+    for (;;) {
+        char *node = nodes + (at * NODE_SIZE);
+        if (load8(node + NODE_HAS_PAIR) != 1) {
+            abort(); // The proof excludes this.
+        }
+        uint16_t high = load16(node + NODE_HIGH);
+        uint64_t r14 = r3_017 + 1;
+        if (high == NOWHERE_HIGH) {
             return made_word_word(at, r14);
         }
-        at = link_of(high_2, load32(node_2 + NODE_LOW));
-        r2_048 = r14;
+        r3_017 = r14;
+        at = link_of(high, load32(node + NODE_LOW));
     }
 }
 
 // Removes the first pair of a slot with this link that holds others.
 // intmap_table::linked::row::insertion::replace_first_of_several, in crates/intmap_table/src/linked/row/insertion.rt
 static COLD uint64_t insertion_replace_first_of_several(char *slot, uint64_t link, char *pool, uint64_t a3, uint64_t a4) {
-    uint64_t at = chain_last_in_2(pool, link);
-    char *node = load_address(pool + POOL_NODES) + (at * NODE_SIZE);
+    struct word_word at = chain_last_in(pool, link);
+    char *node = load_address(pool + POOL_NODES) + (at.first * NODE_SIZE);
     if (load8(node + NODE_HAS_PAIR) != 1) {
         abort(); // The proof excludes this.
     }
@@ -2067,232 +2037,175 @@ static COLD uint64_t insertion_replace_first_of_several(char *slot, uint64_t lin
     uint64_t value = load64(node + NODE_VALUE);
     store64(node + NODE_KEY, a3);
     store64(node + NODE_VALUE, a4);
-    if (load8(slot + SLOT_HAS_PAIR) != 1) {
+    if (load8(slot + NODE_HAS_PAIR) != 1) {
         abort(); // The proof excludes this.
     }
-    uint64_t value_2 = load64(slot + SLOT_VALUE);
-    store64(slot + SLOT_KEY, key);
-    store64(slot + SLOT_VALUE, value);
+    uint64_t value_2 = load64(slot + NODE_VALUE);
+    store64(slot + NODE_KEY, key);
+    store64(slot + NODE_VALUE, value);
     return value_2;
-}
-
-// The last node of a chain, and its place there.
-// intmap_table::linked::chain::last_in, in crates/intmap_table/src/linked/chain.rt
-static ALWAYS_INLINE uint64_t chain_last_in_2(char *pool, uint64_t from) {
-    char *nodes = load_address(pool + POOL_NODES);
-    char *node = nodes + (from * NODE_SIZE);
-    if (load8(node + NODE_HAS_PAIR) != 1) {
-        abort(); // The proof excludes this.
-    }
-    uint16_t high = load16(node + NODE_HIGH);
-    if (high == NOWHERE_HIGH) {
-        return from;
-    }
-    uint64_t at = link_of(high, load32(node + NODE_LOW));
-    for (;;) {
-        char *node_2 = nodes + (at * NODE_SIZE);
-        if (load8(node_2 + NODE_HAS_PAIR) != 1) {
-            abort(); // The proof excludes this.
-        }
-        uint16_t high_2 = load16(node_2 + NODE_HIGH);
-        if (high_2 == NOWHERE_HIGH) {
-            return at;
-        }
-        at = link_of(high_2, load32(node_2 + NODE_LOW));
-    }
 }
 
 // Inserts the pair of a key and a value as `insert` does, if it can't be put at once.
 // intmap::map::IntMap::insert_otherwise, in crates/intmap/src/map/insert.rt
-static ALIGNED NOINLINE void intmap_insert_otherwise(char *result, char *map, uint64_t slot, uint64_t key, uint64_t value) {
-    uint64_t r8_4, r13, value_5, at_4, spare, r7;
-    uint64_t r11_room[4];
-    char *r11 = (char *)r11_room;
+static ALIGNED NOINLINE void intmap_insert_otherwise(char *result, char *map, uint64_t slot, uint64_t key_key, uint64_t key_number, uint64_t value) {
+    char *node_2;
+    bool r1_0_in, x11;
+    uint64_t r10_4_0_ph289, link, nodes_len, r18, r18_2, r18_3, at_2;
+    uint8_t r103;
     uint64_t r0_room[3];
     char *r0 = (char *)r0_room;
+    uint64_t r30_room[4];
+    char *r30 = (char *)r30_room;
+    memset(r30, 0, 32);
     uint64_t len = load64(map + INT_MAP_LEN);
-    if (len >= load64(map + INT_MAP_THRESHOLD)) {
-        if (!((len != UINT64_MAX) ? (((len + 1) & 4) == 0) : false)) {
-            uint64_t r0_2, r0_3, r0_4;
-            memset(r11, 0, 32);
-            char *slot_2 = load_address(map + INT_MAP_SLOTS) + (slot * SLOT_SIZE);
-            if (load8(slot_2 + SLOT_HAS_PAIR) == 1) {
-                uint64_t nodes_len = load64(map + INT_MAP_NODES_LEN);
-                uint64_t at = link_of(load16(slot_2 + SLOT_HIGH), load32(slot_2 + SLOT_LOW));
-                for (;;) {
-                    if (nodes_len <= at) {
-                        break;
-                    }
-                    char *nodes = load_address(map + INT_MAP_NODES);
-                    uint64_t r8 = at * NODE_SIZE;
-                    char *node = nodes + r8;
-                    if (load8(node + NODE_HAS_PAIR) != 1) {
-                        break;
-                    }
-                    if (load64(node + NODE_KEY) == key) {
-                        uint64_t at_2 = chain_last_in_2(map + INT_MAP_NODES, at);
-                        char *node_2 = nodes + (at_2 * NODE_SIZE);
-                        if (load8(node_2 + NODE_HAS_PAIR) != 1) {
-                            abort(); // The proof excludes this.
-                        }
-                        uint64_t key_2 = load64(node_2 + NODE_KEY);
-                        uint64_t value_2 = load64(node_2 + NODE_VALUE);
-                        store64(node_2 + NODE_KEY, key);
-                        store64(node_2 + NODE_VALUE, value);
-                        if (at_2 == at) {
-                            r0_2 = 0;
-                            r0_3 = 1;
-                            r0_4 = value_2;
-                            goto after_IntMap_insert_growing;
-                        }
-                        char *node_3 = load_address(map + INT_MAP_NODES) + r8;
-                        if (load8(node_3 + NODE_HAS_PAIR) != 1) {
-                            abort(); // The proof excludes this.
-                        }
-                        uint64_t value_3 = load64(node_3 + NODE_VALUE);
-                        store64(node_3 + NODE_KEY, key_2);
-                        store64(node_3 + NODE_VALUE, value_2);
-                        r0_2 = 0;
-                        r0_3 = 1;
-                        r0_4 = value_3;
-                        goto after_IntMap_insert_growing;
-                    }
-                    at = link_of(load16(node + NODE_HIGH), load32(node + NODE_LOW));
-                }
-            }
-            intmap_add_growing(r11, map, slot, key, value);
-            if (load8(r11) == 1) {
-                r0_2 = 1;
-                r0_3 = load64(r11 + 8);
-                r0_4 = load64(r11 + 16);
-            } else {
-                r0_2 = 0;
-                r0_3 = 0;
-                r0_4 = 0;
-            }
-        after_IntMap_insert_growing:;
-            store64(result, r0_2);
-            store64(result + 8, r0_3);
-            store64(result + 16, r0_4);
-            return;
+    if (len < load64(map + INT_MAP_THRESHOLD)) {
+        char *node = load_address(map + INT_MAP_SLOTS) + (slot * NODE_SIZE);
+        if (load8(node + NODE_HAS_PAIR) != 1) {
+            r10_4_0_ph289 = value;
+            goto then_8;
         }
+        node_2 = node;
+        r1_0_in = true;
+    } else {
+        bool r2_0_in = (len != UINT64_MAX) ? (((len + 1) & 4) == 0) : false;
+        char *node_3 = load_address(map + INT_MAP_SLOTS) + (slot * NODE_SIZE);
+        if (load8(node_3 + NODE_HAS_PAIR) != 1) {
+            if (!r2_0_in) {
+                goto join_10;
+            }
+            r10_4_0_ph289 = value;
+            goto then_8;
+        }
+        node_2 = node_3;
+        r1_0_in = r2_0_in;
     }
-    char *slot_3 = load_address(map + INT_MAP_SLOTS) + (slot * SLOT_SIZE);
-    if (load8(slot_3 + SLOT_HAS_PAIR) != 1) {
-        abort(); // The proof excludes this.
-    }
-    uint16_t high = load16(slot_3 + SLOT_HIGH);
-    uint64_t link = link_of(high, load32(slot_3 + SLOT_LOW));
-    uint64_t nodes_len_2 = load64(map + INT_MAP_NODES_LEN);
-    if (nodes_len_2 > link) {
-        char *nodes_2 = load_address(map + INT_MAP_NODES);
-        uint64_t r8_2 = link * NODE_SIZE;
-        char *node_4 = nodes_2 + r8_2;
+    link = link_of(load16(node_2 + NODE_HIGH), load32(node_2 + NODE_LOW));
+    nodes_len = load64(map + INT_MAP_NODES_LEN);
+    if (nodes_len > link) {
+        char *nodes = load_address(map + INT_MAP_NODES);
+        uint64_t r8 = link * NODE_SIZE;
+        char *node_4 = nodes + r8;
         if (load8(node_4 + NODE_HAS_PAIR) == 1) {
             char *node_5 = node_4;
-            uint64_t r8_3 = r8_2;
+            uint64_t r8_2 = r8;
             uint64_t link_2 = link;
             for (;;) {
-                if (load64(node_5 + NODE_KEY) == key) {
-                    uint64_t at_3 = chain_last_in_2(map + INT_MAP_NODES, link_2);
-                    char *node_6 = nodes_2 + (at_3 * NODE_SIZE);
+                if (load64(node_5 + NODE_KEY) == key_number) {
+                    struct word_word at = chain_last_in(map + INT_MAP_NODES, link_2);
+                    char *node_6 = nodes + (at.first * NODE_SIZE);
                     if (load8(node_6 + NODE_HAS_PAIR) != 1) {
                         abort(); // The proof excludes this.
                     }
-                    uint64_t key_3 = load64(node_6 + NODE_KEY);
-                    uint64_t value_4 = load64(node_6 + NODE_VALUE);
-                    store64(node_6 + NODE_KEY, key);
+                    uint64_t key = load64(node_6 + NODE_KEY);
+                    uint64_t value_2 = load64(node_6 + NODE_VALUE);
+                    store64(node_6 + NODE_KEY, key_key);
                     store64(node_6 + NODE_VALUE, value);
-                    if (at_3 == link_2) {
-                        r8_4 = 0;
-                        r13 = 1;
-                        value_5 = value_4;
-                        goto join_7_2;
+                    if (at.first == link_2) {
+                        r18 = 0;
+                        r18_2 = 1;
+                        r18_3 = value_2;
+                        goto join_4;
                     }
-                    char *node_7 = load_address(map + INT_MAP_NODES) + r8_3;
+                    char *node_7 = load_address(map + INT_MAP_NODES) + r8_2;
                     if (load8(node_7 + NODE_HAS_PAIR) != 1) {
                         abort(); // The proof excludes this.
                     }
-                    uint64_t value_6 = load64(node_7 + NODE_VALUE);
-                    store64(node_7 + NODE_KEY, key_3);
-                    store64(node_7 + NODE_VALUE, value_4);
-                    r8_4 = 0;
-                    r13 = 1;
-                    value_5 = value_6;
-                    goto join_7_2;
+                    uint64_t value_3 = load64(node_7 + NODE_VALUE);
+                    store64(node_7 + NODE_KEY, key);
+                    store64(node_7 + NODE_VALUE, value_2);
+                    r18 = 0;
+                    r18_2 = 1;
+                    r18_3 = value_3;
+                    goto join_4;
                 }
                 uint64_t link_3 = link_of(load16(node_5 + NODE_HIGH), load32(node_5 + NODE_LOW));
-                if (nodes_len_2 <= link_3) {
-                    at_4 = link_2;
+                if (nodes_len <= link_3) {
+                    at_2 = link_2;
                     break;
                 }
-                uint64_t r8_5 = link_3 * NODE_SIZE;
-                char *node_8 = nodes_2 + r8_5;
+                uint64_t r8_3 = link_3 * NODE_SIZE;
+                char *node_8 = nodes + r8_3;
                 if (load8(node_8 + NODE_HAS_PAIR) != 1) {
-                    at_4 = link_2;
+                    at_2 = link_2;
                     break;
                 }
                 node_5 = node_8;
-                r8_3 = r8_5;
+                r8_2 = r8_3;
                 link_2 = link_3;
             }
         } else {
-            at_4 = link;
+            at_2 = NOWHERE;
         }
     } else {
-        at_4 = link;
+        at_2 = NOWHERE;
     }
-    spare = load64(map + INT_MAP_SPARE);
-    if (spare == 0) {
-        pool_add_new_2(r0, map + INT_MAP_NODES, key, value);
-        if (load8(r0) != 0) {
-            r8_4 = 1;
-            r13 = load64(r0 + 16);
-            value_5 = 0;
-            goto join_7_2;
+    if (r1_0_in) {
+        uint64_t r7;
+        uint64_t spare = load64(map + INT_MAP_SPARE);
+        if (spare == 0) {
+            pool_add_new_2(r0, map + INT_MAP_NODES, key_key, value);
+            if (load8(r0) != 0) {
+                r10_4_0_ph289 = load64(r0 + 16);
+                goto then_8;
+            }
+            r7 = load64(r0 + 8);
+        } else {
+            uint64_t free = load64(map + INT_MAP_FREE);
+            char *node_9 = load_address(map + INT_MAP_NODES) + (free * NODE_SIZE);
+            if (load8(node_9 + NODE_HAS_PAIR) != 0) {
+                abort(); // The proof excludes this.
+            }
+            store64(map + INT_MAP_FREE, link_of(load16(node_9 + NODE_HIGH), load32(node_9 + NODE_LOW)));
+            store64(map + INT_MAP_SPARE, spare - 1);
+            uint8_t has_pair = load8(node_9 + NODE_HAS_PAIR);
+            store16(node_9 + NODE_HAS_PAIR, 1);
+            store16(node_9 + NODE_HIGH, NOWHERE_HIGH);
+            store32(node_9 + NODE_LOW, NOWHERE_LOW);
+            store64(node_9 + NODE_KEY, key_key);
+            store64(node_9 + NODE_VALUE, value);
+            if (has_pair != 0) {
+                abort(); // The proof excludes this.
+            }
+            r7 = free;
         }
-        r7 = load64(r0 + 8);
-    } else {
-        uint64_t free = load64(map + INT_MAP_FREE);
-        char *node_9 = load_address(map + INT_MAP_NODES) + (free * NODE_SIZE);
-        if (load8(node_9 + NODE_HAS_PAIR) != 0) {
-            abort(); // The proof excludes this.
+        if (at_2 > UINT64_C(281470681743359)) {
+            if (load8(node_2 + NODE_HAS_PAIR) != 1) {
+                abort(); // The proof excludes this.
+            }
+            store16(node_2 + NODE_HIGH, (uint16_t)(r7 >> 32));
+            store32(node_2 + NODE_LOW, (uint32_t)r7);
+        } else {
+            char *node_10 = load_address(map + INT_MAP_NODES) + (at_2 * NODE_SIZE);
+            if (load8(node_10 + NODE_HAS_PAIR) != 1) {
+                abort(); // The proof excludes this.
+            }
+            store16(node_10 + NODE_HIGH, (uint16_t)(r7 >> 32));
+            store32(node_10 + NODE_LOW, (uint32_t)r7);
         }
-        store64(map + INT_MAP_FREE, link_of(load16(node_9 + NODE_HIGH), load32(node_9 + NODE_LOW)));
-        store64(map + INT_MAP_SPARE, spare - 1);
-        uint8_t has_pair = load8(node_9 + NODE_HAS_PAIR);
-        store16(node_9 + NODE_HAS_PAIR, 1);
-        store16(node_9 + NODE_HIGH, NOWHERE_HIGH);
-        store32(node_9 + NODE_LOW, NOWHERE_LOW);
-        store64(node_9 + NODE_KEY, key);
-        store64(node_9 + NODE_VALUE, value);
-        if (has_pair != 0) {
-            abort(); // The proof excludes this.
-        }
-        r7 = free;
+        store64(map + INT_MAP_LEN, load64(map + INT_MAP_LEN) + 1);
+        r18 = 0;
+        r18_2 = 0;
+        r18_3 = 0;
+        goto join_4;
     }
-    if (high == NOWHERE_HIGH) {
-        if (load8(slot_3 + SLOT_HAS_PAIR) != 1) {
-            abort(); // The proof excludes this.
-        }
-        store16(slot_3 + SLOT_HIGH, (uint16_t)(r7 >> 32));
-        store32(slot_3 + SLOT_LOW, (uint32_t)r7);
-    } else {
-        char *node_10 = load_address(map + INT_MAP_NODES) + (at_4 * NODE_SIZE);
-        if (load8(node_10 + NODE_HAS_PAIR) != 1) {
-            abort(); // The proof excludes this.
-        }
-        store16(node_10 + NODE_HIGH, (uint16_t)(r7 >> 32));
-        store32(node_10 + NODE_LOW, (uint32_t)r7);
-    }
-    store64(map + INT_MAP_LEN, load64(map + INT_MAP_LEN) + 1);
-    r8_4 = 0;
-    r13 = 0;
-    value_5 = 0;
-join_7_2:;
-    store64(result, r8_4);
-    store64(result + 8, r13);
-    store64(result + 16, value_5);
+join_10:;
+    intmap_add_growing(r30, map, slot, key_key, key_number, value);
+    r103 = load8(r30);
+    x11 = r103 == 0;
+    r18 = (uint64_t)r103;
+    r18_2 = x11 ? 0 : load64(r30 + 8);
+    r18_3 = x11 ? 0 : load64(r30 + 16);
+    goto join_4;
+then_8:;
+    store64(result, 1);
+    store64(result + 8, r10_4_0_ph289);
+    store64(result + 16, 0);
+    return;
+join_4:;
+    store64(result, r18);
+    store64(result + 8, r18_2);
+    store64(result + 16, r18_3);
 }
 
 // Puts a pair with a link into a new node behind the others, none of which may be free, and returns which.
@@ -2302,7 +2215,7 @@ static ALWAYS_INLINE void pool_add_new_2(char *result, char *nodes_at, uint64_t 
     if (nodes_len != NODE_LIMIT) {
         uint64_t at;
         if (load64(nodes_at + POOL_NODES_ROOM) == nodes_len) {
-            bool r24 = vec_grow_amortized_3(nodes_at);
+            bool r24 = vec_grow_amortized(nodes_at);
             if (!r24) {
                 goto join_5;
             }
@@ -2326,39 +2239,6 @@ join_5:;
     store64(result, 1);
     store64(result + 8, a3);
     store64(result + 16, a4);
-}
-
-// std_alloc::vec::Vec::grow_amortized, in Rattle's library std_alloc
-static COLD bool vec_grow_amortized_3(char *nodes_at) {
-    struct word_word r0;
-    uint64_t nodes_len = load64(nodes_at + POOL_NODES_LEN);
-    if (nodes_len == UINT64_MAX) {
-        return false;
-    }
-    uint64_t nodes_room = load64(nodes_at + POOL_NODES_ROOM);
-    uint64_t x0 = greater(nodes_len, 3);
-    uint64_t a2_a1 = x0 + 1;
-    uint64_t x1 = greater(a2_a1, nodes_room << 1);
-    uint64_t common_ret_op = (nodes_room < UINT64_C(4611686018427387904)) ? x1 : a2_a1;
-    if (common_ret_op >= TOO_MANY(24)) {
-        return false;
-    }
-    if (nodes_room == 0) {
-        struct word_word block = rattle_alloc(x1 * 24, 8);
-        if ((block.first & 1) == 0) {
-            return false;
-        }
-        r0 = block;
-    } else {
-        struct word_word block_2 = rattle_realloc(load_address(nodes_at + POOL_NODES), nodes_len * 24, common_ret_op * 24, 8);
-        if ((block_2.first & 1) == 0) {
-            return false;
-        }
-        r0 = block_2;
-    }
-    store_address(nodes_at + POOL_NODES, (char *)(uintptr_t)r0.second);
-    store64(nodes_at + POOL_NODES_ROOM, common_ret_op);
-    return true;
 }
 
 // Moves all pairs, in the order of the walk, to their slots among `capacity` slots.
@@ -2414,37 +2294,43 @@ static ALIGNED uint8_t table_grow_to(char *map, uint64_t capacity, uint64_t addi
 // Writes the address of the value of the key, or null if the key is absent.
 // intmap_place, in crates/intmap_c/src/place.rt
 static ALWAYS_INLINE void do_intmap_place(char *word, uint64_t key, char *at) {
-    char *r11;
+    char *node_2;
     store_address(at, NULL);
     char *map = load_address(word);
     if (map == NULL) {
         return;
     }
-    char *slot = load_address(map + INT_MAP_SLOTS) + ((load64(map + INT_MAP_MASK) & (key * MULTIPLIER)) * SLOT_SIZE);
-    if (load8(slot + SLOT_HAS_PAIR) != 1) {
+    char *node = load_address(map + INT_MAP_SLOTS) + ((load64(map + INT_MAP_MASK) & (key * MULTIPLIER)) * NODE_SIZE);
+    if (load8(node + NODE_HAS_PAIR) != 1) {
         return;
     }
-    if (load64(slot + SLOT_KEY) == key) {
-        r11 = slot;
+    if (load64(node + NODE_KEY) == key) {
+        node_2 = node;
     } else {
+        uint64_t link = link_of(load16(node + NODE_HIGH), load32(node + NODE_LOW));
         uint64_t nodes_len = load64(map + INT_MAP_NODES_LEN);
-        uint64_t at_2 = link_of(load16(slot + SLOT_HIGH), load32(slot + SLOT_LOW));
+        if (nodes_len <= link) {
+            return;
+        }
+        char *nodes = load_address(map + INT_MAP_NODES);
+        uint64_t at_2 = link;
         for (;;) {
-            if (nodes_len <= at_2) {
+            char *node_3 = nodes + (at_2 * NODE_SIZE);
+            if (load8(node_3 + NODE_HAS_PAIR) != 1) {
                 return;
             }
-            char *node = load_address(map + INT_MAP_NODES) + (at_2 * NODE_SIZE);
-            if (load8(node + NODE_HAS_PAIR) != 1) {
-                return;
-            }
-            if (load64(node + NODE_KEY) == key) {
-                r11 = node;
+            if (load64(node_3 + NODE_KEY) == key) {
+                node_2 = node_3;
                 break;
             }
-            at_2 = link_of(load16(node + NODE_HIGH), load32(node + NODE_LOW));
+            uint64_t link_2 = link_of(load16(node_3 + NODE_HIGH), load32(node_3 + NODE_LOW));
+            if (nodes_len <= link_2) {
+                return;
+            }
+            at_2 = link_2;
         }
     }
-    store_address(at, r11 + 16);
+    store_address(at, node_2 + NODE_VALUE);
 }
 
 // The version of the code, which is 1.1.0: 10000 times the first number, 100 times the second, and the third.
@@ -2515,7 +2401,7 @@ static ALWAYS_INLINE bool do_intmap_equal(char *word, char *other) {
     uint64_t r1_4 = r6_2;
     for (;;) {
         uint64_t r1_5, r1_6, r1_8, link, r1_12, r1_14, r17, r27;
-        char *r1_7, *r11, *r1_13, *slot;
+        char *r1_7, *node_2, *r1_13, *node_3;
         if (nodes_len > at) {
             char *node = load_address(map + INT_MAP_NODES) + (at * NODE_SIZE);
             if (load8(node + NODE_HAS_PAIR) == 1) {
@@ -2524,7 +2410,7 @@ static ALWAYS_INLINE bool do_intmap_equal(char *word, char *other) {
                 r1_7 = r1_3;
                 r1_8 = r1_4;
                 link = link_of(load16(node + NODE_HIGH), load32(node + NODE_LOW));
-                r11 = node;
+                node_2 = node;
                 goto arm_6_2;
             }
         }
@@ -2557,22 +2443,22 @@ static ALWAYS_INLINE bool do_intmap_equal(char *word, char *other) {
             r17 = r1;
         }
         r27 = place_of_lowest_1(r17);
-        slot = slots + ((r27 + r1_12) * SLOT_SIZE);
-        if (load8(slot + SLOT_HAS_PAIR) != 1) {
+        node_3 = slots + ((r27 + r1_12) * NODE_SIZE);
+        if (load8(node_3 + NODE_HAS_PAIR) != 1) {
             abort(); // The proof excludes this.
         }
         r1_5 = (r17 - 1) & r17;
         r1_6 = r1_12;
         r1_7 = r1_13;
         r1_8 = r1_14;
-        link = link_of(load16(slot + SLOT_HIGH), load32(slot + SLOT_LOW));
-        r11 = slot;
+        link = link_of(load16(node_3 + NODE_HIGH), load32(node_3 + NODE_LOW));
+        node_2 = node_3;
     arm_6_2:;
-        struct byte_address r5 = intmap_get_counted(map_2, load64(r11 + 8));
+        struct byte_address r5 = intmap_get_counted(map_2, load64(node_2 + NODE_KEY));
         if (r5.first != 1) {
             return false;
         }
-        if (load64(r11 + 16) != load64(r5.second)) {
+        if (load64(node_2 + NODE_VALUE) != load64(r5.second)) {
             return false;
         }
         at = link;
@@ -2637,15 +2523,15 @@ static ALWAYS_INLINE struct word_word do_intmap_get(char *word, uint64_t key) {
     if (map == NULL) {
         r18 = empty_word_half();
     } else {
-        uint64_t spec_select;
+        uint64_t value;
         struct byte_address r5 = intmap_get_counted(map, key);
         if ((r5.first & 1) != 0) {
-            spec_select = load64(r5.second);
+            value = load64(r5.second);
         } else {
-            spec_select = 0;
+            value = 0;
         }
         uint32_t spec_select1 = (uint32_t)r5.first;
-        r18 = made_word_half(spec_select, spec_select1);
+        r18 = made_word_half(value, spec_select1);
     }
     uint64_t r0_2_8_ext = (uint64_t)r18.second;
     return made_word_word(r18.first, r0_2_8_ext);
@@ -2654,84 +2540,58 @@ static ALWAYS_INLINE struct word_word do_intmap_get(char *word, uint64_t key) {
 // The first pair of the walk from the cursor on, behind which the cursor moves.
 // intmap_step, in crates/intmap_c/src/read.rt
 static ALWAYS_INLINE char *do_intmap_step(char *result, char *word, char *at) {
-    uint64_t r6, r6_2;
-    uint32_t r6_3;
+    uint64_t key, value;
+    uint32_t r6;
     char *map = load_address(word);
     if (map == NULL) {
+        key = 0;
+        value = 0;
         r6 = 0;
-        r6_2 = 0;
-        r6_3 = 0;
     } else {
-        char *r11_2, *r11_pn139, *slot_4;
-        uint64_t r3_0_2, r115, words_len, r1, r1_2, r1_3, r49, index;
+        char *node_3, *node_4, *node_7;
+        uint64_t r3_0, r115, words_len, r1, r1_2, r1_3, r49, at_4;
         uint64_t slot = load64(at + CURSOR_SLOT);
         uint64_t place = load64(at + CURSOR_PLACE);
         if (slot <= load64(map + INT_MAP_MASK)) {
-            uint64_t r8 = slot * SLOT_SIZE;
-            char *slot_2 = load_address(map + INT_MAP_SLOTS) + r8;
-            if (load8(slot_2 + SLOT_HAS_PAIR) == 1) {
-                uint64_t r3_0;
-                uint64_t link = link_of(load16(slot_2 + SLOT_HIGH), load32(slot_2 + SLOT_LOW));
-                uint64_t nodes_len = load64(map + INT_MAP_NODES_LEN);
-                if (nodes_len > link) {
-                    uint64_t r2_0;
-                    char *nodes = load_address(map + INT_MAP_NODES);
-                    uint64_t at_2 = link;
-                    uint64_t r2_020 = 0;
-                    for (;;) {
-                        char *node = nodes + (at_2 * NODE_SIZE);
-                        if (load8(node + NODE_HAS_PAIR) != 1) {
-                            r2_0 = r2_020;
-                            break;
-                        }
-                        uint64_t link_2 = link_of(load16(node + NODE_HIGH), load32(node + NODE_LOW));
-                        uint64_t r11 = r2_020 + 1;
-                        if (nodes_len <= link_2) {
-                            r2_0 = r11;
-                            break;
-                        }
-                        at_2 = link_2;
-                        r2_020 = r11;
-                    }
-                    r3_0 = r2_0 + 1;
-                } else {
-                    r3_0 = 1;
-                }
-                if (place < r3_0) {
+            uint64_t r8 = slot * NODE_SIZE;
+            char *node = load_address(map + INT_MAP_SLOTS) + r8;
+            if (load8(node + NODE_HAS_PAIR) == 1) {
+                struct word_word r9 = chain_last_in(map + INT_MAP_NODES, link_of(load16(node + NODE_HIGH), load32(node + NODE_LOW)));
+                if (place < (r9.second + 1)) {
                     store64(at + CURSOR_PLACE, place + 1);
-                    char *slot_3 = load_address(map + INT_MAP_SLOTS) + r8;
-                    if (load8(slot_3 + SLOT_HAS_PAIR) != 1) {
+                    char *node_2 = load_address(map + INT_MAP_SLOTS) + r8;
+                    if (load8(node_2 + NODE_HAS_PAIR) != 1) {
                         goto arm_2_4;
                     }
                     if (place == 0) {
-                        r11_2 = slot_3;
-                        r11_pn139 = slot_3;
+                        node_3 = node_2;
+                        node_4 = node_2;
                         goto arm_5;
                     }
-                    uint64_t link_3 = link_of(load16(slot_3 + SLOT_HIGH), load32(slot_3 + SLOT_LOW));
+                    uint64_t link = link_of(load16(node_2 + NODE_HIGH), load32(node_2 + NODE_LOW));
                     uint64_t r19 = place - 1;
-                    uint64_t at_3 = chain_seek(map + INT_MAP_NODES, link_3, r19);
-                    char *nodes_2 = load_address(map + INT_MAP_NODES);
-                    char *node_2 = nodes_2 + (at_3 * NODE_SIZE);
-                    if (load8(node_2 + NODE_HAS_PAIR) != 1) {
+                    uint64_t at_2 = chain_seek(map + INT_MAP_NODES, link, r19);
+                    char *nodes = load_address(map + INT_MAP_NODES);
+                    char *node_5 = nodes + (at_2 * NODE_SIZE);
+                    if (load8(node_5 + NODE_HAS_PAIR) != 1) {
                         abort(); // The proof excludes this.
                     }
-                    uint64_t at_4 = chain_seek(map + INT_MAP_NODES, link_3, r19);
-                    char *node_3 = nodes_2 + (at_4 * NODE_SIZE);
-                    if (load8(node_3 + NODE_HAS_PAIR) != 1) {
+                    uint64_t at_3 = chain_seek(map + INT_MAP_NODES, link, r19);
+                    char *node_6 = nodes + (at_3 * NODE_SIZE);
+                    if (load8(node_6 + NODE_HAS_PAIR) != 1) {
                         abort(); // The proof excludes this.
                     }
-                    r11_2 = node_2;
-                    r11_pn139 = node_3;
+                    node_3 = node_5;
+                    node_4 = node_6;
                     goto arm_5;
                 }
             }
         }
-        r3_0_2 = sum_or_most(slot, 1);
-        r115 = r3_0_2 >> 6;
+        r3_0 = sum_or_most(slot, 1);
+        r115 = r3_0 >> 6;
         words_len = load64(map + INT_MAP_WORDS_LEN);
         if (words_len > r115) {
-            uint64_t r33 = load64(load_address(map + INT_MAP_WORDS) + (r115 << 3)) & (UINT64_MAX << (r3_0_2 & 63));
+            uint64_t r33 = load64(load_address(map + INT_MAP_WORDS) + (r115 << 3)) & (UINT64_MAX << (r3_0 & 63));
             if (r33 != 0) {
                 r1 = r115;
                 r1_2 = r33;
@@ -2742,9 +2602,9 @@ static ALWAYS_INLINE char *do_intmap_step(char *result, char *word, char *at) {
         for (;;) {
             uint64_t r26 = r1_3 + 1;
             if (words_len <= r26) {
+                key = 0;
+                value = 0;
                 r6 = 0;
-                r6_2 = 0;
-                r6_3 = 0;
                 goto after_read_intmap_step;
             }
             uint64_t bits = load64(load_address(map + INT_MAP_WORDS) + (r26 << 3));
@@ -2757,26 +2617,26 @@ static ALWAYS_INLINE char *do_intmap_step(char *result, char *word, char *at) {
         }
     join_3_thread:;
         r49 = place_of_lowest_1(r1_2);
-        index = r49 | (r1 << 6);
-        store64(at + CURSOR_SLOT, index);
+        at_4 = r49 | (r1 << 6);
+        store64(at + CURSOR_SLOT, at_4);
         store64(at + CURSOR_PLACE, 1);
-        slot_4 = load_address(map + INT_MAP_SLOTS) + (index * SLOT_SIZE);
-        if (load8(slot_4 + SLOT_HAS_PAIR) == 1) {
-            r11_2 = slot_4;
-            r11_pn139 = slot_4;
+        node_7 = load_address(map + INT_MAP_SLOTS) + (at_4 * NODE_SIZE);
+        if (load8(node_7 + NODE_HAS_PAIR) == 1) {
+            node_3 = node_7;
+            node_4 = node_7;
             goto arm_5;
         }
     arm_2_4:;
         abort(); // The proof excludes this.
     arm_5:;
-        r6 = load64(r11_2 + 8);
-        r6_2 = load64(r11_pn139 + 16);
-        r6_3 = 1;
+        key = load64(node_3 + NODE_KEY);
+        value = load64(node_4 + NODE_VALUE);
+        r6 = 1;
     }
 after_read_intmap_step:;
-    store64(result + FOUND_PAIR_KEY, r6);
-    store64(result + FOUND_PAIR_VALUE, r6_2);
-    store32(result + FOUND_PAIR_STATUS, r6_3);
+    store64(result + FOUND_PAIR_KEY, key);
+    store64(result + FOUND_PAIR_VALUE, value);
+    store32(result + FOUND_PAIR_STATUS, r6);
     store32(result + 20, 0);
     return result;
 }
@@ -2792,34 +2652,41 @@ static ALWAYS_INLINE struct word_word do_intmap_add_present(char *handle, uint64
         r23 = empty_word_half();
     } else {
         struct word_half r29;
-        char *slot = load_address(map + INT_MAP_SLOTS) + ((load64(map + INT_MAP_MASK) & (key * MULTIPLIER)) * SLOT_SIZE);
-        if (load8(slot + SLOT_HAS_PAIR) == 1) {
-            char *r11;
-            if (load64(slot + SLOT_KEY) == key) {
-                r11 = slot;
+        char *node = load_address(map + INT_MAP_SLOTS) + ((load64(map + INT_MAP_MASK) & (key * MULTIPLIER)) * NODE_SIZE);
+        if (load8(node + NODE_HAS_PAIR) == 1) {
+            char *node_2;
+            if (load64(node + NODE_KEY) == key) {
+                node_2 = node;
             } else {
+                uint64_t link = link_of(load16(node + NODE_HIGH), load32(node + NODE_LOW));
                 uint64_t nodes_len = load64(map + INT_MAP_NODES_LEN);
-                uint64_t at = link_of(load16(slot + SLOT_HIGH), load32(slot + SLOT_LOW));
+                if (nodes_len <= link) {
+                    r29 = empty_word_half();
+                    goto after_pairs_add_present;
+                }
+                char *nodes = load_address(map + INT_MAP_NODES);
+                uint64_t at = link;
                 for (;;) {
-                    if (nodes_len <= at) {
+                    char *node_3 = nodes + (at * NODE_SIZE);
+                    if (load8(node_3 + NODE_HAS_PAIR) != 1) {
                         r29 = empty_word_half();
                         goto after_pairs_add_present;
                     }
-                    char *node = load_address(map + INT_MAP_NODES) + (at * NODE_SIZE);
-                    if (load8(node + NODE_HAS_PAIR) != 1) {
-                        r29 = empty_word_half();
-                        goto after_pairs_add_present;
-                    }
-                    if (load64(node + NODE_KEY) == key) {
-                        r11 = node;
+                    if (load64(node_3 + NODE_KEY) == key) {
+                        node_2 = node_3;
                         break;
                     }
-                    at = link_of(load16(node + NODE_HIGH), load32(node + NODE_LOW));
+                    uint64_t link_2 = link_of(load16(node_3 + NODE_HIGH), load32(node_3 + NODE_LOW));
+                    if (nodes_len <= link_2) {
+                        r29 = empty_word_half();
+                        goto after_pairs_add_present;
+                    }
+                    at = link_2;
                 }
             }
-            uint64_t r19 = load64(r11 + 16);
-            store64(r11 + 16, r19 + more);
-            r29 = made_word_half(r19, 1);
+            uint64_t value = load64(node_2 + NODE_VALUE);
+            store64(node_2 + NODE_VALUE, value + more);
+            r29 = made_word_half(value, 1);
         } else {
             r29 = empty_word_half();
         }
@@ -2857,7 +2724,6 @@ static ALWAYS_INLINE void do_intmap_clear(char *handle) {
     uint64_t r1_4 = 0;
     char *r1_5 = r1;
     uint64_t r1_6 = r1_2;
-loop_2_2:;
     for (;;) {
         uint64_t r1_10, r1_11, r1_13;
         char *r1_12;
@@ -2902,28 +2768,24 @@ loop_2_2:;
         }
         uint64_t r27 = place_of_lowest_1(r1_10);
         uint64_t r40 = (r1_10 - 1) & r1_10;
-        char *slot = load_address(map + INT_MAP_SLOTS) + ((r1_11 + r27) * SLOT_SIZE);
-        for (;;) {
-            uint16_t high;
-            switch (load8(slot + SLOT_HAS_PAIR)) {
-            case 0:
-                r1_3 = r40;
-                r1_4 = r1_11;
-                r1_5 = r1_12;
-                r1_6 = r1_13;
-                goto loop_2_2;
-            case 1:
-                high = load16(slot + SLOT_HIGH);
+        char *node = load_address(map + INT_MAP_SLOTS) + ((r1_11 + r27) * NODE_SIZE);
+        if (load8(node + NODE_HAS_PAIR) == 1) {
+            for (;;) {
+                uint16_t high = load16(node + NODE_HIGH);
                 if (high == NOWHERE_HIGH) {
-                    memset(slot, 0, SLOT_SIZE);
-                } else {
-                    removal_take_first_of_several(slot, link_of(high, load32(slot + SLOT_LOW)), map + INT_MAP_NODES);
+                    memset(node, 0, NODE_SIZE);
+                    break;
                 }
-                break;
-            default:
-                abort(); // The proof excludes this.
+                removal_pop_front_of_several(node, link_of(high, load32(node + NODE_LOW)), map + INT_MAP_NODES);
+                if (load8(node + NODE_HAS_PAIR) != 1) {
+                    break;
+                }
             }
         }
+        r1_3 = r40;
+        r1_4 = r1_11;
+        r1_5 = r1_12;
+        r1_6 = r1_13;
     }
 }
 
@@ -2940,139 +2802,102 @@ static ALWAYS_INLINE char *do_intmap_cut(char *result, char *handle, char *at) {
         r6_2 = 0;
         r6_3 = 0;
     } else {
-        uint16_t high_2;
-        uint64_t r306065, r3_0_2, r115, words_len, r1, r1_2, r1_3, x13, x14, r49, index;
-        char *slot_3, *nodes_at, *slot_4, *r11_2;
-        struct word_word r19, r19_2;
-        uint32_t r8_2;
+        uint64_t link_2, r307091, r307090, r3_0, r115, words_len, r1, r1_2, r1_3, x12, x13, r49, at_5, r307089;
+        uint16_t high_2, high_4;
+        char *node_2, *nodes_at, *node_6, *node_7, *r11;
+        struct word_word r25, r25_2, r25_3, r14;
+        uint32_t r8;
         uint64_t slot = load64(at + CURSOR_SLOT);
         uint64_t place = load64(at + CURSOR_PLACE);
         if (slot <= load64(map + INT_MAP_MASK)) {
-            char *slot_2 = load_address(map + INT_MAP_SLOTS) + (slot * SLOT_SIZE);
-            if (load8(slot_2 + SLOT_HAS_PAIR) == 1) {
-                uint64_t r3_0;
-                uint16_t high = load16(slot_2 + SLOT_HIGH);
-                uint64_t link = link_of(high, load32(slot_2 + SLOT_LOW));
-                uint64_t nodes_len = load64(map + INT_MAP_NODES_LEN);
-                if (nodes_len > link) {
-                    uint64_t r2_0;
-                    char *nodes = load_address(map + INT_MAP_NODES);
-                    uint64_t at_2 = link;
-                    uint64_t r2_020 = 0;
-                    for (;;) {
-                        char *node = nodes + (at_2 * NODE_SIZE);
-                        if (load8(node + NODE_HAS_PAIR) != 1) {
-                            r2_0 = r2_020;
-                            break;
-                        }
-                        uint64_t link_2 = link_of(load16(node + NODE_HIGH), load32(node + NODE_LOW));
-                        uint64_t r11 = r2_020 + 1;
-                        if (nodes_len <= link_2) {
-                            r2_0 = r11;
-                            break;
-                        }
-                        at_2 = link_2;
-                        r2_020 = r11;
-                    }
-                    r3_0 = r2_0 + 1;
-                } else {
-                    r3_0 = 1;
-                }
-                if (place < r3_0) {
-                    char *node_2, *nodes_2, *node_3, *node_4, *node_5;
-                    uint64_t free, link_3, key, value, link_4, key_2, value_2, at_3, r8, link_5, free_2, key_3,
-                        value_3;
-                    uint16_t high_3;
-                    uint32_t low;
+            char *node = load_address(map + INT_MAP_SLOTS) + (slot * NODE_SIZE);
+            if (load8(node + NODE_HAS_PAIR) == 1) {
+                uint16_t high = load16(node + NODE_HIGH);
+                uint64_t link = link_of(high, load32(node + NODE_LOW));
+                struct word_word r9 = chain_last_in(map + INT_MAP_NODES, link);
+                if (place < (r9.second + 1)) {
+                    char *nodes, *nodes_2, *node_3;
+                    uint64_t at_2, at_3, at_4;
                     switch (place) {
                     case 0:
+                        link_2 = link;
                         high_2 = high;
-                        r306065 = slot;
-                        slot_3 = slot_2;
+                        r307091 = slot;
+                        node_2 = node;
                         nodes_at = map + INT_MAP_NODES;
-                        goto after_removal_take_front_2;
+                        goto then_6;
                     case 1:
-                        node_2 = load_address(map + INT_MAP_NODES) + (link * NODE_SIZE);
-                        if (load8(node_2 + NODE_HAS_PAIR) != 1) {
-                            abort(); // The proof excludes this.
-                        }
-                        free = load64(map + INT_MAP_FREE);
-                        link_3 = link_of(load16(node_2 + NODE_HIGH), load32(node_2 + NODE_LOW));
-                        key = load64(node_2 + NODE_KEY);
-                        value = load64(node_2 + NODE_VALUE);
-                        store16(node_2 + NODE_HAS_PAIR, 0);
-                        store16(node_2 + NODE_HIGH, (uint16_t)(free >> 32));
-                        store32(node_2 + NODE_LOW, (uint32_t)free);
-                        memset(node_2 + NODE_KEY, 0, PAIR_SIZE);
-                        store64(map + INT_MAP_FREE, link);
-                        store64(map + INT_MAP_SPARE, load64(map + INT_MAP_SPARE) + 1);
-                        link_4 = link_3;
-                        key_2 = key;
-                        value_2 = value;
+                        nodes = load_address(map + INT_MAP_NODES);
+                        at_2 = link;
+                        at_3 = NOWHERE;
                         break;
                     default:
-                        at_3 = chain_seek(map + INT_MAP_NODES, link, place - 2);
+                        at_4 = chain_seek(map + INT_MAP_NODES, link, place - 2);
                         nodes_2 = load_address(map + INT_MAP_NODES);
-                        r8 = at_3 * NODE_SIZE;
-                        node_3 = nodes_2 + r8;
+                        node_3 = nodes_2 + (at_4 * NODE_SIZE);
                         if (load8(node_3 + NODE_HAS_PAIR) != 1) {
                             abort(); // The proof excludes this.
                         }
-                        link_5 = link_of(load16(node_3 + NODE_HIGH), load32(node_3 + NODE_LOW));
-                        node_4 = nodes_2 + (link_5 * NODE_SIZE);
-                        if (load8(node_4 + NODE_HAS_PAIR) != 1) {
-                            abort(); // The proof excludes this.
-                        }
-                        high_3 = load16(node_4 + NODE_HIGH);
-                        low = load32(node_4 + NODE_LOW);
-                        free_2 = load64(map + INT_MAP_FREE);
-                        key_3 = load64(node_4 + NODE_KEY);
-                        value_3 = load64(node_4 + NODE_VALUE);
-                        store16(node_4 + NODE_HAS_PAIR, 0);
-                        store16(node_4 + NODE_HIGH, (uint16_t)(free_2 >> 32));
-                        store32(node_4 + NODE_LOW, (uint32_t)free_2);
-                        memset(node_4 + NODE_KEY, 0, PAIR_SIZE);
-                        store64(map + INT_MAP_FREE, link_5);
-                        store64(map + INT_MAP_SPARE, load64(map + INT_MAP_SPARE) + 1);
-                        node_5 = load_address(map + INT_MAP_NODES) + r8;
-                        if (load8(node_5 + NODE_HAS_PAIR) != 1) {
-                            abort(); // The proof excludes this.
-                        }
-                        store16(node_5 + NODE_HIGH, high_3);
-                        store32(node_5 + NODE_LOW, low);
-                        link_4 = link;
-                        key_2 = key_3;
-                        value_2 = value_3;
+                        nodes = nodes_2;
+                        at_2 = link_of(load16(node_3 + NODE_HIGH), load32(node_3 + NODE_LOW));
+                        at_3 = at_4;
                         break;
                     }
-                    if (load8(slot_2 + SLOT_HAS_PAIR) != 1) {
+                    char *node_4 = nodes + (at_2 * NODE_SIZE);
+                    if (load8(node_4 + NODE_HAS_PAIR) != 1) {
                         abort(); // The proof excludes this.
                     }
-                    store16(slot_2 + SLOT_HIGH, (uint16_t)(link_4 >> 32));
-                    store32(slot_2 + SLOT_LOW, (uint32_t)link_4);
-                    r19 = made_word_word(key_2, value_2);
-                    goto x12;
+                    uint16_t high_3 = load16(node_4 + NODE_HIGH);
+                    uint32_t low = load32(node_4 + NODE_LOW);
+                    uint64_t free = load64(map + INT_MAP_FREE);
+                    uint64_t key = load64(node_4 + NODE_KEY);
+                    uint64_t value = load64(node_4 + NODE_VALUE);
+                    store16(node_4 + NODE_HAS_PAIR, 0);
+                    store16(node_4 + NODE_HIGH, (uint16_t)(free >> 32));
+                    store32(node_4 + NODE_LOW, (uint32_t)free);
+                    memset(node_4 + NODE_KEY, 0, PAIR_SIZE);
+                    store64(map + INT_MAP_FREE, at_2);
+                    store64(map + INT_MAP_SPARE, load64(map + INT_MAP_SPARE) + 1);
+                    if (at_3 > UINT64_C(281470681743359)) {
+                        if (load8(node + NODE_HAS_PAIR) != 1) {
+                            abort(); // The proof excludes this.
+                        }
+                        store16(node + NODE_HIGH, high_3);
+                        store32(node + NODE_LOW, low);
+                        r25 = made_word_word(key, value);
+                        goto x11;
+                    }
+                    char *node_5 = load_address(map + INT_MAP_NODES) + (at_3 * NODE_SIZE);
+                    if (load8(node_5 + NODE_HAS_PAIR) != 1) {
+                        abort(); // The proof excludes this.
+                    }
+                    store16(node_5 + NODE_HIGH, high_3);
+                    store32(node_5 + NODE_LOW, low);
+                    r307090 = slot;
+                    node_6 = node;
+                    r25_2 = made_word_word(key, value);
+                    goto after_removal_remove_2;
                 }
             }
         }
-        r3_0_2 = sum_or_most(slot, 1);
-        r115 = r3_0_2 >> 6;
+        r3_0 = sum_or_most(slot, 1);
+        r115 = r3_0 >> 6;
         words_len = load64(map + INT_MAP_WORDS_LEN);
         if (words_len > r115) {
-            uint64_t r33 = load64(load_address(map + INT_MAP_WORDS) + (r115 << 3)) & (UINT64_MAX << (r3_0_2 & 63));
+            uint64_t r33 = load64(load_address(map + INT_MAP_WORDS) + (r115 << 3)) & (UINT64_MAX << (r3_0 & 63));
             if (r33 != 0) {
                 r1 = r115;
                 r1_2 = r33;
-                goto join_3_thread;
+                goto join_3_4;
             }
         }
         r1_3 = r115;
         for (;;) {
             uint64_t r26 = r1_3 + 1;
             if (words_len <= r26) {
+                x12 = 0;
+                r8 = 0;
                 x13 = 0;
-                r8_2 = 0;
-                x14 = 0;
                 goto after_walk_cut;
             }
             uint64_t bits = load64(load_address(map + INT_MAP_WORDS) + (r26 << 3));
@@ -3083,46 +2908,55 @@ static ALWAYS_INLINE char *do_intmap_cut(char *result, char *handle, char *at) {
             }
             r1_3 = r26;
         }
-    join_3_thread:;
+    join_3_4:;
         r49 = place_of_lowest_1(r1_2);
-        index = r49 | (r1 << 6);
-        store64(at + CURSOR_SLOT, index);
+        at_5 = r49 | (r1 << 6);
+        store64(at + CURSOR_SLOT, at_5);
         store64(at + CURSOR_PLACE, 0);
-        slot_4 = load_address(map + INT_MAP_SLOTS) + (index * SLOT_SIZE);
-        if (load8(slot_4 + SLOT_HAS_PAIR) != 1) {
+        node_7 = load_address(map + INT_MAP_SLOTS) + (at_5 * NODE_SIZE);
+        if (load8(node_7 + NODE_HAS_PAIR) != 1) {
             abort(); // The proof excludes this.
         }
-        high_2 = load16(slot_4 + SLOT_HIGH);
-        r306065 = index;
-        slot_3 = slot_4;
+        high_4 = load16(node_7 + NODE_HIGH);
+        link_2 = link_of(high_4, load32(node_7 + NODE_LOW));
+        high_2 = high_4;
+        r307091 = at_5;
+        node_2 = node_7;
         nodes_at = map + INT_MAP_NODES;
-    after_removal_take_front_2:;
+    then_6:;
         if (high_2 == NOWHERE_HIGH) {
-            uint64_t key_4 = load64(slot_3 + SLOT_KEY);
-            uint64_t value_4 = load64(slot_3 + SLOT_VALUE);
-            memset(slot_3, 0, SLOT_SIZE);
-            r19_2 = made_word_word(key_4, value_4);
-        } else {
-            struct word_word r16 = removal_take_first_of_several(slot_3, link_of(high_2, load32(slot_3 + SLOT_LOW)), nodes_at);
-            if (load8(slot_3 + SLOT_HAS_PAIR) != 0) {
-                r19 = r16;
-                goto x12;
-            }
-            r19_2 = r16;
+            uint64_t key_2 = load64(node_2 + NODE_KEY);
+            uint64_t value_2 = load64(node_2 + NODE_VALUE);
+            memset(node_2, 0, NODE_SIZE);
+            r307089 = r307091;
+            r25_3 = made_word_word(key_2, value_2);
+            goto then_1_3;
         }
-        r11_2 = load_address(map + INT_MAP_WORDS) + ((r306065 >> 3) & UINT64_C(0x1FFFFFFFFFFFFFF8));
-        store64(r11_2, load64(r11_2) & (~((uint64_t)1 << (r306065 & 63))));
-        r19 = r19_2;
-    x12:;
+        r14 = removal_pop_front_of_several(node_2, link_2, nodes_at);
+        r307090 = r307091;
+        node_6 = node_2;
+        r25_2 = r14;
+    after_removal_remove_2:;
+        if (load8(node_6 + NODE_HAS_PAIR) != 0) {
+            r25 = r25_2;
+            goto x11;
+        }
+        r307089 = r307090;
+        r25_3 = r25_2;
+    then_1_3:;
+        r11 = load_address(map + INT_MAP_WORDS) + ((r307089 >> 3) & UINT64_C(0x1FFFFFFFFFFFFFF8));
+        store64(r11, load64(r11) & (~((uint64_t)1 << (r307089 & 63))));
+        r25 = r25_3;
+    x11:;
         store64(map + INT_MAP_LEN, load64(map + INT_MAP_LEN) - 1);
-        x13 = r19.first;
-        r8_2 = 1;
-        x14 = r19.second;
+        x12 = r25.first;
+        r8 = 1;
+        x13 = r25.second;
     after_walk_cut:;
         store64(handle, map_address);
-        r6 = x13;
-        r6_2 = x14;
-        r6_3 = r8_2;
+        r6 = x12;
+        r6_2 = x13;
+        r6_3 = r8;
     }
     store64(result + FOUND_PAIR_KEY, r6);
     store64(result + FOUND_PAIR_VALUE, r6_2);
@@ -3172,30 +3006,30 @@ static ALWAYS_INLINE struct word_word do_intmap_remove(char *handle, uint64_t ke
         uint32_t spec_select1;
         uint64_t x5;
         uint64_t index = load64(map + INT_MAP_MASK) & (key * MULTIPLIER);
-        char *slot = load_address(map + INT_MAP_SLOTS) + (index * SLOT_SIZE);
-        if (load8(slot + SLOT_HAS_PAIR) == 1) {
+        char *node = load_address(map + INT_MAP_SLOTS) + (index * NODE_SIZE);
+        if (load8(node + NODE_HAS_PAIR) == 1) {
             uint64_t r0;
-            uint16_t high = load16(slot + SLOT_HIGH);
+            uint16_t high = load16(node + NODE_HIGH);
             if (high == NOWHERE_HIGH) {
-                if (load64(slot + SLOT_KEY) != key) {
+                if (load64(node + NODE_KEY) != key) {
                     spec_select1 = 0;
                     x5 = 0;
                     goto after_pairs_remove;
                 }
                 uint64_t r8 = (index >> 3) & UINT64_C(0x1FFFFFFFFFFFFFF8);
                 uint64_t bits = load64(load_address(map + INT_MAP_WORDS) + r8);
-                uint64_t value = load64(slot + SLOT_VALUE);
-                memset(slot, 0, SLOT_SIZE);
+                uint64_t value = load64(node + NODE_VALUE);
+                memset(node, 0, NODE_SIZE);
                 store64(load_address(map + INT_MAP_WORDS) + r8, bits & (~((uint64_t)1 << (index & 63))));
                 r0 = value;
             } else {
-                struct byte_word r48 = removal_remove_of_several(slot, link_of(high, load32(slot + SLOT_LOW)), map + INT_MAP_NODES, key);
-                if (r48.first != 1) {
+                struct byte_word r51 = removal_remove_of_several(node, link_of(high, load32(node + NODE_LOW)), map + INT_MAP_NODES, key);
+                if (r51.first != 1) {
                     spec_select1 = 0;
                     x5 = 0;
                     goto after_pairs_remove;
                 }
-                r0 = r48.second;
+                r0 = r51.second;
             }
             store64(map + INT_MAP_LEN, load64(map + INT_MAP_LEN) - 1);
             spec_select1 = 1;
@@ -3223,34 +3057,41 @@ static ALWAYS_INLINE struct word_word do_intmap_replace(char *handle, uint64_t k
         r23 = empty_word_half();
     } else {
         struct word_half r26;
-        char *slot = load_address(map + INT_MAP_SLOTS) + ((load64(map + INT_MAP_MASK) & (key * MULTIPLIER)) * SLOT_SIZE);
-        if (load8(slot + SLOT_HAS_PAIR) == 1) {
-            char *r11;
-            if (load64(slot + SLOT_KEY) == key) {
-                r11 = slot;
+        char *node = load_address(map + INT_MAP_SLOTS) + ((load64(map + INT_MAP_MASK) & (key * MULTIPLIER)) * NODE_SIZE);
+        if (load8(node + NODE_HAS_PAIR) == 1) {
+            char *node_2;
+            if (load64(node + NODE_KEY) == key) {
+                node_2 = node;
             } else {
+                uint64_t link = link_of(load16(node + NODE_HIGH), load32(node + NODE_LOW));
                 uint64_t nodes_len = load64(map + INT_MAP_NODES_LEN);
-                uint64_t at = link_of(load16(slot + SLOT_HIGH), load32(slot + SLOT_LOW));
+                if (nodes_len <= link) {
+                    r26 = empty_word_half();
+                    goto after_pairs_replace;
+                }
+                char *nodes = load_address(map + INT_MAP_NODES);
+                uint64_t at = link;
                 for (;;) {
-                    if (nodes_len <= at) {
+                    char *node_3 = nodes + (at * NODE_SIZE);
+                    if (load8(node_3 + NODE_HAS_PAIR) != 1) {
                         r26 = empty_word_half();
                         goto after_pairs_replace;
                     }
-                    char *node = load_address(map + INT_MAP_NODES) + (at * NODE_SIZE);
-                    if (load8(node + NODE_HAS_PAIR) != 1) {
-                        r26 = empty_word_half();
-                        goto after_pairs_replace;
-                    }
-                    if (load64(node + NODE_KEY) == key) {
-                        r11 = node;
+                    if (load64(node_3 + NODE_KEY) == key) {
+                        node_2 = node_3;
                         break;
                     }
-                    at = link_of(load16(node + NODE_HIGH), load32(node + NODE_LOW));
+                    uint64_t link_2 = link_of(load16(node_3 + NODE_HIGH), load32(node_3 + NODE_LOW));
+                    if (nodes_len <= link_2) {
+                        r26 = empty_word_half();
+                        goto after_pairs_replace;
+                    }
+                    at = link_2;
                 }
             }
-            uint64_t r6 = load64(r11 + 16);
-            store64(r11 + 16, value);
-            r26 = made_word_half(r6, 1);
+            uint64_t value_2 = load64(node_2 + NODE_VALUE);
+            store64(node_2 + NODE_VALUE, value);
+            r26 = made_word_half(value_2, 1);
         } else {
             r26 = empty_word_half();
         }
@@ -3372,8 +3213,8 @@ static ALWAYS_INLINE struct word_word do_intmap_add_or_insert(char *handle, uint
     uint64_t r40, value_3, len;
     uint64_t r11_room[3];
     char *r11 = (char *)r11_room;
-    uint64_t r8_room[4];
-    char *r8 = (char *)r8_room;
+    uint64_t r10_room[4];
+    char *r10 = (char *)r10_room;
     uint64_t map_address = load64(handle);
     store64(handle, 0);
     if (map_address == 0) {
@@ -3387,88 +3228,88 @@ static ALWAYS_INLINE struct word_word do_intmap_add_or_insert(char *handle, uint
     }
     uint64_t map_address_2 = (uint64_t)(uintptr_t)map;
     uint64_t index = load64(map + INT_MAP_MASK) & (key * MULTIPLIER);
-    char *slot = load_address(map + INT_MAP_SLOTS) + (index * SLOT_SIZE);
-    uint8_t has_pair = load8(slot + SLOT_HAS_PAIR);
+    char *node = load_address(map + INT_MAP_SLOTS) + (index * NODE_SIZE);
+    uint8_t has_pair = load8(node + NODE_HAS_PAIR);
     if (has_pair == 1) {
         uint64_t value_2;
-        char *r9;
-        uint64_t link = link_of(load16(slot + SLOT_HIGH), load32(slot + SLOT_LOW));
-        if (load64(slot + SLOT_KEY) != key) {
+        char *node_5;
+        uint64_t link = link_of(load16(node + NODE_HIGH), load32(node + NODE_LOW));
+        if (load64(node + NODE_KEY) != key) {
             uint64_t nodes_len = load64(map + INT_MAP_NODES_LEN);
             if (nodes_len <= link) {
                 goto arm_2_2;
             }
             char *nodes = load_address(map + INT_MAP_NODES);
+            uint64_t r3_0 = 0;
             uint64_t at = link;
-            uint64_t r2_0 = 0;
             for (;;) {
-                char *node = nodes + (at * NODE_SIZE);
-                if (load8(node + NODE_HAS_PAIR) != 1) {
+                char *node_2 = nodes + (at * NODE_SIZE);
+                if (load8(node_2 + NODE_HAS_PAIR) != 1) {
                     goto arm_2_2;
                 }
-                if (load64(node + NODE_KEY) == key) {
-                    if (r2_0 == UINT64_MAX) {
+                if (load64(node_2 + NODE_KEY) == key) {
+                    if (r3_0 == UINT64_MAX) {
                         break;
                     }
-                    uint64_t at_2 = chain_seek(map + INT_MAP_NODES, link, r2_0);
-                    char *node_2 = nodes + (at_2 * NODE_SIZE);
-                    if (load8(node_2 + NODE_HAS_PAIR) != 1) {
-                        abort(); // The proof excludes this.
-                    }
-                    uint64_t value = load64(node_2 + NODE_VALUE);
-                    uint64_t at_3 = chain_seek(map + INT_MAP_NODES, link, r2_0);
-                    char *node_3 = nodes + (at_3 * NODE_SIZE);
+                    uint64_t at_2 = chain_seek(map + INT_MAP_NODES, link, r3_0);
+                    char *node_3 = nodes + (at_2 * NODE_SIZE);
                     if (load8(node_3 + NODE_HAS_PAIR) != 1) {
                         abort(); // The proof excludes this.
                     }
+                    uint64_t value = load64(node_3 + NODE_VALUE);
+                    uint64_t at_3 = chain_seek(map + INT_MAP_NODES, link, r3_0);
+                    char *node_4 = nodes + (at_3 * NODE_SIZE);
+                    if (load8(node_4 + NODE_HAS_PAIR) != 1) {
+                        abort(); // The proof excludes this.
+                    }
                     value_2 = value;
-                    r9 = node_3;
+                    node_5 = node_4;
                     goto after_OccupiedEntry_insert;
                 }
-                uint64_t link_2 = link_of(load16(node + NODE_HIGH), load32(node + NODE_LOW));
+                uint64_t link_2 = link_of(load16(node_2 + NODE_HIGH), load32(node_2 + NODE_LOW));
                 if (nodes_len <= link_2) {
                     goto arm_2_2;
                 }
+                r3_0 = r3_0 + 1;
                 at = link_2;
-                r2_0 = r2_0 + 1;
             }
         }
-        value_2 = load64(slot + SLOT_VALUE);
-        r9 = slot;
+        value_2 = load64(node + NODE_VALUE);
+        node_5 = node;
     after_OccupiedEntry_insert:;
-        store64(r9 + 16, value_2 + more);
+        store64(node_5 + NODE_VALUE, value_2 + more);
         r40 = 1;
         value_3 = value_2;
         goto after_pairs_add_or_insert;
     }
 arm_2_2:;
-    memset(r8, 0, 32);
+    memset(r10, 0, 32);
     len = load64(map + INT_MAP_LEN);
     if (len >= load64(map + INT_MAP_THRESHOLD)) {
         if (!((len != UINT64_MAX) ? (((len + 1) & 4) == 0) : false)) {
-            intmap_add_growing(r8, map, index, key, more);
-            if (load8(r8) == 0) {
+            intmap_add_growing(r10, map, index, key, key, more);
+            if (load8(r10) == 0) {
                 r40 = 0;
                 value_3 = 0;
                 goto after_pairs_add_or_insert;
             }
-            r40 = (load8(r8 + 16) == 0) ? NO_MEMORY : TOO_LARGE;
+            r40 = (load8(r10 + 16) == 0) ? NO_MEMORY : TOO_LARGE;
             value_3 = 0;
             goto after_pairs_add_or_insert;
         }
     }
     memset(r11, 0, 24);
     if (has_pair == 0) {
-        uint64_t r8_2 = (index >> 3) & UINT64_C(0x1FFFFFFFFFFFFFF8);
-        uint64_t bits = load64(load_address(map + INT_MAP_WORDS) + r8_2);
-        store16(slot + SLOT_HAS_PAIR, 1);
-        store16(slot + SLOT_HIGH, NOWHERE_HIGH);
-        store32(slot + SLOT_LOW, NOWHERE_LOW);
-        store64(slot + SLOT_KEY, key);
-        store64(slot + SLOT_VALUE, more);
-        store64(load_address(map + INT_MAP_WORDS) + r8_2, bits | ((uint64_t)1 << (index & 63)));
+        uint64_t r8 = (index >> 3) & UINT64_C(0x1FFFFFFFFFFFFFF8);
+        uint64_t bits = load64(load_address(map + INT_MAP_WORDS) + r8);
+        store16(node + NODE_HAS_PAIR, 1);
+        store16(node + NODE_HIGH, NOWHERE_HIGH);
+        store32(node + NODE_LOW, NOWHERE_LOW);
+        store64(node + NODE_KEY, key);
+        store64(node + NODE_VALUE, more);
+        store64(load_address(map + INT_MAP_WORDS) + r8, bits | ((uint64_t)1 << (index & 63)));
     } else {
-        insertion_push_further(r11, slot, map + INT_MAP_NODES, key, more);
+        insertion_push_further(r11, node, map + INT_MAP_NODES, key, more);
         if (load8(r11) != 0) {
             r40 = NO_MEMORY;
             value_3 = 0;
@@ -3491,8 +3332,8 @@ static ALWAYS_INLINE uint32_t do_intmap_find_or_insert(char *handle, uint64_t ke
     uint64_t len;
     uint64_t r11_room[3];
     char *r11 = (char *)r11_room;
-    uint64_t r8_room[4];
-    char *r8 = (char *)r8_room;
+    uint64_t r10_room[4];
+    char *r10 = (char *)r10_room;
     uint64_t map_address = load64(handle);
     store64(handle, 0);
     if (map_address == 0) {
@@ -3506,11 +3347,11 @@ static ALWAYS_INLINE uint32_t do_intmap_find_or_insert(char *handle, uint64_t ke
     }
     uint64_t map_address_2 = (uint64_t)(uintptr_t)map;
     uint64_t index = load64(map + INT_MAP_MASK) & (key * MULTIPLIER);
-    char *slot = load_address(map + INT_MAP_SLOTS) + (index * SLOT_SIZE);
-    uint8_t has_pair = load8(slot + SLOT_HAS_PAIR);
+    char *node = load_address(map + INT_MAP_SLOTS) + (index * NODE_SIZE);
+    uint8_t has_pair = load8(node + NODE_HAS_PAIR);
     if (has_pair == 1) {
-        uint64_t link = link_of(load16(slot + SLOT_HIGH), load32(slot + SLOT_LOW));
-        if (load64(slot + SLOT_KEY) == key) {
+        uint64_t link = link_of(load16(node + NODE_HIGH), load32(node + NODE_LOW));
+        if (load64(node + NODE_KEY) == key) {
             r4_0 = 1;
             goto after_pairs_find_or_insert;
         }
@@ -3519,15 +3360,15 @@ static ALWAYS_INLINE uint32_t do_intmap_find_or_insert(char *handle, uint64_t ke
             char *nodes = load_address(map + INT_MAP_NODES);
             uint64_t at = link;
             for (;;) {
-                char *node = nodes + (at * NODE_SIZE);
-                if (load8(node + NODE_HAS_PAIR) != 1) {
+                char *node_2 = nodes + (at * NODE_SIZE);
+                if (load8(node_2 + NODE_HAS_PAIR) != 1) {
                     break;
                 }
-                if (load64(node + NODE_KEY) == key) {
+                if (load64(node_2 + NODE_KEY) == key) {
                     r4_0 = 1;
                     goto after_pairs_find_or_insert;
                 }
-                uint64_t link_2 = link_of(load16(node + NODE_HIGH), load32(node + NODE_LOW));
+                uint64_t link_2 = link_of(load16(node_2 + NODE_HIGH), load32(node_2 + NODE_LOW));
                 if (nodes_len <= link_2) {
                     break;
                 }
@@ -3535,16 +3376,16 @@ static ALWAYS_INLINE uint32_t do_intmap_find_or_insert(char *handle, uint64_t ke
             }
         }
     }
-    memset(r8, 0, 32);
+    memset(r10, 0, 32);
     len = load64(map + INT_MAP_LEN);
     if (len >= load64(map + INT_MAP_THRESHOLD)) {
         if (!((len != UINT64_MAX) ? (((len + 1) & 4) == 0) : false)) {
-            intmap_add_growing(r8, map, index, key, value);
-            if (load8(r8) == 0) {
+            intmap_add_growing(r10, map, index, key, key, value);
+            if (load8(r10) == 0) {
                 r4_0 = 0;
                 goto after_pairs_find_or_insert;
             }
-            if (load8(r8 + 16) == 0) {
+            if (load8(r10 + 16) == 0) {
                 goto x11;
             }
             r4_0 = TOO_LARGE;
@@ -3553,16 +3394,16 @@ static ALWAYS_INLINE uint32_t do_intmap_find_or_insert(char *handle, uint64_t ke
     }
     memset(r11, 0, 24);
     if (has_pair == 0) {
-        uint64_t r8_2 = (index >> 3) & UINT64_C(0x1FFFFFFFFFFFFFF8);
-        uint64_t bits = load64(load_address(map + INT_MAP_WORDS) + r8_2);
-        store16(slot + SLOT_HAS_PAIR, 1);
-        store16(slot + SLOT_HIGH, NOWHERE_HIGH);
-        store32(slot + SLOT_LOW, NOWHERE_LOW);
-        store64(slot + SLOT_KEY, key);
-        store64(slot + SLOT_VALUE, value);
-        store64(load_address(map + INT_MAP_WORDS) + r8_2, bits | ((uint64_t)1 << (index & 63)));
+        uint64_t r8 = (index >> 3) & UINT64_C(0x1FFFFFFFFFFFFFF8);
+        uint64_t bits = load64(load_address(map + INT_MAP_WORDS) + r8);
+        store16(node + NODE_HAS_PAIR, 1);
+        store16(node + NODE_HIGH, NOWHERE_HIGH);
+        store32(node + NODE_LOW, NOWHERE_LOW);
+        store64(node + NODE_KEY, key);
+        store64(node + NODE_VALUE, value);
+        store64(load_address(map + INT_MAP_WORDS) + r8, bits | ((uint64_t)1 << (index & 63)));
     } else {
-        insertion_push_further(r11, slot, map + INT_MAP_NODES, key, value);
+        insertion_push_further(r11, node, map + INT_MAP_NODES, key, value);
         if (load8(r11) != 0) {
             goto x11;
         }
@@ -3581,11 +3422,11 @@ after_pairs_find_or_insert:;
 // intmap_insert, in crates/intmap_c/src/pairs.rt
 static ALWAYS_INLINE struct word_word do_intmap_insert(char *handle, uint64_t key, uint64_t value) {
     char *map;
-    uint64_t len, r8, bits, r0, r0_3_6_0_copyload116, r0_3, r5, spec_select1;
-    bool r0_2, r0_3_0_0_copyload117;
+    uint64_t len, r8, bits, r0, r0_3_6_0_copyload115, r0_3, r5, spec_select1;
+    bool r0_2, r0_3_0_0_copyload116;
     uint16_t high;
-    uint64_t r6_room[3];
-    char *r6 = (char *)r6_room;
+    uint64_t r9_room[3];
+    char *r9 = (char *)r9_room;
     uint64_t map_address = load64(handle);
     store64(handle, 0);
     if (map_address == 0) {
@@ -3598,10 +3439,10 @@ static ALWAYS_INLINE struct word_word do_intmap_insert(char *handle, uint64_t ke
         map = (char *)(uintptr_t)map_address;
     }
     uint64_t map_address_2 = (uint64_t)(uintptr_t)map;
-    memset(r6, 0, 24);
+    memset(r9, 0, 24);
     uint64_t index = load64(map + INT_MAP_MASK) & (key * MULTIPLIER);
-    char *slot = load_address(map + INT_MAP_SLOTS) + (index * SLOT_SIZE);
-    switch (load8(slot + SLOT_HAS_PAIR)) {
+    char *node = load_address(map + INT_MAP_SLOTS) + (index * NODE_SIZE);
+    switch (load8(node + NODE_HAS_PAIR)) {
     case 0:
         len = load64(map + INT_MAP_LEN);
         if (len >= load64(map + INT_MAP_THRESHOLD)) {
@@ -3611,29 +3452,29 @@ static ALWAYS_INLINE struct word_word do_intmap_insert(char *handle, uint64_t ke
         }
         r8 = (index >> 3) & UINT64_C(0x1FFFFFFFFFFFFFF8);
         bits = load64(load_address(map + INT_MAP_WORDS) + r8);
-        store16(slot + SLOT_HAS_PAIR, 1);
-        store16(slot + SLOT_HIGH, NOWHERE_HIGH);
-        store32(slot + SLOT_LOW, NOWHERE_LOW);
-        store64(slot + SLOT_KEY, key);
-        store64(slot + SLOT_VALUE, value);
+        store16(node + NODE_HAS_PAIR, 1);
+        store16(node + NODE_HIGH, NOWHERE_HIGH);
+        store32(node + NODE_LOW, NOWHERE_LOW);
+        store64(node + NODE_KEY, key);
+        store64(node + NODE_VALUE, value);
         store64(load_address(map + INT_MAP_WORDS) + r8, bits | ((uint64_t)1 << (index & 63)));
         store64(map + INT_MAP_LEN, load64(map + INT_MAP_LEN) + 1);
         r0 = 0;
         r0_2 = false;
         break;
     case 1:
-        if (load64(slot + SLOT_KEY) != key) {
+        if (load64(node + NODE_KEY) != key) {
             goto after_IntMap_insert_2;
         }
-        high = load16(slot + SLOT_HIGH);
+        high = load16(node + NODE_HIGH);
         if (high == NOWHERE_HIGH) {
-            uint64_t value_2 = load64(slot + SLOT_VALUE);
-            store64(slot + SLOT_KEY, key);
-            store64(slot + SLOT_VALUE, value);
+            uint64_t value_2 = load64(node + NODE_VALUE);
+            store64(node + NODE_KEY, key);
+            store64(node + NODE_VALUE, value);
             r0 = value_2;
             r0_2 = true;
         } else {
-            uint64_t r35 = insertion_replace_first_of_several(slot, link_of(high, load32(slot + SLOT_LOW)), map + INT_MAP_NODES, key, value);
+            uint64_t r35 = insertion_replace_first_of_several(node, link_of(high, load32(node + NODE_LOW)), map + INT_MAP_NODES, key, value);
             r0 = r35;
             r0_2 = true;
         }
@@ -3641,22 +3482,22 @@ static ALWAYS_INLINE struct word_word do_intmap_insert(char *handle, uint64_t ke
     default:
         goto after_IntMap_insert_2;
     }
-    r0_3_0_0_copyload117 = r0_2;
-    r0_3_6_0_copyload116 = r0;
+    r0_3_0_0_copyload116 = r0_2;
+    r0_3_6_0_copyload115 = r0;
     goto arm_1_2;
 after_IntMap_insert_2:;
-    intmap_insert_otherwise(r6, map, index, key, value);
-    r0_3 = load64(r6 + 16);
-    if (load8(r6) != 0) {
+    intmap_insert_otherwise(r9, map, index, key, key, value);
+    r0_3 = load64(r9 + 16);
+    if (load8(r9) != 0) {
         r5 = 0;
         spec_select1 = ((r0_3 & 255) == 0) ? NO_MEMORY : TOO_LARGE;
         goto after_pairs_insert;
     }
-    r0_3_0_0_copyload117 = load8(r6 + 8) == 1;
-    r0_3_6_0_copyload116 = r0_3;
+    r0_3_0_0_copyload116 = load8(r9 + 8) == 1;
+    r0_3_6_0_copyload115 = r0_3;
 arm_1_2:;
-    r5 = r0_3_0_0_copyload117 ? r0_3_6_0_copyload116 : 0;
-    spec_select1 = (uint64_t)r0_3_0_0_copyload117;
+    r5 = r0_3_0_0_copyload116 ? r0_3_6_0_copyload115 : 0;
+    spec_select1 = (uint64_t)r0_3_0_0_copyload116;
 after_pairs_insert:;
     store64(handle, map_address_2);
     return made_word_word(r5, spec_select1);
@@ -3705,8 +3546,8 @@ static ALWAYS_INLINE uint32_t do_intmap_reserve(char *handle, uint64_t more) {
                 r3_09 = r31;
             }
         }
-        uint8_t r26 = table_grow_to(map, r0, 0);
-        if ((r26 & 1) != 0) {
+        uint8_t r30 = table_grow_to(map, r0, 0);
+        if ((r30 & 1) != 0) {
             r4_0 = NO_MEMORY;
         } else {
             store64(map + INT_MAP_FACTOR, factor);
@@ -3763,8 +3604,8 @@ static ALWAYS_INLINE uint32_t do_intmap_reserve_insertions(char *handle, uint64_
                 r3_09 = r31;
             }
         }
-        uint8_t r26 = table_grow_to(map, r0, more);
-        if ((r26 & 1) != 0) {
+        uint8_t r30 = table_grow_to(map, r0, more);
+        if ((r30 & 1) != 0) {
             r4_0 = NO_MEMORY;
         } else {
             store64(map + INT_MAP_FACTOR, factor);
@@ -3800,16 +3641,16 @@ static ALWAYS_INLINE uint32_t do_intmap_reserve_slots(char *handle, uint64_t add
         r4_0 = TOO_LARGE;
     } else {
         uint64_t r2_0;
-        uint64_t r40 = len + additional;
-        if (r40 < 2) {
+        uint64_t r42 = len + additional;
+        if (r42 < 2) {
             r2_0 = 1;
         } else {
-            uint64_t r13 = high_zeros(r40 - 1);
+            uint64_t r13 = high_zeros(r42 - 1);
             r2_0 = (uint64_t)1 << ((uint64_t)64 - r13);
         }
         uint64_t a0_a1 = greater(load64(map + INT_MAP_SLOTS_LEN), r2_0);
-        uint8_t r50 = table_grow_to(map, a0_a1, 0);
-        if ((r50 & 1) != 0) {
+        uint8_t r52 = table_grow_to(map, a0_a1, 0);
+        if ((r52 & 1) != 0) {
             r4_0 = NO_MEMORY;
         } else {
             u128 r17 = u128_less_one(u128_mul(u128_add(u128_of(load64(map + INT_MAP_FACTOR)), u128_of(1u)), u128_of(a0_a1)));
@@ -3827,7 +3668,7 @@ static ALWAYS_INLINE uint32_t do_intmap_set_load_factor(char *handle, uint64_t t
     char *map;
     uint64_t r0;
     uint32_t r4_0;
-    uint8_t r26;
+    uint8_t r30;
     uint64_t map_address = load64(handle);
     store64(handle, 0);
     if (map_address == 0) {
@@ -3860,8 +3701,8 @@ static ALWAYS_INLINE uint32_t do_intmap_set_load_factor(char *handle, uint64_t t
             r3_09 = r31;
         }
     }
-    r26 = table_grow_to(map, r0, 0);
-    if ((r26 & 1) != 0) {
+    r30 = table_grow_to(map, r0, 0);
+    if ((r30 & 1) != 0) {
         r4_0 = NO_MEMORY;
     } else {
         store64(map + INT_MAP_FACTOR, thousandths);
