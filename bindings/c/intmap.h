@@ -442,8 +442,8 @@ INTMAP_NONNULL INTMAP_MUST_USE intmap_status intmap_reserve(intmap *map, size_t 
 // intmap_clear. This holds until a call makes room, even for more pairs, or sets the load factor,
 // shrinks or frees the map, or puts another map into the word. So call it last. A copy that
 // intmap_clone makes doesn't have this room. It is proved that insertions into the map can't fail
-// then. That they request no memory, and that these functions hand this on, is tested. Their status
-// must be read all the same:
+// then, with look-ups and removals by key between them. The rest is tested: that they request no
+// memory, and that these functions hand this on. Their status must be read all the same:
 //
 //     if (intmap_failed(intmap_insert(&map, 21, 7).status)) {
 //         abort(); // there was room

@@ -75,8 +75,8 @@ impl<K: IntKey, V> IntMap<K, V> {
     ///
     /// The next `additional` insertions of any keys then can't fail, and allocate nothing. This
     /// holds until a call other than an insertion, a removal or a look-up changes the map. That they
-    /// can't fail is proved, by `any` of this call and `has_room` of the insertions. That they
-    /// allocate nothing is tested. Where [`try_reserve_insertions`](Self::try_reserve_insertions) fails, this call panics or
+    /// can't fail is proved, by `any` of this call, `has_room` of the insertions and the law
+    /// `insertions_leave_room`. That they allocate nothing is tested. Where [`try_reserve_insertions`](Self::try_reserve_insertions) fails, this call panics or
     /// ends the process.
     ///
     /// ```
