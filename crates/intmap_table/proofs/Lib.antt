@@ -13,6 +13,7 @@ pub mod RetainLemmas
 pub mod WritesLemmas
 pub mod ExtractLemmas
 pub mod MappedLemmas
+pub mod CopyingLemmas
 pub mod BindingLemmas
 pub mod BindSameLemmas
 pub mod Tables

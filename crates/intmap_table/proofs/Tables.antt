@@ -3,6 +3,7 @@ pub mod AroundLemmas
 pub mod BitsLemmas
 pub mod CloneLemmas
 pub mod CursorLemmas
+pub mod ReachedLemmas
 pub mod ExtractLemmas
 pub mod FilledLemmas
 pub mod FoundLemmas

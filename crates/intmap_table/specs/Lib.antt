@@ -14,6 +14,7 @@ pub mod Firsts
 pub mod Lending
 pub mod Values
 pub mod Cloning
+pub mod Copying
 pub mod Tables
 pub mod Apart
 pub mod Fronts

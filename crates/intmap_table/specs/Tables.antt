@@ -7,5 +7,6 @@ pub mod Behind
 pub mod Putting
 pub mod Rows
 pub mod Walked
+pub mod Reached
 pub mod Slots
 pub mod WordRows

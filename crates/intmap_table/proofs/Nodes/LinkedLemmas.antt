@@ -220,21 +220,30 @@ module _ {K X : Type 0} (number : K → ℕ) where
       Row-set slots a marks mask i s (λ ps. ps ++ p ∷ []) b t (set marks i true) are row h (home-append (λ q. slot_number number q.0 (length slots)) i (row_in a.nodes s) p row.own home)
       (AreMarked-set (rows_in slots a.nodes) marks are.marked i within (get_or (rows_in slots a.nodes) i [] ++ p ∷ []) true (sym (filled-pushed (get_or (rows_in slots a.nodes) i []) p)))
 
-  marked_now : (R : List (List (K × X))) (marks : List Bool) (i : ℕ) (row : List (K × X)) (nodes : List (Node (K × X))) (t : Node (K × X)) → AreMarked R marks → i < length R → 0 < length (get_or R i [])
+  marked_now : (R : List (List (K × X))) (marks : List Bool) (i : ℕ) (row : List (K × X)) (nodes : List (Node (K × X))) (t : Node (K × X)) → AreMarked R marks → i < length R → (0 < length row → 0 < length (get_or R i []))
       → row_in nodes t ≡ row → AreMarked (set R i row) (cond (is_empty t) (set marks i false) marks)
   marked_now R marks i row nodes (Free n) are below some is = AreMarked-set R marks are i below row false (ap (λ ps. nat_lt 0 (length ps)) is)
   marked_now R marks i row nodes (Held l p) are below some is =
       let filled : 0 < length (p ∷ chain_of nodes l) = omega arith in
-      AreMarked-kept R marks are i below row (are.own i ∙ lt-ltb 0 (length (get_or R i [])) some ∙ sym (lt-ltb 0 (length (p ∷ chain_of nodes l)) filled) ∙ ap (λ ps. nat_lt 0 (length ps)) is)
+      let left = ap length is in
+      AreMarked-kept R marks are i below row (are.own i ∙ lt-ltb 0 (length (get_or R i [])) (some (omega (arith, left))) ∙ sym (lt-ltb 0 (length (p ∷ chain_of nodes l)) filled) ∙ ap (λ ps. nat_lt 0 (length ps)) is)
 
-  -- a slot that held a pair has another row, and if it has none any more it isn't marked
+  -- a slot has another row, which holds no pair if it held none, and if it has none any more it isn't marked
+  pub Row-shrunk : (slots : List (Node (K × X))) (a : Pool (K × X)) (marks : List Bool) (mask : ℕ) (i : ℕ) (s : Node (K × X)) (f : List (K × X) → List (K × X)) (b : Pool (K × X)) (t : Node (K × X))
+      → AreRows number slots a marks mask → IsRow slots a (rows_in slots a.nodes) i s → IsSlotSet a s (f (row_in a.nodes s)) b t
+      → AreHome (λ p. slot_number number p.0 (length slots)) i (f (row_in a.nodes s)) → (0 < length (f (get_or (rows_in slots a.nodes) i [])) → 0 < length (get_or (rows_in slots a.nodes) i []))
+      → HaveRows (set slots i t) b (cond (is_empty t) (set marks i false) marks) mask (set (rows_in slots a.nodes) i (f (get_or (rows_in slots a.nodes) i [])))
+  Row-shrunk slots a marks mask i s f b t are row h own some =
+      let len = length-map slots (row_in a.nodes) in
+      Row-set slots a marks mask i s f b t (cond (is_empty t) (set marks i false) marks) are row h own
+      (marked_now (rows_in slots a.nodes) marks i (f (get_or (rows_in slots a.nodes) i [])) b.nodes t are.marked (omega (arith, row.within, len)) some (h.pairs ∙ ap f row.is))
+
+  -- one that held a pair may have any row
   pub Row-changed : (slots : List (Node (K × X))) (a : Pool (K × X)) (marks : List Bool) (mask : ℕ) (i : ℕ) (s : Node (K × X)) (f : List (K × X) → List (K × X)) (b : Pool (K × X)) (t : Node (K × X))
       → AreRows number slots a marks mask → IsRow slots a (rows_in slots a.nodes) i s → IsSlotSet a s (f (row_in a.nodes s)) b t
       → AreHome (λ p. slot_number number p.0 (length slots)) i (f (row_in a.nodes s)) → 0 < length (get_or (rows_in slots a.nodes) i [])
       → HaveRows (set slots i t) b (cond (is_empty t) (set marks i false) marks) mask (set (rows_in slots a.nodes) i (f (get_or (rows_in slots a.nodes) i [])))
-  Row-changed slots a marks mask i s f b t are row h own some =
-      Row-set slots a marks mask i s f b t (cond (is_empty t) (set marks i false) marks) are row h own
-      (marked_now (rows_in slots a.nodes) marks i (f (get_or (rows_in slots a.nodes) i [])) b.nodes t are.marked (row-within (rows_in slots a.nodes) i some) some (h.pairs ∙ ap f row.is))
+  Row-changed slots a marks mask i s f b t are row h own some = Row-shrunk slots a marks mask i s f b t are row h own (λ _. some)
 
   free_row : (cs : List (Node (K × X))) (s : Node (K × X)) → freed s ≡ s → row_in cs s ≡ []
   free_row cs (Free n) free = refl

@@ -1,5 +1,5 @@
 //! Chains of nodes: the pairs of a slot behind its first one, in the order of the links.
-ghost use Rattle.std.specs.Prelude.{◌≡◌, ◌+◌, ◌^◌, ◌<◌, ◌≤◌, ℕ, [], ◌∷◌, ◌++◌, length, position, swap_remove, slice_index_or, None, Some, IfOk, IfErr, OnErr};
+ghost use Rattle.std.specs.Prelude.{◌≡◌, ◌+◌, ◌^◌, ◌<◌, ◌≤◌, ℕ, [], ◌∷◌, ◌++◌, drop, length, position, swap_remove, slice_index_or, None, Some, IfOk, IfErr, IfNone, IfSome, OnErr};
 ghost use Rattle.intmap_table.specs.Classes.{same_key};
 ghost use Rattle.intmap_table.specs.Reach.{through_first};
 ghost use Rattle.intmap_table.specs.Tables.Behind.{IsBehind};
@@ -113,6 +113,50 @@ pub(crate) fn seek<P, A: Allocator>(pool: &Pool<P, A>, from: usize, place: usize
         link = pool.link(link);
     }
     link
+}
+
+/// The link to the pair at a place of a chain, or one that leads nowhere if the chain has no such
+/// pair.
+#[inline(always)]
+pub(crate) fn skip<P, A: Allocator>(pool: &Pool<P, A>, from: usize, place: usize) -> usize
+    requires { IsChain pool.now.nodes from }
+    ensures chain { IsChain pool.now.nodes result }
+    ensures pairs { chain_of pool.now.nodes result ≡ drop place (chain_of pool.now.nodes from) }
+{
+    let mut link = from;
+    let mut left = place;
+    while left > 0 && link < NODE_LIMIT {
+        link = pool.link(link);
+        left -= 1;
+    }
+    link
+}
+
+/// The node before the pair at a place of a chain, and the node of this pair, if the chain has it.
+/// At the front of the chain there is no node before.
+#[inline(always)]
+pub(crate) fn find_behind<P, A: Allocator>(
+    pool: &Pool<P, A>,
+    from: usize,
+    place: usize,
+) -> Option<(usize, usize)>
+    requires { IsChain pool.now.nodes from }
+    ensures some { IfSome result (λ r. place < length (chain_of pool.now.nodes from)
+        × IsBehind pool.now.nodes from place r.0 r.1) }
+    ensures none { IfNone result (length (chain_of pool.now.nodes from) ≤ place) }
+{
+    let mut before = NOWHERE;
+    let mut at = from;
+    let mut passed = 0;
+    while let Some((next, _)) = pool.get(at) {
+        if passed == place {
+            return Some((before, at));
+        }
+        before = at;
+        at = next;
+        passed += 1;
+    }
+    None
 }
 
 /// The node before a place of a chain, and the node at this place. The first of them is none at the

@@ -33,9 +33,10 @@ use crate::linked::pool::Pool;
 use crate::linked::row;
 use crate::steps::Steps;
 use crate::table::stored::{Sought, Stored};
+use crate::table::walk::Cursor;
 use std::alloc::{AllocError, Allocator};
 use std::marker::Model;
-use walk::Pairs;
+use walk::{Pairs, PairsFrom, first_from, link_to};
 
 /// Slots, the nodes of their further pairs, and one bit for each slot, which says whether it holds
 /// a pair.
@@ -154,14 +155,6 @@ impl<K: IntKey, X, A: Allocator> Slots<K, X, A> {
         &pair.1
     }
 
-    /// Whether a slot has a pair at this place. `index` may be past the last slot.
-    #[inline(always)]
-    pub(crate) fn has_pair(&self, index: usize, place: usize) -> bool
-        ensures { result ≡ nat_lt place (length (row_at self.now index)) }
-    {
-        index <= self.mask && place < self.row_len(index)
-    }
-
     /// Which slots from an index on hold a pair, as far as the word of this index says.
     #[inline(always)]
     pub(crate) fn marks_from(&self, from: usize) -> MarksLeft
@@ -215,6 +208,23 @@ impl<K: IntKey, X, A: Allocator> Slots<K, X, A> {
         Pairs {
             link: NOWHERE,
             filled: self.bits.iter(),
+            slots: &self.slots,
+            pool: &self.pool,
+        }
+    }
+
+    /// The pairs from a cursor on, slot after slot. Any cursor will do.
+    #[inline(always)]
+    pub(crate) fn pairs_from(&self, at: Cursor) -> PairsFrom<'_, K, X, A>
+        ensures { result ≡ record { rows = self.now.rows; at = at } }
+    {
+        let from = first_from(at);
+        PairsFrom {
+            at,
+            link: link_to(&self.slots, &self.pool, at),
+            from,
+            left: self.bits.marks_from(from),
+            bits: &self.bits,
             slots: &self.slots,
             pool: &self.pool,
         }

@@ -1,16 +1,19 @@
 //! The walk of a table: cursors in it, and removal at a cursor or from the front.
-ghost use Rattle.std.specs.Bool.{OnFalse, OnTrue};
-ghost use Rattle.std.specs.Prelude.{◌≡◌, ◌+◌, ◌<◌, ◌≤◌, ◌^◌, [], ◌∷◌, cond, drop, is_some, length, take, MatchOption, IfNone, IfSome};
+ghost use Rattle.std.specs.Prelude.{◌≡◌, ◌+◌, ◌-◌, ◌<◌, ◌≤◌, ◌^◌, ℕ, [], ◌∷◌, ◌++◌, cond, drop, is_some, length, set, slice_index_or, take, MatchOption, IfNone, IfSome};
 ghost use Rattle.std.specs.Iterator.{YieldsFirst};
+ghost use Rattle.intmap_table.specs.Copying.{AreCopied};
 ghost use Rattle.intmap_table.specs.Picking.{pairs_before};
 ghost use Rattle.intmap_table.specs.Tables.Slots.{joined, count_before};
 ghost use Rattle.intmap_table.specs.Tables.Rows.{row_at};
 ghost use Rattle.intmap_table.specs.Walk.{slot_of, walk_of, ArePassed};
 ghost use Rattle.intmap_table.specs.Classes.{slot_number};
 
+use crate::kept::Kept;
 use crate::key::IntKey;
 use crate::table::Table;
 use crate::table::slots::Slots;
+use crate::table::slots::walk::PairsFrom;
+use crate::table::stored::Stored;
 use std::alloc::Allocator;
 
 /// A position in a walk: before the pair at this place of this slot or, if the slot has no such
@@ -32,27 +35,61 @@ impl Cursor {
     }
 }
 
-/// Moves the cursor to the pair that it is before, and returns whether there is one. No pair is
-/// passed.
+/// Removes the first pair from the cursor on, and moves the cursor to the place where it was.
 #[inline(always)]
-fn seek<K: IntKey, X, A: Allocator>(slots: &Slots<K, X, A>, at: &mut Cursor) -> bool
-    requires slots { length slots.now.rows ≤ 2 ^ 63 }
-    requires count { length (joined slots.now.rows) < 2 ^ 64 }
-    ensures pair { OnTrue result (at.new.place < length (row_at slots.now at.new.slot)) }
-    ensures none { OnFalse result (drop (count_before slots.now.rows at.old.slot at.old.place)
-        (joined slots.now.rows) ≡ []) }
-    ensures stays { OnFalse result (at.new ≡ at.old) }
-    ensures same { count_before slots.now.rows at.new.slot at.new.place
-        ≡ count_before slots.now.rows at.old.slot at.old.place }
+fn cut_from<K: IntKey, X, A: Allocator>(
+    slots: &mut Slots<K, X, A>,
+    at: &mut Cursor,
+) -> Option<(Stored<K>, X)>
+    requires { length slots.old.rows ≤ 2 ^ 63 }
+    ensures value { IfSome result (λ pair.
+        (at.new.place < length (row_at slots.old at.new.slot))
+        × (pair ≡ slice_index_or (row_at slots.old at.new.slot) at.new.place pair)
+        × (slots.new.rows ≡ set slots.old.rows at.new.slot
+        (take at.new.place (row_at slots.old at.new.slot)
+        ++ drop (at.new.place + 1) (row_at slots.old at.new.slot)))) }
+    ensures none { IfNone result ((slots.new ≡ slots.old) × (at.new ≡ at.old)
+        × (drop (count_before slots.old.rows at.old.slot at.old.place)
+        (joined slots.old.rows) ≡ [])) }
+    ensures same { count_before slots.old.rows at.new.slot at.new.place
+        ≡ count_before slots.old.rows at.old.slot at.old.place }
+    ensures total { slots.new.total ≡ slots.old.total }
 {
-    if slots.has_pair(at.slot, at.place) {
-        return true;
+    if let Some(pair) = slots.remove_at(at.slot, at.place) {
+        return Some(pair);
     }
     let Some(slot) = slots.next_filled(at.slot.saturating_add(1)) else {
-        return false;
+        return None;
     };
     *at = Cursor { slot, place: 0 };
-    true
+    Some(slots.take_front(slot))
+}
+
+/// Copies pairs from a cursor on, behind which the cursor moves, and returns how many: as many as
+/// there are elements to be written, or all that are left.
+#[inline(always)]
+fn copy_rest<K: IntKey, V: Copy, A: Allocator, P: From<(K, V)> + Drop>(
+    rest: &mut PairsFrom<'_, K, Kept<V>, A>,
+    copies: &mut [P],
+) -> usize
+    ensures copies { AreCopied P.from_gives
+        (drop (count_before rest.old.rows rest.old.at.slot rest.old.at.place)
+        (joined rest.old.rows)) copies.old copies.new result }
+    ensures passed { count_before rest.old.rows rest.new.at.slot rest.new.at.place
+        ≡ count_before rest.old.rows rest.old.at.slot rest.old.at.place + result }
+    ensures here { 0 < result → (j : ℕ) × (rest.new.at.place ≡ j + 1)
+        × (j < length (slice_index_or rest.old.rows rest.new.at.slot [])) }
+    ensures stays { result ≡ 0 → rest.new.at ≡ rest.old.at }
+{
+    let mut count = 0;
+    while count < copies.len() {
+        let Some(pair) = rest.next() else {
+            return count;
+        };
+        copies[count] = P::from((*pair.0.key(), *pair.1.get()));
+        count += 1;
+    }
+    count
 }
 
 impl<K: IntKey, X, A: Allocator> Table<K, X, A> {
@@ -76,13 +113,12 @@ impl<K: IntKey, X, A: Allocator> Table<K, X, A> {
             ≤ length (slot_of K.number_of self.now.walk self.now.capacity at.new.slot)) }
         ensures stays { IfNone result (at.new ≡ at.old) }
     {
-        if !seek(&self.slots, at) {
+        let mut rest = self.slots.pairs_from(*at);
+        let Some(pair) = rest.next() else {
             return None;
-        }
-        let place = at.place;
-        at.place += 1;
-        let key = self.slots.key_at(at.slot, place);
-        Some((key.key(), self.slots.value_at(at.slot, place)))
+        };
+        *at = rest.at;
+        Some((pair.0.key(), &pair.1))
     }
 
     /// Removes the first pair from the cursor on and returns it. The other pairs keep their order,
@@ -111,10 +147,9 @@ impl<K: IntKey, X, A: Allocator> Table<K, X, A> {
         ensures nodes { self.new.nodes ≡ self.old.nodes }
         ensures own { walk_of K.number_of self.new.walk self.new.capacity ≡ self.new.walk }
     {
-        if !seek(&self.slots, at) {
+        let Some((key, value)) = cut_from(&mut self.slots, at) else {
             return None;
-        }
-        let (key, value) = self.slots.remove_at(at.slot, at.place);
+        };
         Some((*key.key(), value))
     }
 
@@ -136,5 +171,29 @@ impl<K: IntKey, X, A: Allocator> Table<K, X, A> {
         *from = index;
         let (key, value) = self.slots.take_front(index);
         Some((*key.key(), value))
+    }
+}
+
+impl<K: IntKey, V: Copy, A: Allocator> Table<K, Kept<V>, A> {
+    /// Copies pairs of the walk from the cursor on, behind which the cursor moves, and returns how
+    /// many: as many as there are elements to be written, or all that are left.
+    #[inline(always)]
+    pub fn copy_pairs<P: From<(K, V)> + Drop>(&self, at: &mut Cursor, copies: &mut [P]) -> usize
+        ensures copies { AreCopied P.from_gives
+            (drop (pairs_before K.number_of self.now.walk self.now.capacity at.old) self.now.walk)
+            copies.old copies.new result }
+        ensures passed { pairs_before K.number_of self.now.walk self.now.capacity at.new
+            ≡ pairs_before K.number_of self.now.walk self.now.capacity at.old + result }
+        ensures slot { (p : K × V) → 0 < result → at.new.slot ≡ slot_number K.number_of
+            (slice_index_or self.now.walk (pairs_before K.number_of self.now.walk self.now.capacity
+            at.new - 1) p).0 self.now.capacity }
+        ensures within { 0 < result → at.new.place
+            ≤ length (slot_of K.number_of self.now.walk self.now.capacity at.new.slot) }
+        ensures stays { result ≡ 0 → at.new ≡ at.old }
+    {
+        let mut rest = self.slots.pairs_from(*at);
+        let count = copy_rest(&mut rest, copies);
+        *at = rest.at;
+        count
     }
 }

@@ -1,5 +1,5 @@
 //! Pairs are removed from a slot.
-ghost use Rattle.std.specs.Prelude.{◌≡◌, ◌+◌, ◌<◌, ℕ, true, ◌++◌, drop, length, swap_remove, take, slice_index_or, None, Some};
+ghost use Rattle.std.specs.Prelude.{◌≡◌, ◌+◌, ◌<◌, ◌≤◌, ℕ, true, ◌++◌, drop, length, swap_remove, take, slice_index_or, None, Some, IfNone, IfSome};
 ghost use Rattle.intmap_table.specs.Bindings.{swap_out, value_of};
 ghost use Rattle.intmap_table.specs.Classes.{same_key};
 ghost use Rattle.intmap_table.specs.Reach.{through_first};
@@ -8,7 +8,7 @@ ghost use Rattle.intmap_table.specs.Tables.Nodes.{Held, chain_of, row_in, IsChai
 ghost use Rattle.intmap_table.specs.Tables.Walked.{IsUnlinked};
 
 use crate::key::IntKey;
-use crate::linked::chain::{last_from, search, seek_behind};
+use crate::linked::chain::{find_behind, last_from, search, seek_behind};
 use crate::linked::node::{NODE_LIMIT, NOWHERE, Node};
 use crate::linked::pool::Pool;
 use crate::steps::Steps;
@@ -181,21 +181,28 @@ pub(crate) fn pop_front_of_several<P, A: Allocator>(
     slot.replace(second)
 }
 
-/// Removes the pair at a place. Those behind it move up by one place.
-pub(crate) fn remove<P, A: Allocator>(slot: &mut Node<P>, pool: &mut Pool<P, A>, place: usize) -> P
-    requires leads { IsSlot pool.old.nodes slot.old }
-    requires within { place < length (row_in pool.old.nodes slot.old) }
-    ensures value { result ≡ slice_index_or (row_in pool.old.nodes slot.old) place result }
+/// Removes the pair at a place, if there is one. Those behind it move up by one place.
+pub(crate) fn remove<P, A: Allocator>(
+    slot: &mut Node<P>,
+    pool: &mut Pool<P, A>,
+    place: usize,
+) -> Option<P>
+    requires { IsSlot pool.old.nodes slot.old }
+    ensures value { IfSome result (λ pair. (place < length (row_in pool.old.nodes slot.old))
+        × (pair ≡ slice_index_or (row_in pool.old.nodes slot.old) place pair)) }
+    ensures none { IfNone result (length (row_in pool.old.nodes slot.old) ≤ place) }
     ensures row { IsSlotSet pool.old slot.old (take place (row_in pool.old.nodes slot.old)
         ++ drop (place + 1) (row_in pool.old.nodes slot.old)) pool.new slot.new }
     ensures total { pool.new.total ≡ pool.old.total }
 {
     let Some((link, _)) = slot.get() else {
-        unreachable!();
+        return None;
     };
     if place == 0 {
-        return pop_front(slot, link, pool);
+        return Some(pop_front(slot, link, pool));
     }
-    let (before, at) = seek_behind(pool, link, place - 1);
-    unlink(slot, pool, before, at)
+    let Some((before, at)) = find_behind(pool, link, place - 1) else {
+        return None;
+    };
+    Some(unlink(slot, pool, before, at))
 }

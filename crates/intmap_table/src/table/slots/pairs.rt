@@ -1,5 +1,5 @@
 //! Single pairs are put into a slot, replaced and removed.
-ghost use Rattle.std.specs.Prelude.{◌≡◌, ◌+◌, ◌<◌, ◌≤◌, ℕ, [], ◌∷◌, ◌++◌, List, drop, length, position, set, swap_remove, take, slice_index_or, slice_set, cond, false, true, None, Some, MatchBool, IfOk, IfErr, IsOk, OnErr, OnOk};
+ghost use Rattle.std.specs.Prelude.{◌≡◌, ◌+◌, ◌<◌, ◌≤◌, ℕ, [], ◌∷◌, ◌++◌, List, drop, length, position, set, swap_remove, take, slice_index_or, slice_set, cond, false, true, None, Some, MatchBool, IfOk, IfErr, IfNone, IfSome, IsOk, OnErr, OnOk};
 ghost use Rattle.intmap_table.specs.Bindings.{swap_out, value_of};
 ghost use Rattle.intmap_table.specs.Classes.{same_key, slot_number};
 ghost use Rattle.intmap_table.specs.Reach.{through_first};
@@ -175,14 +175,19 @@ impl<K: IntKey, X, A: Allocator> Slots<K, X, A> {
         Some(value)
     }
 
-    /// Removes the pair at a place of a slot. Those behind it move up by one place.
-    pub(crate) fn remove_at(&mut self, index: usize, place: usize) -> (Stored<K>, X)
-        requires { place < length (row_at self.old index) }
-        ensures value { result ≡ slice_index_or (row_at self.old index) place result }
+    /// Removes the pair at a place of a slot, if there is one. Those behind it move up by one place.
+    /// `index` may be past the last slot.
+    pub(crate) fn remove_at(&mut self, index: usize, place: usize) -> Option<(Stored<K>, X)>
+        ensures value { IfSome result (λ pair. (place < length (row_at self.old index))
+            × (pair ≡ slice_index_or (row_at self.old index) place pair)) }
+        ensures none { IfNone result (length (row_at self.old index) ≤ place) }
         ensures rows { self.new.rows ≡ set self.old.rows index
             (take place (row_at self.old index) ++ drop (place + 1) (row_at self.old index)) }
         ensures total { self.new.total ≡ self.old.total }
     {
+        if index > self.mask {
+            return None;
+        }
         let slot = &mut self.slots[index];
         let pair = removal::remove(slot, &mut self.pool, place);
         unmark_if(&mut self.bits, slot.is_empty(), index);

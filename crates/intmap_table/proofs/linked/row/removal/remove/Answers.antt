@@ -1,39 +1,27 @@
-use Rattle.std.proofs.Common.{◌-◌, ◌+◌, ◌<◌, ◌++◌, length, take, drop, refl, sym, ap, ◌∙◌, arith}
+use Rattle.std.proofs.Common.{◌≡◌, ◌-◌, ◌+◌, ◌<◌, ◌++◌, length, take, drop, refl, sym, ap, ◌∙◌, arith}
 use Rattle.std.specs.Prelude.{get_or}
 use Rattle.intmap_table.specs.Tables.Nodes.{Held, chain_of, row_in}
 use Rattle.intmap_table.proofs.Nodes.SlotLemmas.{slot_is, Remove-value, Remove-behind}
 use Rattle.intmap_table.proofs.linked.row.removal.remove.Goals as goal
-use Rattle.intmap_table.proofs.linked.row.removal.remove.Goals.{Else-place-eq0}
-
-pub returns-then-place-eq0-clause-value : goal.returns-then-place-eq0-clause-value
-returns-then-place-eq0-clause-value g c = rw (c.if-place-eq0.true, c.pop_front.ensures.value) refl
 
 pub returns-then-place-eq0-clause-row : goal.returns-then-place-eq0-clause-row
 returns-then-place-eq0-clause-row g c = rw (c.if-place-eq0.true, c.pop_front.ensures.value) (c.pop_front.ensures.row c.pop_front.result)
 
--- a place of the chain
-less : (g : _) (c : Else-place-eq0 g) → c.args.place - 1 < length (chain_of c.args.pool.now.nodes c.in-Some.link)
-less g c =
-    let within = rw c.in-Some.ensures.some at c.requires.within in
-    omega (arith, within, c.if-place-eq0.false)
-
-pub seek_behind-before-requires-clause-within : goal.seek_behind-before-requires-clause-within
-seek_behind-before-requires-clause-within g c = let l = less g (goal.at.seek_behind-before-requires-clause-within g c).Else-place-eq0 in omega (arith, l)
-
-pub unlink-requires : goal.unlink-requires
-unlink-requires g c = (c.in-Some.link, c.args.place - 1, c.in-Some.field-0-1.now, c.in-Some.ensures.some, less g (goal.at.unlink-requires g c).Else-place-eq0, c.seek_behind-before.ensures)
-
 pub returns-clause-value : goal.returns-clause-value
 returns-clause-value g c =
     let p = c.in-Some.field-0-1.now in let l = c.in-Some.link in
-    let cut = c.unlink.ensures.cut l (c.args.place - 1) p c.in-Some.ensures.some c.seek_behind-before.ensures in
-    Remove-value c.args.pool.now l c.args.place p c.unlink.result c.unlink.new.pool cut.0 (omega (arith, c.if-place-eq0.false)) cut.2
-    ∙ sym (ap (λ s. get_or (row_in c.args.pool.now.nodes s) c.args.place c.unlink.result) c.in-Some.ensures.some)
+    let found = c.in-Some-find_behind.ensures.some in
+    let cut = c.unlink.ensures.cut l (c.args.place - 1) p c.in-Some.ensures.some found.1 in
+    let long = ap (λ s. length (row_in c.args.pool.now.nodes s)) c.in-Some.ensures.some in (
+      omega (arith, found.0, long, c.if-place-eq0.false),
+      Remove-value c.args.pool.now l c.args.place p c.unlink.result c.unlink.new.pool cut.0 (omega (arith, c.if-place-eq0.false)) cut.2
+          ∙ sym (ap (λ s. get_or (row_in c.args.pool.now.nodes s) c.args.place c.unlink.result) c.in-Some.ensures.some),
+    )
 
 pub returns-clause-row : goal.returns-clause-row
 returns-clause-row g c =
     let p = c.in-Some.field-0-1.now in let l = c.in-Some.link in
-    let cut = c.unlink.ensures.cut l (c.args.place - 1) p c.in-Some.ensures.some c.seek_behind-before.ensures in
+    let cut = c.unlink.ensures.cut l (c.args.place - 1) p c.in-Some.ensures.some c.in-Some-find_behind.ensures.some.1 in
     slot_is c.args.pool.now (Held l p) (Held cut.0 p) _ _ c.unlink.new.pool c.args.slot.now c.unlink.new.slot
     (Remove-behind c.args.pool.now l c.args.place p c.unlink.result c.unlink.new.pool cut.0 (omega (arith, c.if-place-eq0.false)) cut.2)
     c.in-Some.ensures.some (ap (λ s. take c.args.place (row_in c.args.pool.now.nodes s) ++ drop (c.args.place + 1) (row_in c.args.pool.now.nodes s)) c.in-Some.ensures.some) cut.1
