@@ -30,6 +30,8 @@ LEFT = [
     "intmap/src/map/json.rt",
     "intmap/src/map/json/read.rt",
     "intmap_table/src/lent.rt",
+    "intmap_table/src/table/slots/reached.rt",
+    "intmap_table/src/table/walk.rt",
     "intmap_set/src/laws.rt",
     "intmap_set/src/set/iter/extract.rt",
     "intmap_set/src/set/owned.rt",
@@ -99,22 +101,22 @@ NOT_CALLED = {
         impl<K: IntKey, A: Allocator + Copy> Clone for IntSet<K, A> {""",
     "intmap_table/src/linked/row/removal.rt": """
         pub(crate) fn remove<P, A: Allocator>(""",
+    "intmap_table/src/linked/chain.rt": """
+        pub(crate) fn skip<P, A: Allocator>(
+        pub(crate) fn find_behind<P, A: Allocator>(""",
+    "intmap_table/src/table.rt": """
+        pub mod walk;""",
     "intmap_table/src/table/slots.rt": """
-        pub(crate) fn has_pair(&self,""",
+        pub(crate) mod reached;""",
     "intmap_table/src/table/slots/pairs.rt": """
         pub(crate) fn remove_at(&mut self,""",
-    "intmap_table/src/table/walk.rt": """
-        pub struct Cursor {
-        impl Cursor {
-        fn seek<K: IntKey, X, A: Allocator>(
-        pub fn step(&self,
-        pub fn cut(&mut self,""",
 }
 # names that only those items have, by source, each with what stands around it in the list that it is used by, and what is
 # left of that
 NOT_NAMED = {
     "intmap/src/map/traits.rt": {"{AllocError, Allocator}": "Allocator"},
     "intmap_set/src/set/traits.rt": {"{AllocError, Allocator}": "Allocator"},
+    "intmap_table/src/linked/row/removal.rt": {"{find_behind, last_from": "{last_from"},
 }
 # how the items of sources begin that are left out
 LEFT_ITEMS = re.compile(r"impl\b[^;]* (Model|Drop) for |unsafe impl (Send|Sync) for Tally \{\}")

@@ -28,7 +28,7 @@ import re
 HOMES = {"intmap_table": "table", "intmap": "map", "intmap_set": "set"}
 
 LEFT_OUT = {
-    "intmap_table": ["lent"],
+    "intmap_table": ["lent", "table/slots/reached", "table/walk"],
     "intmap": ["decimal", "laws", "map/iter/cursor", "map/iter/disjoint", "map/iter/written", "map/json"],
     "intmap_set": ["laws", "set/iter/extract", "set/owned"],
 }
@@ -62,15 +62,15 @@ UNCALLED = {
         "impl<K: IntKey + fmt::Debug, A: Allocator + Copy> fmt::Debug for IntSet",
         "impl<K: IntKey, A: Allocator + Copy> Clone for IntSet",
     ],
+    "intmap_table/linked/chain": ["pub(crate) fn skip<", "pub(crate) fn find_behind<"],
     "intmap_table/linked/row/removal": ["pub(crate) fn remove<"],
-    "intmap_table/table/slots": ["pub(crate) fn has_pair("],
     "intmap_table/table/slots/pairs": ["pub(crate) fn remove_at("],
-    "intmap_table/table/walk": ["pub struct Cursor {", "impl Cursor {", "fn seek<", "pub fn step(", "pub fn cut("],
 }
 # What a source uses for items of UNCALLED alone, by the source: names in its `use` lists.
 UNNAMED = {
     "intmap/map/traits": ["AllocError"],
     "intmap_set/set/traits": ["AllocError"],
+    "intmap_table/linked/row/removal": ["find_behind"],
 }
 
 # Calls that run a key's `number` while pairs are on their way, by the source, each with what is written in its place.

@@ -31,6 +31,7 @@ LEFT = {
     "DisjointMut::next_counted": "the same",
     "IntMap::load_rate": "Rust's `intmap` returns it as an `f64`",
     "IntMap::step": "an iterator borrows the map, and needs no cursor",
+    "IntMap::copy_pairs": "the same",
     "IntMap::cut": "`extract_if` removes on the way",
     "IntMap::take_front": "`drain` makes it, and keeps what it requires",
     "IntSet::from_array": "it allocates a vector beside the set; Rust's arrays are iterators",

@@ -79,8 +79,8 @@
 // scramble each key by intmap_scramble. If keys share slots, intmap_filled_slots is far below
 // intmap_len.
 //
-// A cursor says how many pairs of a slot it has passed. So each step with it takes time in the
-// pairs of the slot, and a walk takes time in the square of the pairs of a crowded slot.
+// A cursor says how many pairs of a slot it has passed. So each call with it goes past as many, and
+// a walk by single steps takes time in the square of the pairs of a crowded slot.
 //
 // An insertion that adds slots moves all pairs. Spread over all insertions, this takes constant
 // time for each pair, and for each slot that was made in advance. If a call that makes room or sets
@@ -188,6 +188,7 @@ extern "C" {
 #define intmap_reserve_insertions intmap_debug_reserve_insertions
 #define intmap_set_load_factor intmap_debug_set_load_factor
 #define intmap_step intmap_debug_step
+#define intmap_copy_pairs intmap_debug_copy_pairs
 #define intmap_cut intmap_debug_cut
 #define intmap_equal intmap_debug_equal
 #endif
@@ -473,9 +474,10 @@ INTMAP_NONNULL INTMAP_MUST_USE static inline intmap_status intmap_with_room(intm
 
 // Returns INTMAP_PRESENT with the first pair of the walk from the cursor on, and moves the cursor
 // behind that pair. If no pair is left, it returns INTMAP_ABSENT, and leaves the cursor. The call
-// takes time in the pairs of the slot, and in a 64th of the slots that it passes. A whole walk
-// takes time in the pairs, in a 64th of the slots, and in the square of the pairs of each crowded
-// slot.
+// goes from the front of the cursor's slot to the cursor's place, and takes time in the pairs that
+// it passes there, and in a 64th of the slots that it passes. A whole walk takes time in the pairs,
+// in a 64th of the slots, and in the square of the pairs of each crowded slot: intmap_copy_pairs
+// takes less.
 //
 // Any cursor will do, whatever has happened to the map since. But intmap_remove moves the last pair
 // of a slot to another place of it, and so does intmap_insert with a present key. A growing map
@@ -486,21 +488,12 @@ INTMAP_NONNULL intmap_found_pair intmap_step(const intmap *map, intmap_cursor *a
 
 // Copies pairs of the walk from the cursor on, at most `room`, and moves the cursor behind them. It
 // returns how many it copied: fewer than `room` only if no pair is left. `pairs` is an array of at
-// least `room` pairs, which may be uninitialised. What lies behind the copied pairs stays. It takes
-// the time of intmap_step for each pair.
-INTMAP_NONNULL static inline size_t intmap_copy_pairs(const intmap *map, intmap_cursor *at,
-                                                      intmap_pair *pairs,
-                                                      size_t room) INTMAP_CALL {
-    size_t count = 0;
-    while (count < room) {
-        intmap_found_pair found = intmap_step(map, at);
-        if (found.status != INTMAP_PRESENT) {
-            break;
-        }
-        pairs[count++] = found.pair;
-    }
-    return count;
-}
+// least `room` pairs, which may be uninitialised. What lies behind the copied pairs stays. The call
+// requests no memory. It goes once from the front of the cursor's slot to the cursor's place, and
+// then from pair to pair, so a whole walk by one call takes time in the pairs, however many of them
+// share a slot, and in a 64th of the slots.
+INTMAP_NONNULL size_t intmap_copy_pairs(const intmap *map, intmap_cursor *at, intmap_pair *pairs,
+                                        size_t room) INTMAP_CALL;
 
 // Removes the first pair of the walk from the cursor on, and returns INTMAP_PRESENT with it. The
 // cursor is then where the pair was: the pairs before it stay, and those behind it come next, in

@@ -262,6 +262,8 @@ CALL(reading, size_t, capacity, (const intmap *map), (&one->map))
 CALL(reading, size_t, load_factor, (const intmap *map), (&one->map))
 CALL(reading, size_t, filled_slots, (const intmap *map), (&one->map))
 CALL(reading, intmap_found_pair, step, (const intmap *map, intmap_cursor *at), (&one->map, at))
+CALL(reading, size_t, copy_pairs, (const intmap *map, intmap_cursor *at, intmap_pair *pairs,
+                                   size_t room), (&one->map, at, pairs, room))
 CALL(changing, intmap_found_value, replace, (intmap *map, uint64_t key, uint64_t value),
      (&one->map, key, value))
 CALL(changing, intmap_found_value, add_present, (intmap *map, uint64_t key, uint64_t more),

@@ -330,7 +330,7 @@ static const struct {
 } mistakes[] = {
 #define MISTAKE(make, call, what) {make, #make, call, what}
     MISTAKE(get_of_copy, "intmap_get", COPY),
-    MISTAKE(copy_pairs_of_copy, "intmap_step", COPY),
+    MISTAKE(copy_pairs_of_copy, "intmap_copy_pairs", COPY),
     MISTAKE(at_of_copy, "intmap_place", COPY),
     MISTAKE(insert_into_copy, "intmap_insert", COPY),
     MISTAKE(clear_copy, "intmap_clear", COPY),

@@ -140,6 +140,19 @@ ALIGNED intmap_found_pair intmap_step(const intmap *map, intmap_cursor *at) INTM
     return turned(found);
 }
 
+ALIGNED size_t intmap_copy_pairs(const intmap *map, intmap_cursor *at, intmap_pair *pairs,
+                                 size_t room) INTMAP_CALL {
+    size_t copied;
+    turn_cursor(at);
+    copied = do_intmap_copy_pairs(BYTES(map), BYTES(at), BYTES(pairs), room);
+    turn_cursor(at);
+    for (size_t i = 0; HIGH_BYTE_FIRST && i < copied; i++) {
+        pairs[i].key = LOW_FIRST_64(pairs[i].key);
+        pairs[i].value = LOW_FIRST_64(pairs[i].value);
+    }
+    return copied;
+}
+
 ALIGNED intmap_found_pair intmap_cut(intmap *map, intmap_cursor *at) INTMAP_CALL {
     intmap_found_pair found;
     turn_cursor(at);

@@ -9,6 +9,7 @@ pub use Rattle.intmap_table.specs.Taking
 pub use Rattle.intmap_table.specs.Retaining
 pub use Rattle.intmap_table.specs.Writes
 pub use Rattle.intmap_table.specs.Picking
+pub use Rattle.intmap_table.specs.Copying
 pub use Rattle.intmap_table.specs.HandingOver
 pub use Rattle.intmap_table.specs.Locations
 pub use Rattle.intmap_table.specs.Values

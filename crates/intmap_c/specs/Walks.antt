@@ -1,11 +1,13 @@
 -- What a walk by a cursor returns to C, and what it leaves of a map, m before and n after.
-use Rattle.std.specs.Prelude.{◌≡◌, ◌⊎◌, ◌+◌, [], ◌∷◌, take, drop, length, None}
+use Rattle.std.specs.Prelude.{◌≡◌, ◌⊎◌, ℕ, ◌+◌, List, [], ◌∷◌, take, drop, length, None}
 use Rattle.intmap_table.specs.declared.table.walk.Cursor.{Cursor}
 use Rattle.intmap.specs.Bindings.{Updates}
+use Rattle.intmap.specs.Copying.{AreCopied}
 use Rattle.intmap.specs.Map.{passed, with_walk}
 use Rattle.intmap_c.specs.Statuses.{present_status, absent_status}
 use Rattle.intmap_c.specs.declared.answer.FoundPair.{FoundPair}
-use Rattle.intmap_c.specs.Answers.{no_pair}
+use Rattle.intmap_c.specs.declared.answer.Pair.{Pair}
+use Rattle.intmap_c.specs.Answers.{no_pair, pair_of}
 use Rattle.intmap_c.specs.Calls.{State, itself}
 
 -- the first pair of the walk from the cursor on is returned, and the cursor is behind it; or none is left, and the cursor stays
@@ -14,6 +16,12 @@ pub record TakesStep (m : State) (at to : Cursor) (found : FoundPair) : Type 0 w
       ((found.status ≡ present_status) × (drop (passed itself m at) m.walk ≡ (found.pair.key, found.pair.value) ∷ drop (passed itself m to) m.walk)
       × (passed itself m to ≡ passed itself m at + 1))
       ⊎ ((found ≡ no_pair absent_status) × (drop (passed itself m at) m.walk ≡ []) × (to ≡ at))
+
+-- the next n pairs of the walk from the cursor on were copied to the front of an array, all of them or as many as it has elements, and the cursor is behind them
+pub record CopiesPairs (m : State) (at to : Cursor) (old new : List Pair) (n : ℕ) : Type 0 where
+  pub copies : AreCopied (λ p made. made ≡ pair_of p) (drop (passed itself m at) m.walk) old new n
+  pub moves : passed itself m to ≡ passed itself m at + n
+  pub stays : n ≡ 0 → to ≡ at
 
 -- the first pair of the walk from the cursor on was removed, and is returned; or none is left, and the cursor stays; either way the same pairs are before the cursor
 pub record Cuts (m n : State) (at to : Cursor) (found : FoundPair) : Type 0 where

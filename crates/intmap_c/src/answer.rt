@@ -42,6 +42,20 @@ pub struct Pair {
     pub value: u64,
 }
 
+/// The pair as C has it.
+impl From<(u64, u64)> for Pair {
+    ghost use Rattle.intmap_c.specs.Answers.{pair_of};
+
+    ghost from_gives = { λ pair made. made ≡ pair_of pair };
+
+    fn from(pair: (u64, u64)) -> Pair {
+        Pair {
+            key: pair.0,
+            value: pair.1,
+        }
+    }
+}
+
 /// A pair, if there is one.
 #[repr(C)]
 #[derive(Drop)]

@@ -7,9 +7,9 @@ ghost use Rattle.std.specs.Borrow.{sem};
 ghost use Rattle.intmap_c.specs.Answers.{value_found};
 ghost use Rattle.intmap_c.specs.Calls.{AreEqual, Clones, bound_to, filled_slots_of, map_of};
 ghost use Rattle.intmap_c.specs.Loans.{Loan, is_lent};
-ghost use Rattle.intmap_c.specs.Walks.{TakesStep};
+ghost use Rattle.intmap_c.specs.Walks.{CopiesPairs, TakesStep};
 
-use crate::answer::{FoundPair, FoundValue, OK};
+use crate::answer::{FoundPair, FoundValue, OK, Pair};
 use crate::handle::{Handle, take};
 use crate::lent::{LentMap, Word};
 use crate::make::keep;
@@ -202,6 +202,37 @@ pub unsafe extern "C" fn intmap_step(word: &Word, at: &mut Cursor) -> FoundPair
         life: PhantomData,
     };
     step(lent, at)
+}
+
+/// Copies pairs, and returns what [`intmap_copy_pairs`] returns.
+fn copy_pairs(lent: LentMap<'_>, at: &mut Cursor, pairs: &mut [Pair]) -> usize
+    ensures { CopiesPairs (map_of lent.entry.value) at.old at.new pairs.old pairs.new result }
+{
+    match lent.map() {
+        None => 0,
+        Some(map) => map.copy_pairs(at, pairs),
+    }
+}
+
+/// Copies the pairs of the walk from the cursor on to the front of an array, and moves the cursor
+/// behind them. It returns how many it copied: as many as the array has elements, or all that are
+/// left if they are fewer. The other elements stay.
+#[unsafe(no_mangle)]
+pub unsafe extern "C" fn intmap_copy_pairs(
+    word: &Word,
+    at: &mut Cursor,
+    pairs: &mut [Pair],
+) -> usize
+    ghost loan: { Loan }
+    requires* lent { sem 𝓛 (is_lent loan word.now.at) }
+    ensures* kept { sem 𝓛 (is_lent loan word.now.at) }
+    ensures copies { CopiesPairs (map_of loan.value) at.old at.new pairs.old pairs.new result }
+{
+    let lent = LentMap {
+        at: word.at,
+        life: PhantomData,
+    };
+    copy_pairs(lent, at, pairs)
 }
 
 /// Returns what [`intmap_equal`] returns.

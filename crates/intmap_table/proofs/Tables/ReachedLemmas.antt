@@ -1,5 +1,5 @@
 -- Walks that go on from a cursor: what a step along a link does, and what a step to the next marked slot does.
-use Rattle.std.proofs.Common.{◌≡◌, inl, inr, ℕ, ◌+◌, ◌-◌, ◌^◌, ◌<◌, ◌≤◌, Bool, false, List, [], ◌∷◌, length, get_or, drop, min, refl, sym, ap, ◌∙◌, subst, arith}
+use Rattle.std.proofs.Common.{◌≡◌, inl, inr, ℕ, ◌+◌, ◌-◌, ◌^◌, ◌<◌, ◌≤◌, Bool, false, List, [], ◌∷◌, length, get_or, drop, min, sym, ap, ◌∙◌, subst, arith}
 use Rattle.std.specs.Prelude.{cond, nat_lt}
 use Rattle.std.proofs.lemmas.Bool.{cases_lt, lt-ltb, le-ltb}
 use Rattle.std.proofs.lemmas.List.{drop_more, get_or_past, get_or-map, get_or_default, length-drop, length-map}
@@ -13,7 +13,7 @@ use Rattle.intmap_table.proofs.Nodes.NodeLemmas.{Stop}
 use Rattle.intmap_table.proofs.Nodes.PathLemmas.{Chain-next, Chain-end, Leads-limit}
 use Rattle.intmap_table.proofs.Tables.AroundLemmas.{joined-before}
 use Rattle.intmap_table.proofs.Tables.CursorLemmas.{before-here, before-next, before-past, drop-end}
-use Rattle.intmap_table.proofs.Tables.FilledLemmas.{next-marked, row-within}
+use Rattle.intmap_table.proofs.Tables.FilledLemmas.{next-marked}
 use Rattle.intmap_table.proofs.Tables.MarkedLemmas.{row-none}
 
 -- slot i has this row

@@ -1,10 +1,11 @@
-//! Removal of all pairs of a table, one by one, from the front of its walk.
+//! Removal of the pairs of a table, one by one, from the front of its walk.
 ghost use Rattle.std.specs.Bool.{OnFalse, OnTrue};
-ghost use Rattle.std.specs.Prelude.{◌≡◌, ◌≤◌, ◌^◌, [], length};
+ghost use Rattle.std.specs.Prelude.{◌≡◌, ◌≤◌, ◌^◌, [], length, IfNone, IfSome};
 ghost use Rattle.std.specs.Iterator.{YieldsFirst};
 ghost use Rattle.intmap_table.specs.Fronts.{IsFront, IsRowFront};
 ghost use Rattle.intmap_table.specs.Tables.Slots.{joined, IsNextRow};
-ghost use Rattle.intmap_table.specs.Walk.{walk_of};
+ghost use Rattle.intmap_table.specs.Walk.{walk_of, ArePassed};
+ghost use Rattle.intmap_table.specs.Classes.{slot_number};
 
 use crate::bits::MarksLeft;
 use crate::key::IntKey;
@@ -64,6 +65,26 @@ impl<K: IntKey, X, A: Allocator> Table<K, X, A> {
             return None;
         }
         let (key, value) = self.slots.take_front(front.at);
+        Some((*key.key(), value))
+    }
+
+    /// Removes the first pair of the walk and returns it. No slot before `from` may hold a pair.
+    /// `from` moves on to the slot that held the removed pair. If no pair is left, `from` stays.
+    #[inline(always)]
+    pub fn take_front(&mut self, from: &mut usize) -> Option<(K, X)>
+        requires { ArePassed K.number_of self.old.walk self.old.capacity from.old }
+        ensures first { YieldsFirst (λ t. t.walk) self.old result self.new }
+        ensures capacity { self.new.capacity ≡ self.old.capacity }
+        ensures nodes { self.new.nodes ≡ self.old.nodes }
+        ensures own { walk_of K.number_of self.new.walk self.new.capacity ≡ self.new.walk }
+        ensures passed { ArePassed K.number_of self.new.walk self.new.capacity from.new }
+        ensures slot { IfSome result
+            (λ pair. from.new ≡ slot_number K.number_of pair.0 self.old.capacity) }
+        ensures stays { IfNone result (from.new ≡ from.old) }
+    {
+        let index = self.slots.next_filled(*from)?;
+        *from = index;
+        let (key, value) = self.slots.take_front(index);
         Some((*key.key(), value))
     }
 }

@@ -3,15 +3,16 @@
 //! hold a pair is known here alone.
 //!
 //! `pairs` has the calls on a pair of one slot, `closures` those with a closure, `writing` that
-//! which lends a value and that which drops all pairs, `walk` has the pairs by reference, `owned`
-//! those by value, and `clone` copies the slots. Of growth, `grow` adds slots and goes over the old
-//! ones, and `refill` puts each pair into its slot.
+//! which lends a value and that which drops all pairs, `walk` has the pairs by reference, `reached`
+//! those from a cursor on, `owned` those by value, and `clone` copies the slots. Of growth, `grow`
+//! adds slots and goes over the old ones, and `refill` puts each pair into its slot.
 
 mod clone;
 mod closures;
 mod grow;
 pub(crate) mod owned;
 mod pairs;
+pub(crate) mod reached;
 mod refill;
 pub mod walk;
 mod writing;
@@ -33,10 +34,9 @@ use crate::linked::pool::Pool;
 use crate::linked::row;
 use crate::steps::Steps;
 use crate::table::stored::{Sought, Stored};
-use crate::table::walk::Cursor;
 use std::alloc::{AllocError, Allocator};
 use std::marker::Model;
-use walk::{Pairs, PairsFrom, first_from, link_to};
+use walk::Pairs;
 
 /// Slots, the nodes of their further pairs, and one bit for each slot, which says whether it holds
 /// a pair.
@@ -208,23 +208,6 @@ impl<K: IntKey, X, A: Allocator> Slots<K, X, A> {
         Pairs {
             link: NOWHERE,
             filled: self.bits.iter(),
-            slots: &self.slots,
-            pool: &self.pool,
-        }
-    }
-
-    /// The pairs from a cursor on, slot after slot. Any cursor will do.
-    #[inline(always)]
-    pub(crate) fn pairs_from(&self, at: Cursor) -> PairsFrom<'_, K, X, A>
-        ensures { result ≡ record { rows = self.now.rows; at = at } }
-    {
-        let from = first_from(at);
-        PairsFrom {
-            at,
-            link: link_to(&self.slots, &self.pool, at),
-            from,
-            left: self.bits.marks_from(from),
-            bits: &self.bits,
             slots: &self.slots,
             pool: &self.pool,
         }

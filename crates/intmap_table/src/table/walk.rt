@@ -1,18 +1,17 @@
-//! The walk of a table: cursors in it, and removal at a cursor or from the front.
+//! Cursors in the walk of a table: steps, removal and copies at a cursor.
 ghost use Rattle.std.specs.Prelude.{◌≡◌, ◌+◌, ◌-◌, ◌<◌, ◌≤◌, ◌^◌, ℕ, [], ◌∷◌, ◌++◌, cond, drop, is_some, length, set, slice_index_or, take, MatchOption, IfNone, IfSome};
-ghost use Rattle.std.specs.Iterator.{YieldsFirst};
 ghost use Rattle.intmap_table.specs.Copying.{AreCopied};
 ghost use Rattle.intmap_table.specs.Picking.{pairs_before};
 ghost use Rattle.intmap_table.specs.Tables.Slots.{joined, count_before};
 ghost use Rattle.intmap_table.specs.Tables.Rows.{row_at};
-ghost use Rattle.intmap_table.specs.Walk.{slot_of, walk_of, ArePassed};
+ghost use Rattle.intmap_table.specs.Walk.{slot_of, walk_of};
 ghost use Rattle.intmap_table.specs.Classes.{slot_number};
 
 use crate::kept::Kept;
 use crate::key::IntKey;
 use crate::table::Table;
 use crate::table::slots::Slots;
-use crate::table::slots::walk::PairsFrom;
+use crate::table::slots::reached::PairsFrom;
 use crate::table::stored::Stored;
 use std::alloc::Allocator;
 
@@ -150,26 +149,6 @@ impl<K: IntKey, X, A: Allocator> Table<K, X, A> {
         let Some((key, value)) = cut_from(&mut self.slots, at) else {
             return None;
         };
-        Some((*key.key(), value))
-    }
-
-    /// Removes the first pair of the walk and returns it. No slot before `from` may hold a pair.
-    /// `from` moves on to the slot that held the removed pair. If no pair is left, `from` stays.
-    #[inline(always)]
-    pub fn take_front(&mut self, from: &mut usize) -> Option<(K, X)>
-        requires { ArePassed K.number_of self.old.walk self.old.capacity from.old }
-        ensures first { YieldsFirst (λ t. t.walk) self.old result self.new }
-        ensures capacity { self.new.capacity ≡ self.old.capacity }
-        ensures nodes { self.new.nodes ≡ self.old.nodes }
-        ensures own { walk_of K.number_of self.new.walk self.new.capacity ≡ self.new.walk }
-        ensures passed { ArePassed K.number_of self.new.walk self.new.capacity from.new }
-        ensures slot { IfSome result
-            (λ pair. from.new ≡ slot_number K.number_of pair.0 self.old.capacity) }
-        ensures stays { IfNone result (from.new ≡ from.old) }
-    {
-        let index = self.slots.next_filled(*from)?;
-        *from = index;
-        let (key, value) = self.slots.take_front(index);
         Some((*key.key(), value))
     }
 }

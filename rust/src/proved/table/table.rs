@@ -15,7 +15,6 @@ pub mod owned;
 mod put;
 mod slots;
 pub mod stored;
-pub mod walk;
 
 use crate::memory::prelude::*;
 use crate::proved::table::key::IntKey;

@@ -1,7 +1,8 @@
 //! Walks that are kept as a cursor, and not as an iterator that borrows the map.
-ghost use Rattle.std.specs.Prelude.{◌≡◌, ◌+◌, [], ◌∷◌, cond, drop, is_some, ◌≤◌, length, take, IfNone, IfSome, MatchOption, None};
+ghost use Rattle.std.specs.Prelude.{◌≡◌, ◌+◌, ◌-◌, ◌<◌, ◌≤◌, [], ◌∷◌, cond, drop, is_some, length, slice_index_or, take, IfNone, IfSome, MatchOption, None};
 ghost use Rattle.intmap_table.specs.Bindings.{Updates};
 ghost use Rattle.intmap_table.specs.Classes.{slot_number};
+ghost use Rattle.intmap_table.specs.Copying.{AreCopied};
 ghost use Rattle.intmap_table.specs.Walk.{slot_of};
 ghost use Rattle.intmap.specs.Map.{IsMap, passed, with_walk};
 
@@ -23,8 +24,9 @@ impl<K: IntKey, V, A: Allocator + Copy> IntMap<K, V, A> {
     /// pairs are in other slots, and the walk may show some again or not at all. The call allocates
     /// nothing and never fails.
     ///
-    /// Each call goes past the pairs of the cursor's slot, to count them. So a whole walk takes
-    /// time in the numbers of pairs and slots, and in the square of the pairs of each crowded slot.
+    /// Each call goes from the front of the cursor's slot to the cursor's place. So a whole walk
+    /// takes time in the numbers of pairs and slots, and in the square of the pairs of each crowded
+    /// slot. [`copy_pairs`](IntMap::copy_pairs) goes on from pair to pair.
     ///
     /// ```text
     /// let map = IntMap::from_array(alloc, [(0, 10), (1, 11), (4, 14)])?;
@@ -61,7 +63,7 @@ impl<K: IntKey, V, A: Allocator + Copy> IntMap<K, V, A> {
     ///
     /// The other pairs of the slot behind the removed one move up by one place. The capacity, the
     /// load factor and both counts stay, and the map keeps its memory. It allocates nothing and
-    /// never fails. It goes past the pairs of the cursor's slot, as `step` does.
+    /// never fails. It goes to the cursor's place as `step` does.
     ///
     /// ```text
     /// let mut map = IntMap::from_array(alloc, [(0, 10), (4, 14), (8, 18)])?;
@@ -96,5 +98,42 @@ impl<K: IntKey, V, A: Allocator + Copy> IntMap<K, V, A> {
         };
         self.len -= 1;
         Some((key, kept.into_value()))
+    }
+}
+
+impl<K: IntKey, V: Copy, A: Allocator + Copy> IntMap<K, V, A> {
+    /// Copies the pairs of the walk from the cursor on to the front of `copies`, and moves the
+    /// cursor behind them. It returns how many it copied: as many as `copies` has elements, or all
+    /// that are left if they are fewer. The other elements stay. As with [`step`](IntMap::step),
+    /// any cursor will do.
+    ///
+    /// An element is made of a pair by `From`, so it may be the pair itself. The call allocates
+    /// nothing and never fails. It goes once from the front of the cursor's slot to the cursor's
+    /// place, and then from pair to pair. So a whole walk by one call takes time in the numbers of
+    /// pairs and slots, however many pairs share a slot.
+    ///
+    /// ```text
+    /// let map = IntMap::from_array(alloc, [(0, 10), (1, 11), (4, 14)])?;
+    /// let mut at = Cursor::start();
+    /// let mut copies = [(0, 0), (0, 0)];
+    /// map.copy_pairs(&mut at, copies.as_mut_slice())    // 2
+    /// copies                                            // [(0, 10), (4, 14)]
+    /// map.copy_pairs(&mut at, copies.as_mut_slice())    // 1
+    /// copies                                            // [(1, 11), (4, 14)]
+    /// ```
+    pub fn copy_pairs<P: From<(K, V)> + Drop>(&self, at: &mut Cursor, copies: &mut [P]) -> usize
+        ensures copies { AreCopied P.from_gives
+            (drop (passed K.number_of self.now at.old) self.now.walk) copies.old copies.new result }
+        ensures passed { passed K.number_of self.now at.new
+            ≡ passed K.number_of self.now at.old + result }
+        ensures slot { (p : K × V) → 0 < result → at.new.slot ≡ slot_number K.number_of
+            (slice_index_or self.now.walk (passed K.number_of self.now at.new - 1) p).0
+            self.now.capacity }
+        ensures within { 0 < result → at.new.place
+            ≤ length (slot_of K.number_of self.now.walk self.now.capacity at.new.slot) }
+        ensures stays { result ≡ 0 → at.new ≡ at.old }
+        ensures valid { IsMap K.number_of K.is_valid self.now }
+    {
+        self.table.copy_pairs(at, copies)
     }
 }

@@ -1,4 +1,4 @@
-//! Removal of all pairs of a table, one by one, from the front of its walk.
+//! Removal of the pairs of a table, one by one, from the front of its walk.
 
 use crate::memory::prelude::*;
 use crate::proved::table::bits::MarksLeft;
@@ -43,6 +43,16 @@ impl<K: IntKey, X, A: Allocator> Table<K, X, A> {
             return None;
         }
         let (key, value) = self.slots.take_front(front.at);
+        Some((*key.key(), value))
+    }
+
+    /// Removes the first pair of the walk and returns it. No slot before `from` may hold a pair.
+    /// `from` moves on to the slot that held the removed pair. If no pair is left, `from` stays.
+    #[inline(always)]
+    pub fn take_front(&mut self, from: &mut usize) -> Option<(K, X)> {
+        let index = self.slots.next_filled(*from)?;
+        *from = index;
+        let (key, value) = self.slots.take_front(index);
         Some((*key.key(), value))
     }
 }

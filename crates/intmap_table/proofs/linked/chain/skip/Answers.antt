@@ -1,7 +1,7 @@
-use Rattle.std.proofs.Common.{◌≡◌, ◌+◌, ◌-◌, ◌∷◌, length, drop, sym, ap, ◌∙◌, arith}
+use Rattle.std.proofs.Common.{◌≡◌, ◌-◌, ◌∷◌, drop, sym, ap, ◌∙◌, arith}
 use Rattle.std.specs.Prelude.{suc}
 use Rattle.intmap_table.specs.Tables.Nodes.{chain_of}
-use Rattle.intmap_table.proofs.Nodes.PathLemmas.{IsNext, Chain-first, Chain-some, Chain-next, Chain-beyond}
+use Rattle.intmap_table.proofs.Nodes.PathLemmas.{Chain-first, Chain-some, Chain-next}
 use Rattle.intmap_table.proofs.linked.chain.skip.Goals as goal
 
 pub link-link-requires : goal.link-link-requires

@@ -1,4 +1,4 @@
-use Rattle.std.proofs.Common.{◌≡◌, ◌-◌, length, drop}
+use Rattle.std.proofs.Common.{◌≡◌, drop}
 use Rattle.intmap_table.specs.Tables.Nodes.{chain_of, IsChain}
 use Rattle.intmap_table.proofs.linked.chain.skip.Given as goal
 

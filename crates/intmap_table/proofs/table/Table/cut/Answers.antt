@@ -1,4 +1,4 @@
-use Rattle.std.proofs.Common.{◌≡◌, ◌∷◌, ◌∙◌, [], get_or, length, length-set, take, drop, sym, ap, subst}
+use Rattle.std.proofs.Common.{◌≡◌, ◌∷◌, ◌∙◌, [], get_or, length, take, drop, sym, ap, subst}
 use Rattle.intmap_table.specs.Picking.{pairs_before}
 use Rattle.intmap_table.specs.Tables.Slots.{Grid, joined, count_before}
 use Rattle.intmap_table.specs.Tables.Rows.{Contents, IsTable}

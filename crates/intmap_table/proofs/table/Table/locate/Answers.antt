@@ -1,4 +1,4 @@
-use Rattle.std.proofs.Common.{[], ◌≡◌, ◌+◌, get_or, sym, ap, refl, ◌∙◌}
+use Rattle.std.proofs.Common.{[], ◌≡◌, ◌+◌, get_or, sym, ap, ◌∙◌}
 use Rattle.std.specs.Prelude.{position}
 use Rattle.intmap_table.specs.Classes.{slot_number, same_key}
 use Rattle.intmap_table.specs.Reach.{reach}

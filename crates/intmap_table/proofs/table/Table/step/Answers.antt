@@ -1,4 +1,4 @@
-use Rattle.std.proofs.Common.{◌≡◌, ◌+◌, ◌<◌, ◌≤◌, ◌∷◌, ◌∙◌, List, [], get_or, length, drop, sym, ap, subst, arith}
+use Rattle.std.proofs.Common.{◌≡◌, ◌+◌, ◌∷◌, ◌∙◌, length, drop, sym, ap, arith}
 use Rattle.intmap_table.specs.Picking.{pairs_before}
 use Rattle.intmap_table.specs.Tables.Slots.{joined, count_before}
 use Rattle.intmap_table.specs.declared.table.walk.Cursor.{Cursor}

@@ -1,7 +1,7 @@
-use Rattle.std.proofs.Common.{rules, ◌≡◌, ◌+◌, ◌<◌, ◌∷◌, List, [], length, drop, sym, ap, ◌∙◌, subst, arith}
+use Rattle.std.proofs.Common.{rules, ◌≡◌, ◌+◌, drop, sym, ap, ◌∙◌, arith}
 use Rattle.std.proofs.lemmas.List.{drop-drop}
 use Rattle.intmap_table.specs.Tables.Slots.{joined, count_before}
-use Rattle.intmap_table.proofs.CopyingLemmas.{Copying-none, Copying-one, Copying-full, Copying-all}
+use Rattle.intmap_table.proofs.CopyingLemmas.{Copying-one}
 use Rattle.intmap_table.proofs.table.walk.copy_rest.Goals as goal
 use Rattle.intmap_table.proofs.table.walk.copy_rest.Goals.{At-loop-count}
 

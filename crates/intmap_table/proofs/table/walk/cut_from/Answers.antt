@@ -1,6 +1,6 @@
-use Rattle.std.proofs.Common.{◌≡◌, ◌+◌, ◌≤◌, ◌++◌, ℕ, List, [], length, set, get_or, take, drop, refl, sym, ap, ◌∙◌, subst, arith, append-nil}
+use Rattle.std.proofs.Common.{◌≡◌, ◌+◌, ◌++◌, [], set, get_or, drop, refl, sym, ap, ◌∙◌, subst, arith, append-nil}
 use Rattle.std.proofs.lemmas.List.{drop_all, set-get_or, take_all}
-use Rattle.intmap_table.specs.Tables.Slots.{joined, count_before, IsNextRow}
+use Rattle.intmap_table.specs.Tables.Slots.{joined, IsNextRow}
 use Rattle.intmap_table.proofs.Tables.CursorLemmas.{before-next, before-past, drop-end}
 use Rattle.intmap_table.proofs.table.walk.cut_from.Goals as goal
 use Rattle.intmap_table.proofs.table.walk.cut_from.Goals.{In_default}

@@ -1,6 +1,6 @@
-use Rattle.std.proofs.Common.{◌≡◌, ◌-◌, ◌+◌, ◌<◌, ◌++◌, length, take, drop, refl, sym, ap, ◌∙◌, arith}
+use Rattle.std.proofs.Common.{◌-◌, ◌+◌, ◌++◌, length, take, drop, sym, ap, ◌∙◌, arith}
 use Rattle.std.specs.Prelude.{get_or}
-use Rattle.intmap_table.specs.Tables.Nodes.{Held, chain_of, row_in}
+use Rattle.intmap_table.specs.Tables.Nodes.{Held, row_in}
 use Rattle.intmap_table.proofs.Nodes.SlotLemmas.{slot_is, Remove-value, Remove-behind}
 use Rattle.intmap_table.proofs.linked.row.removal.remove.Goals as goal
 

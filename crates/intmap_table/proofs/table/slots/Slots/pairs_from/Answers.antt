@@ -1,4 +1,3 @@
-use Rattle.std.proofs.Common.{◌≤◌, length, arith}
 use Rattle.intmap_table.proofs.SlotNumberLemmas.{capacity-greatest}
 use Rattle.intmap_table.proofs.Tables.ReachedLemmas.{Position-start}
 use Rattle.intmap_table.proofs.table.slots.Slots.pairs_from.Goals as goal

@@ -1,4 +1,4 @@
-use Rattle.std.proofs.Common.{◌<◌, ◌+◌, ◌++◌, [], length, false, cond, take, arith, length-append}
+use Rattle.std.proofs.Common.{◌+◌, ◌++◌, [], length, false, cond, take, arith, length-append}
 use Rattle.std.specs.Prelude.{get_or, set, drop}
 use Rattle.std.proofs.lemmas.List.{length-drop, length-map, length-take}
 use Rattle.intmap_table.specs.Classes.{slot_number}

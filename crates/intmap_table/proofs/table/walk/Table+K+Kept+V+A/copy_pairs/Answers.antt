@@ -1,6 +1,5 @@
-use Rattle.std.proofs.Common.{◌≡◌, ◌+◌, ◌-◌, ◌<◌, ◌≤◌, ◌∷◌, ◌∙◌, [], get_or, length, drop, sym, ap, subst, arith}
+use Rattle.std.proofs.Common.{◌≡◌, ◌+◌, ◌-◌, ◌∙◌, [], get_or, length, drop, sym, ap, subst, arith}
 use Rattle.std.proofs.lemmas.List.{get_or_default, get_or-drop}
-use Rattle.intmap_table.specs.Classes.{slot_number}
 use Rattle.intmap_table.specs.Copying.{AreCopied}
 use Rattle.intmap_table.specs.Picking.{pairs_before}
 use Rattle.intmap_table.specs.Tables.Slots.{joined, count_before}

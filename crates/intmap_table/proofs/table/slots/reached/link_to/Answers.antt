@@ -3,11 +3,11 @@ use Rattle.std.specs.Prelude.{cond, get_or, nat_lt, suc}
 use Rattle.std.proofs.lemmas.Bool.{lt-ltb}
 use Rattle.std.proofs.lemmas.List.{get_or_past, get_or_default, length-map}
 use Rattle.std.proofs.Math.Seq.{drop-nil}
-use Rattle.intmap_table.specs.Tables.Nodes.{Free, Held, empty, chain_of, row_in, rows_in, IsChain, IsSlot}
+use Rattle.intmap_table.specs.Tables.Nodes.{Free, Held, empty, chain_of, row_in, rows_in, IsSlot}
 use Rattle.intmap_table.proofs.Nodes.PathLemmas.{Chain-none, IsChain-none}
 use Rattle.intmap_table.proofs.Tables.ReachedLemmas.{row-slot}
-use Rattle.intmap_table.proofs.table.slots.walk.link_to.Goals as goal
-use Rattle.intmap_table.proofs.table.slots.walk.link_to.Goals.{Else-at-slots, Else-at-eq0}
+use Rattle.intmap_table.proofs.table.slots.reached.link_to.Goals as goal
+use Rattle.intmap_table.proofs.table.slots.reached.link_to.Goals.{Else-at-slots, Else-at-eq0}
 
 module _ (g : _) (c : Else-at-eq0 g) where
   -- the cursor isn't before the first pair

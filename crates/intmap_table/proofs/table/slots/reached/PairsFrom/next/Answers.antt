@@ -1,11 +1,11 @@
-use Rattle.std.proofs.Common.{rules, ◌≡◌, ◌+◌, ◌<◌, ◌∷◌, length, get_or, drop, refl, sym, ap, ◌∙◌, arith}
+use Rattle.std.proofs.Common.{rules, ◌+◌, ◌<◌, ◌∷◌, length, drop, refl, sym, ap, ◌∙◌, arith}
 use Rattle.intmap_table.specs.Tables.Nodes.{rows_in}
 use Rattle.intmap_table.specs.Tables.Reached.{IsPosition}
 use Rattle.intmap_table.specs.Tables.Slots.{joined, count_before}
 use Rattle.intmap_table.proofs.Tables.CursorLemmas.{before-here, drop-here}
 use Rattle.intmap_table.proofs.Tables.ReachedLemmas.{IsOn, before-slot, row-limit, Position-end, Position-filled, Position-node, Position-slot, Position-within}
-use Rattle.intmap_table.proofs.table.slots.walk.PairsFrom.next.Goals as goal
-use Rattle.intmap_table.proofs.table.slots.walk.PairsFrom.next.Goals.{In-Some, In-Some-next_in, In-Some-get}
+use Rattle.intmap_table.proofs.table.slots.reached.PairsFrom.next.Goals as goal
+use Rattle.intmap_table.proofs.table.slots.reached.PairsFrom.next.Goals.{In-Some, In-Some-next_in, In-Some-get}
 
 -- the next pair is that of a node, and the cursor is behind it
 node : (g : _) (c : In-Some g) → IsOn c.self.inside.slots.now c.self.inside.pool.now.nodes c.self.inside.bits.now c.self.inside.at.slot c.self.inside.at.place c.in-Some.pair.now
