@@ -7,7 +7,8 @@
 // It compares each answer, the figures and the walk with the model's. A failed call must change
 // nothing. It counts requests and blocks, so it sees memory that isn't given back. It ends with one
 // line of counts, and with status 0 if nothing was wrong. The line also has a digest of all
-// requests, by which two forms of the library are compared that are to request the same.
+// requests, by which two forms of the library are compared that are to request the same. README.md
+// shows the line of 200,000 calls.
 #include "intmap.h"
 #include <inttypes.h>
 #include <stdio.h>
@@ -833,6 +834,34 @@ static void test_growth(void) {
     end_test();
 }
 
+// Ids fill the slots of a map without pairs, up to the one that adds slots. Of the model only the
+// figures are used.
+static void fill_to_growth(side *one) {
+    size_t slots = one->plain.capacity;
+    while (one->plain.capacity == slots) {
+        one->plain.capacity = slots_with_one_more(&one->plain);
+        EXPECT(!intmap_failed(intmap_insert(&one->map, one->plain.len++, 0).status));
+        check_figures(one);
+    }
+    call_free(one);
+}
+
+// At which pair maps grow whose slots a call made, 2 to 2^15 of them, and clones of such maps.
+static void test_thresholds(void (*call)(size_t number)) {
+    for (size_t slots = 2; slots <= 1 << 14; slots *= 2) {
+        call(slots);
+        call_clone();
+        fill_to_growth(it);
+        fill_to_growth(other);
+        for (size_t factor = 100; factor < 2000; factor += 600) {
+            call(slots);
+            call_set_load_factor(factor);
+            fill_to_growth(it);
+        }
+    }
+    end_test();
+}
+
 // Room for so many pairs behind the first keys. The next keys come into it, and add no slots.
 static void test_room_for(size_t factor, size_t len, size_t more) {
     call_make(4);
@@ -1124,6 +1153,28 @@ static void test_equal(void) {
     end_test();
 }
 
+// Each pair of a map in turn has another value in its clone, and then another key.
+static void test_equal_but_for_one(size_t len, size_t load_factor, uint64_t factor) {
+    call_make(4);
+    call_set_load_factor(load_factor);
+    for (size_t at = 0; at < len; at++) {
+        call_insertion(at % INSERTIONS, key_of(at, factor), at);
+    }
+    call_clone();
+    for (size_t at = 0; at < len; at++) {
+        intmap_pair pair = other->plain.pairs[at];
+        call_replace_or_add(false, pair.key, ~pair.value);
+        call_equal();
+        call_remove(pair.key);
+        call_insertion(INSERT, ~pair.key, pair.value);
+        call_equal();
+        call_remove(~pair.key);
+        call_insertion(INSERT, pair.key, pair.value);
+    }
+    call_equal();
+    end_test();
+}
+
 // A walk begins at the first pair, in a constant too.
 static void test_start(void) {
     static intmap_cursor constant = INTMAP_START;
@@ -1147,6 +1198,7 @@ static void test_cursors(void) {
     insert_some(200, 3);
     intmap_cursor at = intmap_start();
     for (int round = 0; round < 20000; round++) {
+        uint64_t value = number();
         switch (number() % 8) {
         case 0:
             at.slot = number() % 4 ? number() % (2 * plain->capacity) : far[number() % 4];
@@ -1155,13 +1207,13 @@ static void test_cursors(void) {
             at.place = number() % 4 ? number() % 4 : far[number() % 4];
             break;
         case 2:
-            call_insertion(INSERT, number() % 600, number());
+            call_insertion(INSERT, number() % 600, value);
             break;
         case 3:
             call_remove(number() % 600);
             break;
         case 4:
-            call_insertion(INSERT, number() % 40 * 1024, number());
+            call_insertion(INSERT, number() % 40 * 1024, value);
             break;
         default:
             break;
@@ -1426,6 +1478,11 @@ static void test_each(void) {
         RUN(test_stray_keys(kind));
     }
     RUN(test_growth());
+    RUN(test_thresholds(call_make));
+    RUN(test_thresholds(call_make_room));
+    RUN(test_thresholds(call_reserve_slots));
+    RUN(test_thresholds(call_reserve));
+    RUN(test_thresholds(call_reserve_insertions));
     RUN(test_room());
     RUN(test_limits_of_room());
     RUN(test_large_requests());
@@ -1434,6 +1491,12 @@ static void test_each(void) {
     RUN(test_limits());
     RUN(test_great_numbers());
     RUN(test_equal());
+    RUN(test_equal_but_for_one(300, 909, 0));
+    RUN(test_equal_but_for_one(300, 909, 1));
+    RUN(test_equal_but_for_one(300, 300, 3));
+    RUN(test_equal_but_for_one(300, 20000, 7));
+    RUN(test_equal_but_for_one(300, 909, 1 << 5));
+    RUN(test_equal_but_for_one(200, 909, (uint64_t)1 << 40));
     RUN(test_start());
     RUN(test_cursors());
     RUN(test_walks());
