@@ -4,18 +4,6 @@
 #include <inttypes.h>
 #include <stdio.h>
 
-// Prints all pairs, 64 at a time.
-static void print(const intmap *counts) {
-    intmap_pair pairs[64];
-    intmap_cursor at = intmap_start();
-    size_t copied;
-    while ((copied = intmap_copy_pairs(counts, &at, pairs, 64)) > 0) {
-        for (size_t i = 0; i < copied; i++) {
-            printf("%" PRIu64 ": %" PRIu64 "\n", pairs[i].key, pairs[i].value);
-        }
-    }
-}
-
 int main(void) {
     intmap counts = INTMAP_INIT;
     intmap_status status = INTMAP_OK;
@@ -23,7 +11,9 @@ int main(void) {
     while (!intmap_failed(status) && scanf("%" SCNu64, &number) == 1) {
         status = intmap_add_or_insert(&counts, number, 1).status;
     }
-    print(&counts);
+    INTMAP_FOR_EACH(&counts, pair) {
+        printf("%" PRIu64 ": %" PRIu64 "\n", pair->key, pair->value);
+    }
     printf("%zu numbers in %zu slots\n", intmap_len(&counts), intmap_capacity(&counts));
     intmap_free(&counts);
     if (intmap_failed(status)) {

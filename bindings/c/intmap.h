@@ -3,8 +3,9 @@
 //
 // A hash map from 64-bit keys to 64-bit values, version 1.1.0. Each function that is declared here
 // has a contract in crates/intmap_c of the repository, and its code there is proved to keep it.
-// Tests show the rest: what the functions do that are defined here, that calls succeed if malloc
-// does, which calls request no memory, that memory is given back, and how much stack calls take.
+// Tests show the rest: what the functions and the loop do that are defined here, that calls succeed
+// if malloc does, which calls request no memory, that memory is given back, and how much stack
+// calls take.
 // README.md says what has to be trusted.
 //
 // For C99 and C++11, on machines with addresses of 64 bits. Take this file and intmap.c:
@@ -16,17 +17,45 @@
 // the map at the end. With <inttypes.h> and <stdio.h>:
 //
 //     intmap map = INTMAP_INIT;
-//     if (intmap_failed(intmap_insert(&map, 21, 7).status)) {
+//     if (intmap_failed(intmap_put(&map, 21, 7))) {
 //         fputs("out of memory\n", stderr);
 //     }
 //     printf("%" PRIu64 "\n", intmap_get_or(&map, 21, 0));
 //     intmap_free(&map);
 //
+// CALLS. Each is explained where it is declared.
+//
+//     intmap_insert, intmap_put                           insert a pair, or replace the value
+//     intmap_find_or_insert                               insert unless the key is present
+//     intmap_add_or_insert, intmap_add_present            add to the value of a key
+//     intmap_replace                                      replace the value of a present key
+//     intmap_get, intmap_get_or, intmap_contains_key      look a key up
+//     intmap_at, intmap_place, intmap_at_or_insert        give the address of a value
+//     intmap_remove, intmap_clear                         remove one pair, all pairs
+//     INTMAP_FOR_EACH                                     loops over all pairs
+//     intmap_walk_begin, intmap_walk_next                 are for loops of other forms
+//     intmap_start, intmap_step, intmap_copy_pairs        go on from a cursor, by one pair or many
+//     intmap_cut, intmap_retain                           remove pairs on the way
+//     intmap_len, intmap_capacity, intmap_filled_slots    count pairs, slots, slots with a pair
+//     intmap_load_factor, intmap_set_load_factor          say how many pairs a slot is to have
+//     intmap_shrink_to_fit, intmap_free                   give memory back
+//     intmap_clone, intmap_equal                          copy a map, compare two
+//     intmap_from_pointer, intmap_to_pointer              make a value of an address, and back
+//     intmap_scramble, intmap_unscramble                  guard against keys that strangers choose
+//     intmap_failed                                       says whether a status is of a failure
+//     intmap_version                                      is the version of the code
+//
+// ROOM. Five calls make it in advance. Take the first that fits:
+//
+//     intmap_reserve_insertions    before insertions of any keys that mustn't fail
+//     intmap_with_room             for a new map that is to have so many pairs
+//     intmap_reserve               for so many pairs more
+//     intmap_with_slots            for a new map of so many slots; once intmap_with_capacity
+//     intmap_reserve_slots         for so many slots more than pairs, whatever the load factor
+//
 // SLOTS. The number of slots is a power of two. The low bits of a key choose its slot, and a slot
 // holds any number of pairs. The walk is the order of the pairs: slot after slot, and each slot
-// from front to back. It depends only on the calls that succeeded. intmap_with_slots and
-// intmap_reserve_slots count slots; intmap_with_room, intmap_reserve and intmap_reserve_insertions
-// count pairs.
+// from front to back. It depends only on the calls that succeeded.
 //
 // WHAT THE CALLER OWES. Nothing checks these rules. If a program breaks one, anything may happen.
 //
@@ -317,6 +346,12 @@ INTMAP_NONNULL bool intmap_contains_key(const intmap *map, uint64_t key) INTMAP_
 INTMAP_NONNULL INTMAP_MUST_USE intmap_found_value intmap_insert(intmap *map, uint64_t key,
                                                                 uint64_t value) INTMAP_CALL;
 
+// Inserts the pair as intmap_insert does, and returns the status alone.
+INTMAP_NONNULL INTMAP_MUST_USE static inline intmap_status intmap_put(intmap *map, uint64_t key,
+                                                                      uint64_t value) INTMAP_CALL {
+    return intmap_insert(map, key, value).status;
+}
+
 // Finds the key, or inserts it with the value. It returns INTMAP_PRESENT if it found the key, which
 // then keeps its value; or INTMAP_ABSENT, which is 0, if it inserted the key. For an absent key it
 // fails as intmap_insert does.
@@ -446,7 +481,7 @@ INTMAP_NONNULL INTMAP_MUST_USE intmap_status intmap_reserve(intmap *map, size_t 
 // then, with look-ups and removals by key between them. The rest is tested: that they request no
 // memory, and that these functions hand this on. Their status must be read all the same:
 //
-//     if (intmap_failed(intmap_insert(&map, 21, 7).status)) {
+//     if (intmap_failed(intmap_put(&map, 21, 7))) {
 //         abort(); // there was room
 //     }
 //
@@ -494,6 +529,60 @@ INTMAP_NONNULL intmap_found_pair intmap_step(const intmap *map, intmap_cursor *a
 // share a slot, and in a 64th of the slots.
 INTMAP_NONNULL size_t intmap_copy_pairs(const intmap *map, intmap_cursor *at, intmap_pair *pairs,
                                         size_t room) INTMAP_CALL;
+
+// How far a loop has come, with the pairs that it copied last.
+typedef struct intmap_walk {
+    const intmap *map;
+    intmap_cursor at;
+    size_t count, next;
+    intmap_pair pairs[64];
+} intmap_walk;
+
+// Starts a walk of the map, and returns the address of the walk, which may be uninitialised before.
+INTMAP_NONNULL static inline intmap_walk *intmap_walk_begin(intmap_walk *walk,
+                                                            const intmap *map) INTMAP_CALL {
+    walk->map = map;
+    walk->at = intmap_start();
+    walk->count = walk->next = 0;
+    return walk;
+}
+
+// Returns the address of the next pair, which the walk keeps until the next call with it, or NULL
+// if no pair is left. It copies 64 pairs at a time by intmap_copy_pairs.
+INTMAP_NONNULL static inline const intmap_pair *intmap_walk_next(intmap_walk *walk) INTMAP_CALL {
+    if (walk->next == walk->count) {
+        walk->next = 0;
+        walk->count = intmap_copy_pairs(walk->map, &walk->at, walk->pairs,
+                                        sizeof walk->pairs / sizeof walk->pairs[0]);
+    }
+    return walk->next < walk->count ? &walk->pairs[walk->next++] : NULL;
+}
+
+// Goes over all pairs, in the order of the walk. The loop declares `pair`, which is a
+// const intmap_pair *. Loops may be nested, and left by break or return. No proof covers them:
+//
+//     INTMAP_FOR_EACH(&map, pair) {
+//         printf("%" PRIu64 ": %" PRIu64 "\n", pair->key, pair->value);
+//     }
+//
+// The loop copies 64 pairs at a time, to some 1,100 bytes of stack. So if the body changes the
+// value of a later pair, the loop shows that value as it was or as it is. The loop shows each pair
+// once if the body only looks keys up, or changes values of present keys by intmap_replace,
+// intmap_add_present, intmap_add_or_insert or intmap_at. After any other call that takes
+// `intmap *`, the loop may miss pairs, show some again, or show pairs that are gone. To remove
+// pairs, call intmap_retain or intmap_cut. The word must stay where it is until the loop ends.
+#define INTMAP_FOR_EACH(map, pair) INTMAP_FOR_EACH_OF(intmap, map, pair)
+
+// The same over a map of a type that INTMAP_DECLARE of intmap_typed.h declared by this name. The
+// names of a loop have the number of its line, so that none hides another's.
+#define INTMAP_FOR_EACH_OF(name, map, pair)                                                        \
+    INTMAP_FOR_EACH_BY(name, map, pair, INTMAP_JOINED(name##_walk_, __LINE__),                     \
+                       INTMAP_JOINED(name##_on_, __LINE__))
+#define INTMAP_FOR_EACH_BY(name, map, pair, walk, on)                                              \
+    for (name##_walk walk, *on = name##_walk_begin(&walk, map); on != NULL; on = NULL)             \
+        for (const name##_pair *pair; (pair = name##_walk_next(on)) != NULL;)
+#define INTMAP_JOINED(one, other) INTMAP_JOINED_NOW(one, other)
+#define INTMAP_JOINED_NOW(one, other) one##other
 
 // Removes the first pair of the walk from the cursor on, and returns INTMAP_PRESENT with it. The
 // cursor is then where the pair was: the pairs before it stay, and those behind it come next, in

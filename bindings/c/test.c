@@ -275,11 +275,24 @@ static void check_figures(const side *one) {
     EXPECT(intmap_load_factor(&one->map) == one->plain.factor);
 }
 
+// The same by a loop.
+static void check_loop(const side *one) {
+    size_t passed = 0;
+    INTMAP_FOR_EACH(&one->map, pair) {
+        if (!EXPECT(passed < one->plain.len && same_pair(*pair, one->plain.pairs[passed]))) {
+            return;
+        }
+        passed++;
+    }
+    EXPECT(passed == one->plain.len);
+}
+
 static void check(const side *one) {
     uint64_t before = requests;
     check_figures(one);
     EXPECT(intmap_filled_slots(&one->map) == filled_of(&one->plain));
     check_walk(one, 64);
+    check_loop(one);
     EXPECT(requests == before);
 }
 
@@ -327,7 +340,7 @@ static bool fails(intmap_status status, side *changed) {
     return was_refused();
 }
 
-enum { INSERT, FIND_OR_INSERT, ADD_OR_INSERT, AT_OR_INSERT, INSERTIONS };
+enum { INSERT, PUT, FIND_OR_INSERT, ADD_OR_INSERT, AT_OR_INSERT, INSERTIONS };
 
 // Writes a present key's value in its place.
 static intmap_found_value at_or_insert(uint64_t key, uint64_t value) {
@@ -352,6 +365,10 @@ static intmap_found_value insertion(unsigned kind, uint64_t key, uint64_t value)
     if (kind == INSERT) {
         return intmap_insert(&it->map, key, value);
     }
+    if (kind == PUT) {
+        uint64_t old = intmap_get_or(&it->map, key, 0);
+        return (intmap_found_value){old, intmap_put(&it->map, key, value)};
+    }
     if (kind == ADD_OR_INSERT) {
         return intmap_add_or_insert(&it->map, key, value);
     }
@@ -365,7 +382,7 @@ static intmap_found_value insertion(unsigned kind, uint64_t key, uint64_t value)
 static void insert_present(unsigned kind, size_t place, uint64_t value) {
     intmap_pair *pair = &it->plain.pairs[place];
     intmap_pair again = {pair->key, value};
-    if (kind == INSERT) {
+    if (kind == INSERT || kind == PUT) {
         swap_out(&it->plain, place);
         put_last_in_slot(&it->plain, again);
     } else if (kind == ADD_OR_INSERT) {
@@ -1253,6 +1270,48 @@ static void test_walks(void) {
     end_test();
 }
 
+// A loop in a loop, of which one goes on early and the other is left early.
+static void test_loop_in_loop(void) {
+    size_t passed = 0, passed_inside = 0;
+    call_make(4);
+    insert_some(200, 3);
+    INTMAP_FOR_EACH(&it->map, pair) {
+        if (passed++ % 2 > 0) {
+            continue;
+        }
+        INTMAP_FOR_EACH(&it->map, inner) {
+            passed_inside++;
+            if (inner->key == pair->key) {
+                break;
+            }
+        }
+    }
+    EXPECT(passed == 200 && passed_inside == 100 * 100);
+    end_test();
+}
+
+// A loop whose body changes values, and one whose body frees the map.
+static void test_changes_in_loop(void) {
+    size_t passed = 0;
+    intmap_walk walk;
+    call_make(4);
+    insert_some(200, 1 << 3);
+    INTMAP_FOR_EACH(&it->map, pair) {
+        EXPECT(same_pair(*pair, it->plain.pairs[passed]));
+        call_replace_or_add(passed++ % 2, pair->key, number());
+    }
+    check(it);
+    INTMAP_FOR_EACH(&it->map, pair) {
+        EXPECT(passed > 200 || same_pair(*pair, it->plain.pairs[0]));
+        call_free(it);
+        passed++;
+    }
+    EXPECT(passed == 264);
+    intmap_walk_begin(&walk, &it->map);
+    EXPECT(intmap_walk_next(&walk) == NULL && intmap_walk_next(&walk) == NULL);
+    end_test();
+}
+
 // Some thousand keys of one slot. Removals keep its memory.
 static void test_one_slot(void) {
     const uint64_t factor = (uint64_t)1 << 40;
@@ -1500,6 +1559,8 @@ static void test_each(void) {
     RUN(test_start());
     RUN(test_cursors());
     RUN(test_walks());
+    RUN(test_loop_in_loop());
+    RUN(test_changes_in_loop());
     RUN(test_one_slot());
     RUN(test_cuts());
     RUN(test_kept_memory());

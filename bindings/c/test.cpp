@@ -15,7 +15,8 @@ static bool makes_and_reads(intmap *map) {
            && intmap_with_room(map, 20) == INTMAP_OK
            && intmap_with_slots(map, 9) == INTMAP_OK && intmap_capacity(map) == 16
            && intmap_with_capacity(map, 20) == INTMAP_OK && intmap_capacity(map) == 32
-           && is(intmap_insert(map, 21, 7), INTMAP_ABSENT, 0)
+           && is(intmap_insert(map, 21, 6), INTMAP_ABSENT, 0)
+           && intmap_put(map, 21, 7) == INTMAP_PRESENT
            && intmap_find_or_insert(map, 21, 8) == INTMAP_PRESENT
            && is(intmap_get(map, 21), INTMAP_PRESENT, 7) && intmap_get_or(map, 22, 9) == 9
            && intmap_contains_key(map, 21) && intmap_len(map) == 1
@@ -72,6 +73,19 @@ static bool clones_and_walks(intmap *map) {
     return is_good && intmap_len(map) == 0 && intmap_equal(map, map);
 }
 
+static bool goes_over_pairs(intmap *map) {
+    uint64_t sum = 0;
+    intmap_walk walk;
+    bool is_good = intmap_put(map, 3, 4) == INTMAP_ABSENT && intmap_put(map, 5, 6) == INTMAP_ABSENT;
+    INTMAP_FOR_EACH(map, pair) {
+        INTMAP_FOR_EACH(map, inner) {
+            sum += pair->key * inner->value;
+        }
+    }
+    const intmap_pair *first = intmap_walk_next(intmap_walk_begin(&walk, map));
+    return is_good && sum == (3 + 5) * (4 + 6) && first != nullptr && first->key == 5;
+}
+
 static bool takes_other_numbers() {
     int place = 0;
     return intmap_to_pointer(intmap_from_pointer(&place)) == &place
@@ -81,7 +95,8 @@ static bool takes_other_numbers() {
 int main() {
     intmap map = INTMAP_INIT;
     bool is_good = makes_and_reads(&map) && changes(&map) && changes_in_place(&map)
-                   && removes_some(&map) && clones_and_walks(&map) && takes_other_numbers();
+                   && removes_some(&map) && clones_and_walks(&map) && goes_over_pairs(&map)
+                   && takes_other_numbers();
     intmap_free(&map);
     map = INTMAP_NONE;
     return is_good && !intmap_failed(INTMAP_OK) && intmap_failed(INTMAP_TOO_LARGE) ? 0 : 1;
