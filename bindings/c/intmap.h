@@ -74,7 +74,7 @@
 // - There is enough stack. A call takes less than 2,000 bytes of it if intmap.c is compiled with
 //   -O1, -O2, -O3 or -Os, and less than 8,000 otherwise, besides what functions of the C library
 //   take. `make check` measures this with -O2 and with -O0. On x86-64, calls took some 800 bytes
-//   with gcc 12 -O2, 600 with clang 14 -O2, 2,500 with gcc 12 -O0 and 3,500 with clang 14 -O0. A
+//   with gcc 12 -O2, 600 with clang 14 -O2, 2,300 with gcc 12 -O0 and 3,200 with clang 14 -O0. A
 //   sanitizer makes them take more.
 //
 // THREADS. Any number of threads may make calls with `const intmap *` at once, as long as no other
