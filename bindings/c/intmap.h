@@ -12,6 +12,9 @@
 //
 //     cc -O2 program.c intmap.c
 //
+// intmap_typed.h has maps of other types, intmap.hpp a class for C++, and intmap_allocator.h an
+// allocator with a context.
+//
 // A variable of type intmap is one machine word, called the word below. It leads to the map's
 // memory. Define it as INTMAP_INIT, which is an empty map. Hand its address to the calls, and free
 // the map at the end. With <inttypes.h> and <stdio.h>:

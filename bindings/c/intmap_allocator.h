@@ -6,7 +6,8 @@
 //
 //     cc -O2 program.c intmap_allocator.c
 //
-// What this adds to intmap.c isn't proved. budget.c tests it.
+// What this adds to intmap.c isn't proved. budget.c tests it. It isn't installed, and not compiled
+// with INTMAP_DEBUG.
 #ifndef INTMAP_ALLOCATOR_H
 #define INTMAP_ALLOCATOR_H
 
