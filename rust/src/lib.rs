@@ -46,8 +46,9 @@
 //!   pairs, [`reserve_members`](IntSet::reserve_members) members. Keys that share a slot still
 //!   allocate. After [`reserve_insertions(128)`](IntMap::reserve_insertions), insertions of 128 new
 //!   keys of any kind allocate nothing.
-//! - [`iter_mut`](IntMap::iter_mut) and [`values_mut`](IntMap::values_mut) cost *O*(*n* + *c*) before
-//!   their first step if keys share a slot: [`for_each_mut`](IntMap::for_each_mut) doesn't.
+//! - [`iter_mut`](IntMap::iter_mut) and [`values_mut`](IntMap::values_mut), or one of their steps, may
+//!   move pairs and cost *O*(*n* + *c*) if keys share a slot.
+//!   [`for_each_mut`](IntMap::for_each_mut) moves none.
 //! - `new`, `default` and `mem::take` allocate, so no map is a constant. A map that begins with
 //!   room writes all of it at once, 24 bytes per slot for keys and values of 64 bits.
 //! - `insert` of a present key moves its pair to the end of its slot, so later in the order.

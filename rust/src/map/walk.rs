@@ -19,12 +19,14 @@ impl<K: IntKey, V> IntMap<K, V> {
     }
 
     /// Returns an iterator over the pairs, in iteration order, by which the values can be changed.
-    /// It doesn't allocate. All steps together cost *O*(*n* + *c*), and so does this call itself if
-    /// keys share a slot.
+    /// It doesn't allocate. All steps together cost *O*(*n* + *c*). If keys share a slot, one step
+    /// may cost that much alone, and so may this call if such keys were removed.
     ///
-    /// Rust lends the elements of a vector one by one in the order in which they lie there. So this
-    /// call first moves the [nodes](IntMap#memory) to where they lie in iteration order. If they
-    /// lie so already, it only reads their links. [`for_each_mut`](Self::for_each_mut) moves none.
+    /// Rust lends the elements of a vector one by one in the order in which they lie there. So the
+    /// first step that finds a [node](IntMap#memory) elsewhere than behind the last one moves all
+    /// nodes that are left to where they lie in iteration order. If some are free, this call moves
+    /// all. They stay there until the map grows, or a pair that shares a slot is inserted or
+    /// removed. [`for_each_mut`](Self::for_each_mut) moves none.
     ///
     /// ```
     /// let mut map = intmap_proved::IntMap::from([(0u64, 1), (1, 2)]);

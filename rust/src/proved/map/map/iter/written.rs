@@ -60,8 +60,8 @@ empty! {
 
 impl<K: IntKey, V, A: Allocator + Copy> IntMap<K, V, A> {
     /// An iterator over the pairs in iteration order, each with a mutable reference to its value.
-    /// It allocates nothing. The pairs that share a slot with another are put into iteration order in
-    /// memory first, unless they lie in it already.
+    /// It allocates nothing. This call or a step may put pairs that share a slot with another into
+    /// iteration order in memory.
     pub fn iter_mut(&mut self) -> IterMut<'_, K, V, A> {
         IterMut { pairs: self.table.pairs_mut() }
     }

@@ -1,5 +1,5 @@
 //! The pair of a node, to be written.
-use super::{Node, NodeForm, link_of};
+use super::{NODE_LIMIT, Node, NodeForm, link_of};
 
 impl<P> Node<P> {
     /// The link, and the pair by mutable reference, if the node holds one.
@@ -9,5 +9,11 @@ impl<P> Node<P> {
             NodeForm::Held(high, low, pair) => Some((link_of(*high, *low), pair)),
             NodeForm::Free(_, _) => None,
         }
+    }
+
+    /// Whether the node holds a pair with a link to a further one.
+    #[inline(always)]
+    pub(in crate::proved::table) fn leads_on(&self) -> bool {
+        self.get().is_some_and(|it| it.0 < NODE_LIMIT)
     }
 }

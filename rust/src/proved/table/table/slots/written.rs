@@ -1,8 +1,9 @@
 //! The pairs of all slots, slot after slot, each with a mutable reference to its value; and those at
 //! places that are known.
 //!
-//! Rust lends the elements of a vector one by one in the order in which they lie there. So the nodes
-//! are put into the order of the walk before they are lent, if they don't lie in it already.
+//! Rust lends the elements of a vector one by one in the order in which they lie there. So the walk
+//! looks at each link before it goes on. If it leads to another node than the next one, the nodes that
+//! are left are put into the order of the walk first. Nothing has to be kept between two walks.
 use super::Slots;
 use crate::memory::Vec;
 use crate::memory::alloc::{Allocator, Global};
@@ -12,18 +13,18 @@ use crate::proved::table::bits::written::{MarkedMut, take_at};
 use crate::proved::table::kept::Kept;
 use crate::proved::table::linked::chain::seek;
 use crate::proved::table::linked::closures::written::retain_mut;
-use crate::proved::table::linked::node::{NODE_LIMIT, NOWHERE, Node};
+use crate::proved::table::linked::node::{NODE_LIMIT, Node};
 use crate::proved::table::linked::pool::Pool;
+use crate::proved::table::linked::pool::written::NodesMut;
 use crate::proved::table::table::slots::pairs::unmark_if;
 use crate::proved::table::table::stored::Stored;
 use core::marker::PhantomData;
-use core::slice;
 
-/// The pairs that are left: those that a link leads through, which are the first ones of the nodes,
+/// The pairs that are left: the next ones of the nodes, if the last pair has a link to a further one,
 /// then those of the filled slots behind them.
 pub struct PairsMut<'a, K, X, A: Allocator> {
-    link: usize,
-    nodes: slice::IterMut<'a, Node<(Stored<K>, X)>>,
+    has_further: bool,
+    nodes: NodesMut<'a, (Stored<K>, X)>,
     filled: MarkedMut<'a, Node<(Stored<K>, X)>>,
     allocator: PhantomData<A>,
 }
@@ -32,12 +33,13 @@ impl<'a, K: IntKey, X, A: Allocator> PairsMut<'a, K, X, A> {
     /// The next stored pair.
     #[inline(always)]
     fn next_pair(&mut self) -> Option<&'a mut (Stored<K>, X)> {
-        let (link, pair) = if self.link < NODE_LIMIT {
-            self.nodes.next()?.get_mut()?
-        } else {
-            self.filled.next()?.get_mut()?
-        };
-        self.link = link;
+        let node = if self.has_further { self.nodes.next() } else { self.filled.next() }?;
+        let (link, _) = node.get()?;
+        self.has_further = link < NODE_LIMIT;
+        if self.has_further && !self.nodes.begin_at(link) {
+            self.nodes.order(node, self.filled.rest());
+        }
+        let (_, pair) = node.get_mut()?;
         Some(pair)
     }
 }
@@ -105,7 +107,7 @@ impl<K: IntKey, X> Slots<K, X, Global> {
 impl<K: IntKey, X, A: Allocator> Default for PairsMut<'_, K, X, A> {
     fn default() -> Self {
         PairsMut {
-            link: NOWHERE,
+            has_further: false,
             nodes: Default::default(),
             filled: const { &Bits::NONE }.pick(&mut []),
             allocator: PhantomData,
@@ -128,52 +130,11 @@ impl<K: IntKey, X, A: Allocator> Slots<K, X, A> {
         SpotsMut { slots: Rest::of(&mut self.slots), nodes: Rest::of(self.pool.nodes_mut()) }
     }
 
-    /// The pairs, slot after slot, each with a mutable reference to its value. The nodes get the order
-    /// of the walk first.
+    /// The pairs, slot after slot, each with a mutable reference to its value.
     pub(in crate::proved::table) fn pairs_mut(&mut self) -> PairsMut<'_, K, X, A> {
-        if !self.are_in_order() {
-            self.order();
-        }
-        PairsMut {
-            link: NOWHERE,
-            nodes: self.pool.nodes_mut().iter_mut(),
-            filled: self.bits.pick(&mut self.slots),
-            allocator: PhantomData,
-        }
-    }
-
-    /// Whether the nodes that hold a pair lie in the order of the walk, before those that are free.
-    fn are_in_order(&self) -> bool {
-        if self.pool.held() == 0 {
-            return true;
-        }
-        let mut from = 0;
-        for index in self.bits.iter() {
-            let Some(end) = self.slots[index].get().and_then(|it| self.pool.end_of(it.0, from))
-            else {
-                return false;
-            };
-            from = end;
-        }
-        true
-    }
-
-    /// Puts the nodes into the order of the walk, in place. It allocates nothing, and the walk stays.
-    fn order(&mut self) {
-        let mut from = 0;
-        for index in self.bits.iter() {
-            let slot = &mut self.slots[index];
-            if let Some((link, _)) = slot.get().filter(|it| it.0 < NODE_LIMIT) {
-                slot.set_link(from);
-                from = self.pool.number(link, from);
-            }
-        }
-        self.pool.settle();
-        for index in self.bits.iter() {
-            if let Some((link, _)) = self.slots[index].get().filter(|it| it.0 < NODE_LIMIT) {
-                self.pool.end_before(link);
-            }
-        }
+        let mut filled = self.bits.pick(&mut self.slots);
+        let nodes = self.pool.lend(filled.rest());
+        PairsMut { has_further: false, nodes, filled, allocator: PhantomData }
     }
 }
 
