@@ -127,3 +127,12 @@ fn an_iterator_that_writes_lends_all_values_at_once() {
     numbers.sort_unstable();
     assert!(numbers.into_iter().eq(0..100));
 }
+
+/// Nothing outside of a map counts the words of marks that a step passes. With a `drain` that began
+/// at the first slot again at each step, this would take a quarter of an hour.
+#[test]
+fn a_drain_of_eight_million_slots_ends() {
+    let mut map: IntMap<u32, ()> = IntMap::with_capacity(1 << 23);
+    map.extend((0..1 << 21).map(|key| (key, ())));
+    assert_eq!((map.drain().count(), map.len(), map.capacity()), (1 << 21, 0, 1 << 23));
+}

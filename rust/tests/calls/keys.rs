@@ -283,6 +283,16 @@ fn keys_that_break_a_rule_are_told() {
     assert_eq!(broken(number, |one, two| one.other == two.other), Some(((0, 0), (1, 0))), "equal");
     assert_eq!(broken(number, |_, _| false), Some(((0, 0), (0, 0))), "not equal to itself");
     assert_eq!(broken(changing, same), Some(((0, 0), (0, 0))), "a number that changes");
+    // the same of a key that isn't the first of the slice
+    let same_but_one = |one: &Made, other: &Made| {
+        (one.one, one.other) == (other.one, other.other) && (one.one, one.other) != (0, 5)
+    };
+    assert_eq!(broken(number, same_but_one), Some(((0, 5), (0, 5))), "not equal to itself");
+    let changing_one = |key: &Made| match (key.one, key.other) {
+        (0, 5) => 100 + READS.replace(READS.get() + 1),
+        (one, other) => one * 9 + other,
+    };
+    assert_eq!(broken(changing_one, same), Some(((0, 5), (0, 5))), "a number that changes");
 }
 
 /// A place on a board, which is 1000 places wide.

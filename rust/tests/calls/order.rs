@@ -1,5 +1,8 @@
 //! The order of the pairs that closures keep or iterators leave, and the order of drops. The lines
 //! of `table` have the order that each other call leaves.
+use crate::list::List;
+use crate::random::Random;
+use crate::told::{Key, Map, Shows};
 use intmap_proved::IntMap;
 use std::cell::RefCell;
 use std::mem::ManuallyDrop;
@@ -76,6 +79,32 @@ fn a_forgotten_iterator_leaves_a_whole_map() {
     left.sort_unstable();
     assert_eq!((left, map.len()), (vec![4, 8, 10, 12], 4));
     assert!(map.assert_count());
+}
+
+/// A map of 256 slots, each with five pairs, whose next growth is due at the next insertion.
+fn chains() -> Map {
+    let mut random = Random(8);
+    let mut map = Map::with_capacity(256);
+    map.try_set_load_factor_thousandths(5 * 1000 + 11).expect("an empty map meets it");
+    map.extend((0..5 * 256 + 3).map(|it| (Key(it % 256 + (random.next() << 8)), it)));
+    assert_eq!((map.len(), map.capacity()), (1283, 256));
+    map
+}
+
+#[test]
+fn growth_keeps_the_order_of_the_pairs_of_each_slot() {
+    let (map, mut slots) = (chains(), Vec::new());
+    for factor in [2506, 1253, 500, 78] {
+        let (mut grown, mut list) = (map.clone(), List::like(&map));
+        grown.try_set_load_factor_thousandths(factor).expect("there is memory");
+        list.meet(factor);
+        slots.push(grown.capacity());
+        assert_eq!(grown.shown(), list.shown(), "at {factor}");
+    }
+    assert_eq!(slots, [512, 1024, 4096, 16_384]);
+    let (mut grown, mut list) = (map.clone(), List::like(&map));
+    assert_eq!(grown.insert(Key(7), 7), list.store(Key(7), 7));
+    assert_eq!((grown.capacity(), grown.shown()), (512, list.shown()), "an insertion");
 }
 
 /// A value that writes its number down when it is dropped.

@@ -26,6 +26,21 @@ fn a_map_with_room_for_pairs_adds_no_slots_for_them() {
 }
 
 #[test]
+fn an_insertion_grows_a_map_if_its_load_factor_is_exceeded_by_a_thousandth() {
+    // at 124, 249, 499, 749 and 999 of these, a checked number of pairs is the least that exceeds it
+    for factor in 100..1100 {
+        let (mut map, mut slots) = (IntMap::new(), 4);
+        map.try_set_load_factor_thousandths(factor).expect("an empty map meets it");
+        for pairs in 1..40 {
+            map.insert(pairs, ());
+            // the load is checked at 4 to 7 pairs, 12 to 15 and so on
+            slots = if pairs % 8 < 4 { slots } else { slots.max(least_slots(pairs, factor)) };
+            assert_eq!(map.capacity(), slots, "{pairs} pairs at {factor}");
+        }
+    }
+}
+
+#[test]
 fn reserved_pairs_add_no_slots_at_any_load_factor() {
     let mut random = Random(5);
     for _ in 0..2000 {
@@ -111,21 +126,24 @@ fn a_shrunk_set_is_a_new_one_of_its_members_in_order() {
 
 #[test]
 fn clone_from_makes_what_clone_makes() {
-    let (mut random, mut kept) = (Random(12), 0);
+    let (mut random, mut kept) = (Random(12), [0; 2]);
     for _ in 0..3000 {
         let (mut map, (source, factor)) = (emptied(&mut random).0, emptied(&mut random));
-        kept += usize::from(map.capacity() == source.capacity());
+        kept[0] += usize::from(map.capacity() == source.capacity());
         let mut set: IntSet<u64> = map.keys().copied().collect();
         map.clone_from(&source);
         assert!(map.iter().eq(&source), "{map:?} of {source:?}");
         assert_eq!((map.capacity(), map.len()), (source.capacity(), source.len()));
         assert_eq!((map.load_factor_thousandths(), map.assert_count()), (factor, true));
-        let members: IntSet<u64> = source.keys().copied().collect();
+        let mut members: IntSet<u64> = source.keys().copied().collect();
+        members.try_set_load_factor_thousandths(factor).expect("there is memory");
+        kept[1] += usize::from(set.capacity() == members.capacity() && factor != 909);
         set.clone_from(&members);
         assert!(set.iter().eq(&members), "{set:?} of {members:?}");
         assert_eq!((set.capacity(), set.len()), (members.capacity(), members.len()));
+        assert_eq!(set.load_factor_thousandths(), factor, "{set:?} of {members:?}");
     }
-    assert!(kept > 300, "only {kept} maps kept their slots");
+    assert!(kept.iter().all(|it| *it > 300), "only {kept:?} maps and sets kept their slots");
 }
 
 #[test]

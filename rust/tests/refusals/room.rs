@@ -129,6 +129,19 @@ fn insertions_that_have_room_request_nothing() {
 }
 
 #[test]
+fn insertions_behind_reserve_request_nothing_up_to_the_load_factor() {
+    for keys in 0..100 {
+        let mut map: Map = (0..keys).map(|key| (key, key)).collect();
+        map.reserve(map.capacity() + 100);
+        let most = map.capacity() as u64 * 909 / 1000;
+        // each of these keys has a slot of its own
+        without_requests(&format!("{keys} keys, then {most}"), || {
+            (keys..most).try_for_each(|key| Ok(map.try_insert(key, key).map(drop)?))
+        });
+    }
+}
+
+#[test]
 fn removals_and_look_ups_between_insertions_leave_their_room() {
     let mut random = Random(4);
     for case in cases() {
