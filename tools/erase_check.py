@@ -133,6 +133,16 @@ OTHERWISE = [
     (" + Drop", ""),
     ("use std::marker::{Model, Send, Sync};", ""),
     ("fn fmt<W: fmt::Write>(&self, f: &mut fmt::Formatter<W>)", "fn fmt(&self, f: &mut fmt::Formatter<'_>)"),
+    # the compiler says what to do for a type that isn't a key
+    (
+        "pub trait IntKey: Copy + Eq {",
+        """#[diagnostic::on_unimplemented(
+    message = "`{Self}` isn't a type of keys",
+    label = "this type has no `IntKey`",
+    note = "the macro `int_key!` makes types of keys, and a type that is `Copy + Eq` can have an `impl IntKey`"
+)]
+pub trait IntKey: Copy + Eq {""",
+    ),
     # a guard holds the slots while pairs move
     (
         """        move_rows(

@@ -17,7 +17,8 @@
     names a file written by hand.
 10. A `struct` or an `enum` leaves out the bound of its keys, which Rust needs where a call is made alone. So a struct
     of a program can have a map, and name no bound.
-11. The calls of HELD are made under a guard, which is written by hand.
+11. The texts of REPLACED become others: calls that are made under a guard, which is written by hand, and the trait of
+    keys, of which Rust's compiler says what to do for another type.
 
 What no rule knows ends the erasing: a word of Rattle that is left, an `unsafe`, an unknown `impl Drop`, a
 module or an item that isn't there.
@@ -73,8 +74,18 @@ UNNAMED = {
     "intmap_table/linked/row/removal": ["find_behind"],
 }
 
-# Calls that run a key's `number` while pairs are on their way, by the source, each with what is written in its place.
-HELD = {
+# Calls that run a key's `number` while pairs are on their way, and the trait of keys, by the source, each with what is
+# written in its place.
+REPLACED = {
+    "intmap_table/key": (
+        "pub trait IntKey: Copy + Eq {",
+        """#[diagnostic::on_unimplemented(
+    message = "`{Self}` isn't a type of keys",
+    label = "this type has no `IntKey`",
+    note = "the macro `int_key!` makes types of keys, and a type that is `Copy + Eq` can have an `impl IntKey`"
+)]
+pub trait IntKey: Copy + Eq {""",
+    ),
     "intmap_table/table/slots/grow": (
         """        move_rows(
             &mut self.slots,
@@ -279,14 +290,14 @@ def without_unnamed(text, where):
     return text
 
 
-def with_held(text, where):
+def with_replaced(text, where):
     """Rule 11."""
-    if where not in HELD:
+    if where not in REPLACED:
         return text
-    call, held = HELD[where]
-    if call not in text:
-        raise Refused(f"there is no call `{call}`")
-    return text.replace(call, held)
+    old, new = REPLACED[where]
+    if old not in text:
+        raise Refused(f"there is no text `{old}`")
+    return text.replace(old, new)
 
 
 def without_attributes(text):
@@ -366,7 +377,7 @@ def erased(text, crate, name, by_hand):
     """The Rust text of the source `name` of a crate. `by_hand` are the modules that are written by hand."""
     text = tidied(without_ghosts(without_shown(text)))
     text = tidied(without_uncalled(without_impls(text), f"{crate}/{name}"))
-    text = with_held(without_unnamed(text, f"{crate}/{name}"), f"{crate}/{name}")
+    text = with_replaced(without_unnamed(text, f"{crate}/{name}"), f"{crate}/{name}")
     text = without_attributes(text).replace(FMT, FMT_OF_RUST)
     text = without_bounds(without_markers(without_modules(text, crate, name, by_hand)))
     for token in TOKEN.findall(text):

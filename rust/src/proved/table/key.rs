@@ -13,6 +13,11 @@ mod wide;
 ///
 /// A `u8`, `u16`, `u32`, `u64` or `usize` is its own number. So is an `i32` or `i64` that isn't
 /// negative; a negative one has the number that is `2 ^ 64` more.
+#[diagnostic::on_unimplemented(
+    message = "`{Self}` isn't a type of keys",
+    label = "this type has no `IntKey`",
+    note = "the macro `int_key!` makes types of keys, and a type that is `Copy + Eq` can have an `impl IntKey`"
+)]
 pub trait IntKey: Copy + Eq {
     /// The number of this key.
     fn number(&self) -> u64;
