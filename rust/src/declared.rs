@@ -1,12 +1,18 @@
 //! The macro that declares types of keys, and what it scrambles their numbers by.
 
-/// Declares structs of one field, a key, that are keys themselves. Each has `Clone`, `Copy`,
-/// `PartialEq` and `Eq`, so don't derive these yourself. Derive others above it, such as `Debug`. A
-/// key has the number of its field, so keys with equal numbers are equal.
+/// Makes types keys: structs of one field and enums without fields, which it declares, and types
+/// that are declared elsewhere. A call has one or more types of one of these kinds, without
+/// generics.
 ///
-/// A struct in it has no generics and no name for its field, and ends with `;`. Its attributes go
-/// to the struct alone, not to the implementation of [`IntKey`](crate::IntKey). So put no `cfg` on
-/// it: put the `cfg` on the whole call of the macro.
+/// A struct or an enum that it declares has `Clone`, `Copy`, `PartialEq` and `Eq`, so don't derive
+/// these yourself. Derive others above it, such as `Debug`. Its attributes go to the type alone,
+/// not to the implementation of [`IntKey`](crate::IntKey). So put no `cfg` on it: put the `cfg` on
+/// the whole call of the macro.
+///
+/// # Structs of one field
+///
+/// The field is a key. It has no name, and the struct ends with `;`. A key has the number of its
+/// field, so keys with equal numbers are equal.
 ///
 /// ```
 /// use intmap_proved::{IntMap, int_key};
@@ -32,13 +38,94 @@
 /// }
 /// ```
 ///
+/// # Enums without fields
+///
+/// A key's number is its discriminant: 0, 1, 2 and so on, unless the enum says another. A negative
+/// one has the number that is 2^64 more. No two variants have one discriminant, so keys with equal
+/// numbers are equal.
+///
+/// ```
+/// use intmap_proved::{IntKey, IntMap, int_key};
+///
+/// int_key! {
+///     #[derive(Debug)]
+///     pub enum Coin {
+///         Heads,
+///         Tails,
+///     }
+///
+///     #[repr(i8)]
+///     enum Turn {
+///         Left = -1,
+///         Right = 1,
+///     }
+/// }
+///
+/// let mut tosses: IntMap<Coin, u32> = IntMap::new();
+/// for side in [Coin::Tails, Coin::Heads, Coin::Tails] {
+///     *tosses.entry(side).or_insert(0) += 1;
+/// }
+/// assert_eq!(format!("{tosses:?}"), "{Heads: 1, Tails: 2}");
+/// assert_eq!([Turn::Left.number(), Turn::Right.number()], [u64::MAX, 1]);
+/// ```
+///
+/// A variant with a field would stand for several keys, and a discriminant of more than 64 bits has
+/// no number:
+///
+/// ```compile_fail
+/// intmap_proved::int_key! {
+///     enum Shape {
+///         Circle(u32),
+///         Point,
+///     }
+/// }
+/// ```
+///
+/// ```compile_fail
+/// intmap_proved::int_key! {
+///     #[repr(u128)]
+///     enum Wide {
+///         Zero,
+///         Large = 1 << 64,
+///     }
+/// }
+/// ```
+///
+/// # Types that are declared elsewhere
+///
+/// `for` is followed by the path of a type of your crate that is `Copy + Eq`, `by` by a name for a
+/// reference to a key, and an expression, itself a key, whose number the key gets. No two keys may
+/// get one number. The macro can't see to that: [`check_keys`](crate::check_keys) tries some keys in
+/// a test, and [`IntKey`](crate::IntKey) says what happens to keys that break the rule.
+///
+/// ```
+/// use intmap_proved::{IntMap, check_keys, int_key};
+///
+/// mod board {
+///     #[derive(Clone, Copy, PartialEq, Eq, Debug)]
+///     pub struct Place {
+///         pub row: u16,
+///         pub column: u8,
+///     }
+/// }
+/// use board::Place;
+///
+/// int_key! {
+///     for Place by |place| u64::from(place.row) * 256 + u64::from(place.column);
+/// }
+///
+/// let rook = Place { row: 1, column: 2 };
+/// assert_eq!(IntMap::from([(rook, "rook")]).get(rook), Some(&"rook"));
+/// assert_eq!(check_keys(&[rook, Place { row: 2, column: 1 }]), Ok(()));
+/// ```
+///
 /// # Keys that strangers choose
 ///
 /// Whoever chooses the keys can choose thousands of one slot, and then each call compares thousands
-/// of keys. With `scrambled by` and a secret, [`scramble`](crate::scramble) makes a key's number of
-/// the secret and the number of the field. So the secret decides which keys share a slot. The
-/// secret is an expression of the type `u64`, which each call on a key evaluates. It must be the
-/// same number as long as there are maps with such keys, so take a `static`:
+/// of keys. With `scrambled by` and a secret behind a struct, [`scramble`](crate::scramble) makes a
+/// key's number of the secret and the number of the field. So the secret decides which keys share a
+/// slot. The secret is an expression of the type `u64`, which each call on a key evaluates. It must
+/// be the same number as long as there are maps with such keys, so take a `static`:
 ///
 /// ```
 /// use intmap_proved::{IntMap, int_key};
@@ -76,6 +163,37 @@ macro_rules! int_key {
                 let number = $crate::IntKey::number(&self.0);
                 $(let number = $crate::scramble(number, $secret);)?
                 number
+            }
+        }
+    )+ };
+    ($(
+        $(#[$attribute:meta])*
+        $visibility:vis enum $name:ident {
+            $($(#[$mark:meta])* $variant:ident $(= $discriminant:expr)?),+ $(,)?
+        }
+    )+) => { $(
+        $(#[$attribute])*
+        #[derive(Clone, Copy, PartialEq, Eq)]
+        $visibility enum $name {
+            $($(#[$mark])* $variant $(= $discriminant)?),+
+        }
+
+        // of 128 bits the number would have the lower half alone
+        const _: () = ::core::assert!(::core::mem::size_of::<$name>() <= 8, "more than 64 bits");
+
+        impl $crate::IntKey for $name {
+            #[inline(always)]
+            fn number(&self) -> u64 {
+                *self as u64
+            }
+        }
+    )+ };
+    ($(for $($name:ident)::+ by |$key:ident| $number:expr;)+) => { $(
+        impl $crate::IntKey for $($name)::+ {
+            #[inline(always)]
+            fn number(&self) -> u64 {
+                let $key = self;
+                $crate::IntKey::number(&$number)
             }
         }
     )+ };

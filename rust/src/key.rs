@@ -14,9 +14,10 @@ use core::num::{
 ///
 /// # Keys of your own
 ///
-/// [`int_key!`](crate::int_key) makes a key of a struct with one field that is a key. Where you
-/// implement this trait by hand, two keys must be equal if and only if their numbers are, equal
-/// keys must be the same, with no field in which they differ, and a key's number must never change.
+/// [`int_key!`](crate::int_key) makes keys of a struct with one field that is a key, and of an enum
+/// without fields. Where it takes a number from you, or you implement this trait by hand, two keys
+/// must be equal if and only if their numbers are, equal keys must be the same, with no field in
+/// which they differ, and a key's number must never change.
 /// Maps and sets compare numbers alone: they never call `==` of keys.
 /// [`check_keys`](crate::check_keys) finds, in a test, keys that break a rule. If a type breaks
 /// one, then in its maps lookups may miss, pairs may be lost, lengths may be wrong or wrap below 0,

@@ -1,4 +1,5 @@
 //! Each type of keys beside std's maps and sets, and a type of the program's own.
+use self::declared::{Named, Side};
 use crate::random::Random;
 use intmap_proved::{IntKey, IntMap, IntSet, check_keys, int_key, scramble};
 use std::cell::Cell;
@@ -128,6 +129,9 @@ fn each_key_has_a_number_of_its_own() {
     let addresses = addresses.into_iter().flatten().flatten().flatten();
     distinct("an address", addresses.map(Ipv4Addr::from));
     distinct("a ticket", (0..1000).map(Ticket));
+    distinct("a suit", SUITS.into_iter());
+    distinct("a level", LEVELS.into_iter());
+    distinct("a side", [Side::Left, Side::Right].into_iter());
 }
 
 #[test]
@@ -144,6 +148,14 @@ fn keys_have_these_numbers() {
         ("Wrapping<i16>", Wrapping(-2i16).number(), most - 1),
         ("an address", Ipv4Addr::new(1, 2, 3, 4).number(), 0x0102_0304),
         ("a day", Day(-1).number(), most),
+        ("the first variant", Suit::Clubs.number(), 0),
+        ("the last variant", Suit::Spades.number(), 3),
+        ("the least discriminant", Level::Least.number(), most - 32_767),
+        ("a negative discriminant", Level::Low.number(), most),
+        ("a discriminant", Level::High.number(), 300),
+        ("the next discriminant", Level::Higher.number(), 301),
+        ("a named field", Named { id: -2 }.number(), most - 1),
+        ("a variant of an enum from elsewhere", Side::Right.number(), 5),
     ];
     for (name, number, wanted) in numbers {
         assert_eq!(number, wanted, "{name}");
@@ -158,6 +170,49 @@ int_key! {
     #[derive(Debug, Hash)]
     struct Day(pub i16);
 }
+
+int_key! {
+    /// With a default, and with numbers that count up from 0.
+    #[derive(Debug, Default, Hash)]
+    enum Suit {
+        Clubs,
+        #[default]
+        Diamonds,
+        Hearts,
+        Spades,
+    }
+
+    #[derive(Debug, Hash)]
+    #[repr(i16)]
+    pub enum Level {
+        Least = i16::MIN,
+        Low = -1,
+        High = 300,
+        /// One more than the variant before.
+        Higher,
+    }
+}
+
+mod declared {
+    #[derive(Clone, Copy, PartialEq, Eq, Hash, Debug)]
+    pub struct Named {
+        pub id: i32,
+    }
+
+    #[derive(Clone, Copy, PartialEq, Eq, Hash, Debug)]
+    pub enum Side {
+        Left = 2,
+        Right = 5,
+    }
+}
+
+int_key! {
+    for declared::Named by |named| named.id;
+    for declared::Side by |side| *side as u8;
+}
+
+const SUITS: [Suit; 4] = [Suit::Clubs, Suit::Diamonds, Suit::Hearts, Suit::Spades];
+const LEVELS: [Level; 4] = [Level::Least, Level::Low, Level::High, Level::Higher];
 
 const SECRET: u64 = 0x0123_4567_89AB_CDEF;
 
@@ -175,6 +230,11 @@ fn declared_types_are_keys() {
     beside_std("a day", |bits| Day(bits as i16));
     beside_std("a visitor", Visitor);
     beside_std("an hour", |bits| Hour(NonZeroI8::new(bits as i8).unwrap_or(NonZeroI8::MAX)));
+    beside_std("a suit", |bits| SUITS[bits as usize % 4]);
+    beside_std("a level", |bits| LEVELS[bits as usize % 4]);
+    beside_std("a named field", |bits| Named { id: bits as i32 });
+    beside_std("a side", |bits| if bits % 2 == 0 { Side::Left } else { Side::Right });
+    assert_eq!(Suit::default(), Suit::Diamonds, "the attribute of a variant stays");
 }
 
 /// The number that a secret scrambled to this one.
