@@ -1,6 +1,8 @@
 //! Why a call failed, what it returns then, and how calls end that don't return a failure.
 use alloc::alloc::handle_alloc_error;
 use core::alloc::Layout;
+use core::hash::{Hash, Hasher};
+use core::mem::discriminant;
 
 #[doc(inline)]
 pub use crate::proved::map::{Cause, Refused, RefusedPair};
@@ -26,6 +28,20 @@ fn end(cause: Cause) -> ! {
     }
 }
 
+/// By the variant, so that equal causes have equal hashes.
+impl Hash for Cause {
+    fn hash<H: Hasher>(&self, state: &mut H) {
+        discriminant(self).hash(state);
+    }
+}
+
+/// The same cause, and a clone of the value.
+impl<V: Clone> Clone for Refused<V> {
+    fn clone(&self) -> Refused<V> {
+        Refused { value: self.value.clone(), cause: self.cause }
+    }
+}
+
 /// Whether both have the same cause and equal values, as `assert_eq!` asks.
 ///
 /// ```
@@ -39,6 +55,14 @@ impl<V: PartialEq> PartialEq for Refused<V> {
 }
 
 impl<V: Eq> Eq for Refused<V> {}
+
+/// The same cause and number, and clones of the key and the value.
+impl<K: Clone, V: Clone> Clone for RefusedPair<K, V> {
+    fn clone(&self) -> RefusedPair<K, V> {
+        let (key, value) = (self.key.clone(), self.value.clone());
+        RefusedPair { key, value, applied: self.applied, cause: self.cause }
+    }
+}
 
 /// Whether both have the same cause and number, and equal keys and values.
 impl<K: PartialEq, V: PartialEq> PartialEq for RefusedPair<K, V> {

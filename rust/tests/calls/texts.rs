@@ -1,6 +1,7 @@
 //! The texts of maps, sets, entries, iterators and errors.
 use intmap_proved::{Cause, IntMap, IntSet, Refused, RefusedPair};
 use std::error::Error;
+use std::hash::{BuildHasher, BuildHasherDefault, DefaultHasher};
 
 #[test]
 fn maps_and_sets_have_the_texts_of_std() {
@@ -52,6 +53,18 @@ fn errors_say_why_and_are_equal_if_they_say_the_same() {
     assert_ne!(refused, RefusedPair { cause: Cause::Memory, ..refused });
     assert_eq!(refused.to_string(), "a pair could not be inserted, after 3 others: too large");
     assert_eq!(Cause::from(refused), Cause::TooLarge);
+}
+
+#[test]
+fn errors_are_cloned_and_causes_are_hashed() {
+    let refused = Refused { value: String::from("a"), cause: Cause::TooLarge };
+    assert_eq!(refused.clone(), refused);
+    let refused =
+        RefusedPair { key: 7_u64, value: refused.value, applied: 3, cause: Cause::Memory };
+    assert_eq!(refused.clone(), refused);
+    let hash_of = |cause: Cause| BuildHasherDefault::<DefaultHasher>::default().hash_one(cause);
+    assert_eq!(hash_of(Cause::Memory), hash_of(refused.cause));
+    assert_ne!(hash_of(Cause::Memory), hash_of(Cause::TooLarge));
 }
 
 #[test]
