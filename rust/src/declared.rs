@@ -124,8 +124,8 @@
 /// Whoever chooses the keys can choose thousands of one slot, and then each call compares thousands
 /// of keys. With `scrambled by` and a secret behind a struct, [`scramble`](crate::scramble) makes a
 /// key's number of the secret and the number of the field. So the secret decides which keys share a
-/// slot. The secret is an expression of the type `u64`, which each call on a key evaluates. It must
-/// be the same number as long as there are maps with such keys, so take a `static`:
+/// slot. The secret is an expression of the type `u64`, which is evaluated each time a key's number
+/// is read. It must be the same number as long as there are maps with such keys, so take a `static`:
 ///
 /// ```
 /// use intmap_proved::{IntMap, int_key};
@@ -145,8 +145,17 @@
 /// assert_eq!(visits[Visitor(1 << 32)], 2);
 /// ```
 ///
-/// The order of iteration then depends on the secret, and ids that count up take the time and the
-/// memory of random keys. [`scramble`](crate::scramble) says what the secret is worth.
+/// The order of iteration then depends on the secret. [`scramble`](crate::scramble) says what the
+/// secret is worth.
+///
+/// A call reads the number of the key that it gets, and of each stored key that it compares. As a
+/// map grows, it reads that of each pair. So scrambled ids that count up take the memory of random
+/// keys, and more time. With 1,000 and 20,000 ids in shuffled order and a `LazyLock` as above,
+/// look-ups of present ids took 1.8 to 2.4 times as long as those of random keys, and 4 to 7 times
+/// as long as those of plain ids. Look-ups of absent ids took 1.0 to 1.5 times as long as those of
+/// random keys, and insertions 1.2 times. Beside std's map with its `RandomState`, look-ups of
+/// present ids took 0.65 to 0.8 of the time, of absent ids 0.4 to 1.1, and insertions 0.75 to 1.05.
+/// Each time is the least of a thousand rounds or more, in which the maps took turns.
 #[macro_export]
 macro_rules! int_key {
     ($(

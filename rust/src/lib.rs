@@ -31,7 +31,7 @@
 //! the same order on every run and machine | this, or `indexmap` (in order of insertion), or `BTreeMap` (sorted)
 //! look-ups, removals and growth that are proved | this
 //! to go on with code for `intmap` 2.0.0 | this, by [one `use` line](original). The insertion of a new key takes 0.15 to 0.5 of its time, that of a present one 0.4 to 1.1, a removal 0.5 to 1.7, `clear` 2 to 5.2
-//! 32-bit targets, a hasher of your own, keys that strangers choose | std's; [`int_key!`] says what a secret is worth
+//! 32-bit targets, a hasher of your own, keys that strangers choose | std's; [`int_key!`] says what a secret costs, and what it is worth
 //!
 //! The traits of serde are in the crate `intmap_proved_serde`.
 //!
