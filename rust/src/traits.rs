@@ -123,14 +123,21 @@ impl<'a, K: IntKey, V: Copy> Extend<(&'a K, &'a V)> for IntMap<K, V> {
     }
 }
 
-/// A map with the capacity of as many pairs as the iterator has at least, and then the pairs, each
-/// as by [`IntMap::insert`]. So a key keeps its last value. [`IntMap::try_from_iter`] returns a
-/// failure.
+/// Makes a map by [`IntMap::with_capacity`] of the least number of pairs that the iterator says it
+/// has, and inserts each pair as [`IntMap::insert`] does. So a key keeps its last value.
+/// [`IntMap::try_from_iter`] returns a failure.
+///
+/// The first capacity doesn't consider the load factor. So if there are more pairs than 0.909 of it,
+/// the last of them double it by the rule of [`IntMap::insert`], and all pairs move: 1,000 pairs
+/// nearly fill 1,024 slots, and then move to 2,048. [`IntMap::with_room_for`] and `extend` make the
+/// 2,048 at once.
 ///
 /// ```
 /// # use intmap_proved::IntMap;
 /// let map: IntMap<u64, char> = (0..20).zip('a'..).collect();
 /// assert_eq!((map.len(), map.capacity()), (20, 32));
+/// let map: IntMap<u64, u64> = (0..1000).zip(0..).collect();
+/// assert_eq!((map.len(), map.capacity()), (1000, 2048));
 /// ```
 impl<K: IntKey, V> FromIterator<(K, V)> for IntMap<K, V> {
     fn from_iter<I: IntoIterator<Item = (K, V)>>(pairs: I) -> IntMap<K, V> {
@@ -138,7 +145,9 @@ impl<K: IntKey, V> FromIterator<(K, V)> for IntMap<K, V> {
     }
 }
 
-/// A map of the pairs of an array, as `collect` makes it. So a key keeps its last value.
+/// A map of the pairs of an array, as `collect` makes it. So a key keeps its last value. The first
+/// capacity is the least power of two, from 2 on, that is at least `N`. If `N` is more than 0.909 of
+/// it, the last pairs double it by the rule of [`IntMap::insert`], and all move.
 ///
 /// ```
 /// # use intmap_proved::IntMap;

@@ -91,8 +91,13 @@ impl<'a, K: IntKey> Extend<&'a K> for IntSet<K> {
     }
 }
 
-/// A set with the capacity of as many keys as the iterator has at least, and then the keys.
-/// [`IntSet::try_from_iter`] returns a failure.
+/// Makes a set by [`IntSet::with_capacity`] of the least number of keys that the iterator says it
+/// has, and inserts each key as [`IntSet::insert`] does. [`IntSet::try_from_iter`] returns a
+/// failure.
+///
+/// The first capacity doesn't consider the load factor. So if there are more members than 0.909 of
+/// it, the last of them double it by the rule of [`IntMap::insert`](crate::IntMap::insert), and all
+/// members move. [`IntSet::with_room_for`] and `extend` make the last capacity at once.
 ///
 /// ```
 /// let set: intmap_proved::IntSet<u64> = (0..20).collect();
@@ -104,7 +109,9 @@ impl<K: IntKey> FromIterator<K> for IntSet<K> {
     }
 }
 
-/// A set of the keys of an array, as `collect` makes it.
+/// A set of the keys of an array, as `collect` makes it. The first capacity is the least power of
+/// two, from 2 on, that is at least `N`. If `N` is more than 0.909 of it, the last keys double it by
+/// the rule of [`IntMap::insert`](crate::IntMap::insert), and all move.
 ///
 /// ```
 /// assert_eq!(intmap_proved::IntSet::from([21u64, 21]).len(), 1);
