@@ -40,7 +40,8 @@
 //! The calls are those of std's `HashMap` and `HashSet`. Before you take one for the other:
 //!
 //! - Keys are passed by value. Closures get them by value too, except `or_insert_with_key`'s.
-//! - `map.drain();` empties nothing: a step removes a pair, and what it didn't return stays.
+//! - `map.drain();` empties nothing: a step removes a pair, and what it didn't return stays. After a
+//!   loop over `drain` that ends early, `clear` empties the map.
 //! - `capacity`, `with_capacity(128)` and `reserve(128)` count slots: 128 pairs may double them.
 //!   [`with_room_for`](IntMap::with_room_for) and [`reserve_pairs`](IntMap::reserve_pairs) count
 //!   pairs, [`reserve_members`](IntSet::reserve_members) members. Keys that share a slot still

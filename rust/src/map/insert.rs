@@ -28,7 +28,7 @@ impl<K: IntKey, V> IntMap<K, V> {
     }
 
     /// The same as [`insert`](Self::insert), but it returns a failure. It replaces the value of a
-    /// present key, where std's unstable `try_insert` fails;
+    /// present key, where hashbrown's `try_insert` and std's unstable one fail:
     /// [`try_insert_checked`](Self::try_insert_checked) keeps that value.
     ///
     /// # Errors

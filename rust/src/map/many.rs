@@ -64,10 +64,12 @@ impl<K: IntKey, V> IntMap<K, V> {
     }
 
     /// Returns an iterator that removes one pair at each step and returns it, in iteration order.
+    /// Pairs that it didn't return stay in the map, where std's `drain` removes them as it is
+    /// dropped. For what std's does, write [`map.clear()`](Self::clear) behind a loop that may end
+    /// early, or in place of `map.drain();`.
     ///
-    /// Unlike std's, it leaves the pairs that it didn't return if it is dropped early: they stay in
-    /// the map, in their order. They also stay if it is forgotten. The capacity and the load factor
-    /// stay. All steps together cost *O*(*n* + *c*), however many keys share a slot.
+    /// The pairs that stay keep their order, also if the iterator is forgotten. The capacity and the
+    /// load factor stay. All steps together cost *O*(*n* + *c*), however many keys share a slot.
     ///
     /// Proved of `IntMap::drain`: `state`, `next_gives`.
     ///
@@ -75,6 +77,9 @@ impl<K: IntKey, V> IntMap<K, V> {
     /// let mut map = intmap_proved::IntMap::from([(0u64, 'a'), (4, 'b'), (8, 'c')]);
     /// assert_eq!(map.drain().next(), Some((0, 'a')));
     /// assert_eq!(format!("{map:?}"), "{4: 'b', 8: 'c'}");
+    /// // empty, as std's `drain` leaves it
+    /// map.clear();
+    /// assert_eq!((map.len(), map.capacity()), (0, 4));
     /// ```
     #[must_use = "a drain removes one pair at each step, so `drain();` removes none: take `clear`"]
     pub fn drain(&mut self) -> Drain<'_, K, V> {

@@ -50,10 +50,11 @@ impl<K: IntKey> IntSet<K> {
     }
 
     /// Returns an iterator that removes one member at each step and returns it, in iteration order.
-    /// The members that it didn't return stay, in their order. The capacity and the load factor
-    /// stay.
+    /// Members that it didn't return stay in the set, in their order, where std's `drain` removes
+    /// them as it is dropped. For what std's does, write [`set.clear()`](Self::clear) behind a loop
+    /// that may end early, or in place of `set.drain();`.
     ///
-    /// All steps together cost *O*(*n* + *c*).
+    /// The capacity and the load factor stay. All steps together cost *O*(*n* + *c*).
     ///
     /// Proved of `IntSet::drain`: `state`, `next_gives`.
     ///
