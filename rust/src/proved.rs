@@ -5,7 +5,8 @@
 //! are tested, not proved. Each `written` is for mutable references to several values, for iterators
 //! without items, or for calls of a set that the proved set lacks. Each `mending` is for a map that
 //! a panic has left in the middle of a call. Items that no call of the crate reaches aren't here.
-//! Imports and style are as the sources have them.
+//! Imports, style and comments are as the sources have them, so comments also name contracts,
+//! clauses, laws and calls that are in the sources alone.
 #![allow(unused_imports, unstable_name_collisions)]
 #![allow(clippy::style, clippy::complexity, clippy::perf)]
 
