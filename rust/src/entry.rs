@@ -58,8 +58,6 @@ impl<K: IntKey, V> IntMap<K, V> {
     /// Returns the entry of the key. It never fails, and the map stays as it is. The cost is
     /// *O*(*s*).
     ///
-    /// Proved of `IntMap::entry`: `state`, `key`, `occupied`.
-    ///
     /// ```
     /// use intmap_proved::{Entry, IntMap};
     ///
@@ -70,6 +68,8 @@ impl<K: IntKey, V> IntMap<K, V> {
     /// }
     /// assert_eq!(map[21], 'b');
     /// ```
+    ///
+    /// Proved of `IntMap::entry`: `state`, `key`, `occupied`.
     #[inline(always)]
     pub fn entry(&mut self, key: K) -> Entry<'_, K, V> {
         Entry::of(self.map.entry(key))
@@ -95,11 +95,11 @@ impl<'a, K: IntKey, V> Entry<'a, K, V> {
 
     /// Returns a reference to the key.
     ///
-    /// Proved in part: it hands over to [`OccupiedEntry::key`] or to [`VacantEntry::key`].
-    ///
     /// ```
     /// assert_eq!(intmap_proved::IntMap::<u64, char>::new().entry(21).key(), &21);
     /// ```
+    ///
+    /// Proved in part: it hands over to [`OccupiedEntry::key`] or to [`VacantEntry::key`].
     pub fn key(&self) -> &K {
         match self {
             Entry::Occupied(entry) => entry.key(),
@@ -110,13 +110,13 @@ impl<'a, K: IntKey, V> Entry<'a, K, V> {
     /// Calls `change` with the value if the key is present, and returns the entry. The pair keeps
     /// its place.
     ///
-    /// Proved of `Entry::and_modify`: `key`, `value`, `state`, `updates`, `len`.
-    ///
     /// ```
     /// let mut map = intmap_proved::IntMap::from([(21u64, 1)]);
     /// map.entry(21).and_modify(|value| *value += 1).or_insert(7);
     /// assert_eq!(map[21], 2);
     /// ```
+    ///
+    /// Proved of `Entry::and_modify`: `key`, `value`, `state`, `updates`, `len`.
     #[must_use = "without an insertion it does the same as `if let Some(value) = map.get_mut(key)`"]
     #[inline(always)]
     pub fn and_modify<F: FnOnce(&mut V)>(self, change: F) -> Entry<'a, K, V> {

@@ -65,15 +65,15 @@ impl<'a, K: IntKey, V> Entry<'a, K, V> {
     /// The same as [`or_insert_with`](Self::or_insert_with), but `make` takes the key.
     /// [`try_or_insert_with_key`](Self::try_or_insert_with_key) returns a failure.
     ///
-    /// Proved in part: the value of a present key is that of
-    /// [`OccupiedEntry::into_mut`](crate::OccupiedEntry::into_mut), and one that the closure made
-    /// is inserted by [`VacantEntry::insert`](crate::VacantEntry::insert). The choice between the
-    /// two, and the call of the closure, are by hand.
-    ///
     /// ```
     /// let mut map = intmap_proved::IntMap::new();
     /// assert_eq!(map.entry(21u64).or_insert_with_key(|key| key * 2), &42);
     /// ```
+    ///
+    /// Proved in part: the value of a present key is that of
+    /// [`OccupiedEntry::into_mut`](crate::OccupiedEntry::into_mut), and one that the closure made
+    /// is inserted by [`VacantEntry::insert`](crate::VacantEntry::insert). The choice between the
+    /// two, and the call of the closure, are by hand.
     #[inline(always)]
     pub fn or_insert_with_key<F: FnOnce(&K) -> V>(self, make: F) -> &'a mut V {
         match self {
@@ -115,11 +115,6 @@ impl<'a, K: IntKey, V> Entry<'a, K, V> {
     /// That of `make` as it is, and if the insertion fails, what `From` makes of a [`Refused`]. The
     /// map then stays as it was.
     ///
-    /// Proved in part: the value of a present key is lent by
-    /// [`OccupiedEntry::into_mut`](crate::OccupiedEntry::into_mut), and one that the closure made
-    /// is inserted by [`VacantEntry::try_insert`](crate::VacantEntry::try_insert). The choice
-    /// between the two, and the call of the closure, are by hand.
-    ///
     /// ```
     /// use std::error::Error;
     ///
@@ -128,6 +123,11 @@ impl<'a, K: IntKey, V> Entry<'a, K, V> {
     /// assert_eq!(number, &7);
     /// # Ok::<(), Box<dyn Error>>(())
     /// ```
+    ///
+    /// Proved in part: the value of a present key is lent by
+    /// [`OccupiedEntry::into_mut`](crate::OccupiedEntry::into_mut), and one that the closure made
+    /// is inserted by [`VacantEntry::try_insert`](crate::VacantEntry::try_insert). The choice
+    /// between the two, and the call of the closure, are by hand.
     pub fn or_try_insert_with<E, F>(self, make: F) -> Result<&'a mut V, E>
     where
         E: From<Refused<V>>,

@@ -13,8 +13,6 @@ impl<'a, K: IntKey, V> OccupiedEntry<'a, K, V> {
 
     /// Returns a reference to the value.
     ///
-    /// Proved of `OccupiedEntry::get`: `value`.
-    ///
     /// ```
     /// use intmap_proved::{Entry, IntMap};
     ///
@@ -23,14 +21,14 @@ impl<'a, K: IntKey, V> OccupiedEntry<'a, K, V> {
     ///     assert_eq!((entry.key(), entry.get()), (&21, &'a'));
     /// }
     /// ```
+    ///
+    /// Proved of `OccupiedEntry::get`: `value`.
     #[inline(always)]
     pub fn get(&self) -> &V {
         self.0.get()
     }
 
     /// Returns a mutable reference to the value, which can't outlive the entry.
-    ///
-    /// Proved of `OccupiedEntry::get_mut`: `writes_back`, `value`, `updates`, `len`.
     ///
     /// ```
     /// use intmap_proved::{Entry, IntMap};
@@ -41,14 +39,14 @@ impl<'a, K: IntKey, V> OccupiedEntry<'a, K, V> {
     ///     assert_eq!(entry.get(), &2);
     /// }
     /// ```
+    ///
+    /// Proved of `OccupiedEntry::get_mut`: `writes_back`, `value`, `updates`, `len`.
     #[inline(always)]
     pub fn get_mut(&mut self) -> &mut V {
         self.0.get_mut()
     }
 
     /// Returns a mutable reference to the value, for as long as the map is borrowed.
-    ///
-    /// Proved of `OccupiedEntry::into_mut`: `writes_back`, `value`, `updates`, `len`.
     ///
     /// ```
     /// use intmap_proved::{Entry, IntMap};
@@ -61,14 +59,14 @@ impl<'a, K: IntKey, V> OccupiedEntry<'a, K, V> {
     /// *value += 1;
     /// assert_eq!(map[21], 2);
     /// ```
+    ///
+    /// Proved of `OccupiedEntry::into_mut`: `writes_back`, `value`, `updates`, `len`.
     #[inline(always)]
     pub fn into_mut(self) -> &'a mut V {
         self.0.into_mut()
     }
 
     /// Sets the value, and returns the old one. The pair keeps its place.
-    ///
-    /// Proved of `OccupiedEntry::insert`: `old`, `written`, `updates`, `len`.
     ///
     /// ```
     /// use intmap_proved::{Entry, IntMap};
@@ -79,6 +77,8 @@ impl<'a, K: IntKey, V> OccupiedEntry<'a, K, V> {
     /// }
     /// assert_eq!(map[21], 'b');
     /// ```
+    ///
+    /// Proved of `OccupiedEntry::insert`: `old`, `written`, `updates`, `len`.
     #[inline(always)]
     pub fn insert(&mut self, value: V) -> V {
         self.0.insert(value)
@@ -94,8 +94,6 @@ impl<'a, K: IntKey, V> OccupiedEntry<'a, K, V> {
 
     /// The same as [`remove`](Self::remove), but it returns the stored key beside the value.
     ///
-    /// Proved of `OccupiedEntry::remove_entry`: `key`, `value`, `state`, `updates`, `len`.
-    ///
     /// ```
     /// use intmap_proved::{Entry, IntMap};
     ///
@@ -104,6 +102,8 @@ impl<'a, K: IntKey, V> OccupiedEntry<'a, K, V> {
     ///     assert_eq!(entry.remove_entry(), (21, 'a'));
     /// }
     /// ```
+    ///
+    /// Proved of `OccupiedEntry::remove_entry`: `key`, `value`, `state`, `updates`, `len`.
     #[inline(always)]
     pub fn remove_entry(self) -> (K, V) {
         self.0.remove_entry()
@@ -116,9 +116,6 @@ impl<'a, K: IntKey, V> OccupiedEntry<'a, K, V> {
     /// The pair is then at the end of its slot, where an [`insert`](crate::IntMap::insert) of a
     /// present key leaves it. This allocates nothing, so a value that can't be moved to another
     /// place is not lost. The capacity stays. If `f` panics, the map is one without the pair.
-    ///
-    /// Proved of `OccupiedEntry::hand_over`: `updates`, `state`, `others`, `len`, `capacity`,
-    /// `factor`.
     ///
     /// ```
     /// use intmap_proved::{Entry, IntMap};
@@ -133,6 +130,9 @@ impl<'a, K: IntKey, V> OccupiedEntry<'a, K, V> {
     /// }
     /// assert_eq!((from.len(), to[21].as_str()), (0, "a name"));
     /// ```
+    ///
+    /// Proved of `OccupiedEntry::hand_over`: `updates`, `state`, `others`, `len`, `capacity`,
+    /// `factor`.
     pub fn hand_over<R, F: FnOnce(V) -> Result<R, V>>(self, f: F) -> Option<R> {
         self.0.hand_over(f)
     }

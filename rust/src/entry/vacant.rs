@@ -15,8 +15,6 @@ impl<'a, K: IntKey, V> VacantEntry<'a, K, V> {
 
     /// Returns the key, and leaves it absent.
     ///
-    /// Proved of `VacantEntry::into_key`: `value`, `state`.
-    ///
     /// ```
     /// use intmap_proved::{Entry, IntMap};
     ///
@@ -26,16 +24,14 @@ impl<'a, K: IntKey, V> VacantEntry<'a, K, V> {
     ///     assert_eq!(entry.into_key(), 21);
     /// }
     /// ```
+    ///
+    /// Proved of `VacantEntry::into_key`: `value`, `state`.
     pub fn into_key(self) -> K {
         self.0.into_key()
     }
 
     /// Inserts the pair at the end of its slot, and returns a mutable reference to the value. Where
     /// [`try_insert`](Self::try_insert) fails, this call panics or ends the process.
-    ///
-    /// Proved in part: a slot that holds no pair is filled by the calls by which `insert` of a map
-    /// fills one. Otherwise the pair is inserted by `try_insert`. The choice between the two is by
-    /// hand.
     ///
     /// ```
     /// use intmap_proved::{Entry, IntMap};
@@ -46,6 +42,10 @@ impl<'a, K: IntKey, V> VacantEntry<'a, K, V> {
     /// }
     /// assert_eq!(map[21], 2);
     /// ```
+    ///
+    /// Proved in part: a slot that holds no pair is filled by the calls by which `insert` of a map
+    /// fills one. Otherwise the pair is inserted by `try_insert`. The choice between the two is by
+    /// hand.
     #[inline(always)]
     pub fn insert(self, value: V) -> &'a mut V {
         match self.0.insert_first(value) {

@@ -56,8 +56,6 @@ impl<K: IntKey, V> IntMap<K, V> {
     /// [`Cause::TooLarge`] if `capacity` is above 2^63, and otherwise [`Cause::Memory`] if an
     /// allocation fails.
     ///
-    /// Proved of `IntMap::with_capacity`: `state`, `capacity`, `too_large`.
-    ///
     /// ```
     /// use intmap_proved::{Cause, IntMap};
     ///
@@ -65,6 +63,8 @@ impl<K: IntKey, V> IntMap<K, V> {
     /// assert_eq!(cause(1 << 63), Some(Cause::Memory));
     /// assert_eq!(cause((1 << 63) + 1), Some(Cause::TooLarge));
     /// ```
+    ///
+    /// Proved of `IntMap::with_capacity`: `state`, `capacity`, `too_large`.
     pub fn try_with_capacity(capacity: usize) -> Result<IntMap<K, V>, Cause> {
         Ok(IntMap { map: Proved::with_capacity(Global, capacity)? })
     }
@@ -72,12 +72,12 @@ impl<K: IntKey, V> IntMap<K, V> {
     /// Returns a reference to the value of the key, or `None` if the key is absent. The cost is
     /// *O*(*s*).
     ///
-    /// Proved of `IntMap::get`: `value`, `member`.
-    ///
     /// ```
     /// let map = intmap_proved::IntMap::from([(21u64, 'a')]);
     /// assert_eq!((map.get(21), map.get(22)), (Some(&'a'), None));
     /// ```
+    ///
+    /// Proved of `IntMap::get`: `value`, `member`.
     #[inline]
     pub fn get(&self, key: K) -> Option<&V> {
         self.map.get(key)
@@ -86,8 +86,6 @@ impl<K: IntKey, V> IntMap<K, V> {
     /// Returns a mutable reference to the value of the key, or `None` if the key is absent. The
     /// cost is *O*(*s*).
     ///
-    /// Proved of `IntMap::get_mut`: `writes_back`, `value`, `updates`, `len`.
-    ///
     /// ```
     /// let mut map = intmap_proved::IntMap::from([(21u64, 1)]);
     /// if let Some(value) = map.get_mut(21) {
@@ -95,6 +93,8 @@ impl<K: IntKey, V> IntMap<K, V> {
     /// }
     /// assert_eq!(map[21], 2);
     /// ```
+    ///
+    /// Proved of `IntMap::get_mut`: `writes_back`, `value`, `updates`, `len`.
     #[inline]
     pub fn get_mut(&mut self, key: K) -> Option<&mut V> {
         self.map.get_mut(key)
@@ -105,8 +105,6 @@ impl<K: IntKey, V> IntMap<K, V> {
     ///
     /// # Panics
     /// If two of the keys are equal and present.
-    ///
-    /// Proved in part: the search for each key is proved. The references are lent by hand.
     ///
     /// ```
     /// let mut map = intmap_proved::IntMap::from([(21u64, 1), (22, 2)]);
@@ -120,6 +118,8 @@ impl<K: IntKey, V> IntMap<K, V> {
     /// let mut map = intmap_proved::IntMap::from([(21u64, 1)]);
     /// map.get_disjoint_mut([21, 21]);
     /// ```
+    ///
+    /// Proved in part: the search for each key is proved. The references are lent by hand.
     #[track_caller]
     pub fn get_disjoint_mut<const N: usize>(&mut self, keys: [K; N]) -> [Option<&mut V>; N] {
         self.map.get_disjoint_mut(keys)
@@ -128,12 +128,12 @@ impl<K: IntKey, V> IntMap<K, V> {
     /// Returns references to the key in the map and to its value, or `None` if the key is absent.
     /// The cost is *O*(*s*).
     ///
-    /// Proved of `IntMap::get_key_value`: `key`, `value`, `by_pair`.
-    ///
     /// ```
     /// let map = intmap_proved::IntMap::from([(21u64, 'a')]);
     /// assert_eq!(map.get_key_value(21), Some((&21, &'a')));
     /// ```
+    ///
+    /// Proved of `IntMap::get_key_value`: `key`, `value`, `by_pair`.
     #[inline]
     pub fn get_key_value(&self, key: K) -> Option<(&K, &V)> {
         self.map.get_key_value(key)
@@ -142,24 +142,24 @@ impl<K: IntKey, V> IntMap<K, V> {
     /// Returns references to the key and the value of the pair that iteration visits first, or
     /// `None` if the map is empty. Its key need not be the least. The cost is *O*(1 + *c*/64).
     ///
-    /// Proved of `IntMap::first_key_value`: `value`.
-    ///
     /// ```
     /// let map = intmap_proved::IntMap::from([(4u64, 'b'), (0, 'a')]);
     /// assert_eq!(map.first_key_value(), map.iter().next());
     /// ```
+    ///
+    /// Proved of `IntMap::first_key_value`: `value`.
     pub fn first_key_value(&self) -> Option<(&K, &V)> {
         self.map.first_key_value()
     }
 
     /// Returns whether the key is present. The cost is *O*(*s*).
     ///
-    /// Proved of `IntMap::contains_key`: `value`.
-    ///
     /// ```
     /// let map = intmap_proved::IntMap::from([(21u64, 'a')]);
     /// assert!(map.contains_key(21) && !map.contains_key(22));
     /// ```
+    ///
+    /// Proved of `IntMap::contains_key`: `value`.
     #[inline]
     pub fn contains_key(&self, key: K) -> bool {
         self.map.contains_key(key)
@@ -171,12 +171,12 @@ impl<K: IntKey, V> IntMap<K, V> {
     /// The last pair of the slot takes its place, and the other pairs keep their order. The
     /// capacity and the [memory](IntMap#memory) stay.
     ///
-    /// Proved of `IntMap::remove`: `value`, `state`, `absent`, `updates`, `len`.
-    ///
     /// ```
     /// let mut map = intmap_proved::IntMap::from([(21u64, 'a')]);
     /// assert_eq!((map.remove(21), map.remove(21)), (Some('a'), None));
     /// ```
+    ///
+    /// Proved of `IntMap::remove`: `value`, `state`, `absent`, `updates`, `len`.
     #[inline]
     pub fn remove(&mut self, key: K) -> Option<V> {
         self.map.remove(key)
@@ -185,12 +185,12 @@ impl<K: IntKey, V> IntMap<K, V> {
     /// The same as [`remove`](Self::remove), but it returns `key` beside the value, not the stored
     /// key.
     ///
-    /// Proved of `IntMap::remove_entry`: `key`, `value`, `state`, `absent`, `updates`, `len`.
-    ///
     /// ```
     /// let mut map = intmap_proved::IntMap::from([(21u64, 'a')]);
     /// assert_eq!(map.remove_entry(21), Some((21, 'a')));
     /// ```
+    ///
+    /// Proved of `IntMap::remove_entry`: `key`, `value`, `state`, `absent`, `updates`, `len`.
     #[inline]
     pub fn remove_entry(&mut self, key: K) -> Option<(K, V)> {
         self.map.remove_entry(key)

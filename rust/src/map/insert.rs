@@ -37,9 +37,6 @@ impl<K: IntKey, V> IntMap<K, V> {
     /// then stays as it was. It never fails if the key is present, nor if no other key shares its
     /// slot and the capacity stays.
     ///
-    /// Proved of `IntMap::insert`: `old`, `inserted`, `updates`, `len`, `state`, `err`,
-    /// `value_returned`, `absent`, `refused`, `succeeds`, `has_room`.
-    ///
     /// ```
     /// use intmap_proved::{IntMap, Refused};
     ///
@@ -48,6 +45,9 @@ impl<K: IntKey, V> IntMap<K, V> {
     /// assert_eq!(map.try_insert(21, 'b')?, Some('a'));
     /// # Ok::<(), Refused<char>>(())
     /// ```
+    ///
+    /// Proved of `IntMap::insert`: `old`, `inserted`, `updates`, `len`, `state`, `err`,
+    /// `value_returned`, `absent`, `refused`, `succeeds`, `has_room`.
     #[inline(always)]
     pub fn try_insert(&mut self, key: K, value: V) -> Result<Option<V>, Refused<V>> {
         // a guard holds the map only where a `number` is called once a pair has changed

@@ -16,14 +16,14 @@ impl<K: IntKey, V> IntMap<K, V> {
     /// can. If `keep` or the drop of a value panics, the map stays whole, and the pairs that
     /// weren't reached stay in it.
     ///
-    /// Proved of `IntMap::retain`: `by_pair`, `by_key`, `filtered`, `pairs`, `state`, `updates`,
-    /// `len`.
-    ///
     /// ```
     /// let mut map = intmap_proved::IntMap::from([(0u64, 'a'), (4, 'b'), (8, 'c')]);
     /// map.retain(|key, _| key > 0);
     /// assert_eq!(format!("{map:?}"), "{4: 'b', 8: 'c'}");
     /// ```
+    ///
+    /// Proved of `IntMap::retain`: `by_pair`, `by_key`, `filtered`, `pairs`, `state`, `updates`,
+    /// `len`.
     pub fn retain<F: FnMut(K, &V) -> bool>(&mut self, keep: F) {
         guarded!(&mut self.map, |map| map.retain(keep))
     }
@@ -52,13 +52,13 @@ impl<K: IntKey, V> IntMap<K, V> {
     /// all others. If the drop of a value panics, the map stays whole, without the pairs up to that
     /// one. The cost is *O*(*n* + *c*).
     ///
-    /// Proved of `IntMap::clear`: `state`, `updates`, `len`.
-    ///
     /// ```
     /// let mut map = intmap_proved::IntMap::from([(21u64, 'a')]);
     /// map.clear();
     /// assert_eq!((map.len(), map.capacity()), (0, 2));
     /// ```
+    ///
+    /// Proved of `IntMap::clear`: `state`, `updates`, `len`.
     pub fn clear(&mut self) {
         guarded!(&mut self.map, |map| map.clear())
     }
@@ -71,8 +71,6 @@ impl<K: IntKey, V> IntMap<K, V> {
     /// The pairs that stay keep their order, also if the iterator is forgotten. The capacity and the
     /// load factor stay. All steps together cost *O*(*n* + *c*), however many keys share a slot.
     ///
-    /// Proved of `IntMap::drain`: `state`, `next_gives`.
-    ///
     /// ```
     /// let mut map = intmap_proved::IntMap::from([(0u64, 'a'), (4, 'b'), (8, 'c')]);
     /// assert_eq!(map.drain().next(), Some((0, 'a')));
@@ -81,6 +79,8 @@ impl<K: IntKey, V> IntMap<K, V> {
     /// map.clear();
     /// assert_eq!((map.len(), map.capacity()), (0, 4));
     /// ```
+    ///
+    /// Proved of `IntMap::drain`: `state`, `next_gives`.
     #[must_use = "a drain removes one pair at each step, so `drain();` removes none: take `clear`"]
     pub fn drain(&mut self) -> Drain<'_, K, V> {
         Drain { left: self.len(), inner: self.map.drain() }
@@ -95,13 +95,13 @@ impl<K: IntKey, V> IntMap<K, V> {
     /// load factor. All steps together cost *O*(*n s* + *c*) beside the calls of `pick`.
     /// [`retain`](Self::retain) costs *O*(*n* + *c*), however many keys share a slot.
     ///
-    /// Proved of `IntMap::extract_if`: `state`, `test`, `kept`, `left`, `next_gives`.
-    ///
     /// ```
     /// let mut map = intmap_proved::IntMap::from([(0u64, 10), (1, 20), (2, 30)]);
     /// let large: Vec<_> = map.extract_if(|_, value| *value > 15).collect();
     /// assert_eq!((large, map.len()), (vec![(1, 20), (2, 30)], 1));
     /// ```
+    ///
+    /// Proved of `IntMap::extract_if`: `state`, `test`, `kept`, `left`, `next_gives`.
     pub fn extract_if<F: FnMut(K, &mut V) -> bool>(&mut self, pick: F) -> ExtractIf<'_, K, V, F> {
         ExtractIf { inner: self.map.extract_if(pick) }
     }
@@ -112,14 +112,14 @@ impl<K: IntKey, V> IntMap<K, V> {
     /// It does what a loop over [`iter_mut`](Self::iter_mut) does. Its code is proved, that of
     /// `iter_mut` is tested.
     ///
-    /// Proved of `IntMap::for_each_mut`: `mapped`, `by_pair`, `values`, `state`, `keys`, `updates`,
-    /// `len`.
-    ///
     /// ```
     /// let mut map = intmap_proved::IntMap::from([(0u64, 10), (1, 20)]);
     /// map.for_each_mut(|key, value| *value += key);
     /// assert_eq!((map[0], map[1]), (10, 21));
     /// ```
+    ///
+    /// Proved of `IntMap::for_each_mut`: `mapped`, `by_pair`, `values`, `state`, `keys`, `updates`,
+    /// `len`.
     pub fn for_each_mut<F: FnMut(K, &mut V)>(&mut self, change: F) {
         self.map.for_each_mut(change);
     }
@@ -131,8 +131,6 @@ impl<K: IntKey, V> IntMap<K, V> {
     /// # Errors
     /// That of [`try_insert`](Self::try_insert), with the pair and the number of pairs before it.
     ///
-    /// Proved of `IntMap::extend`: `extends`, `runs`, `len`, `has_room`, `stops`.
-    ///
     /// ```
     /// use intmap_proved::{IntMap, RefusedPair};
     ///
@@ -143,6 +141,8 @@ impl<K: IntKey, V> IntMap<K, V> {
     /// }
     /// assert_eq!(map.len(), 2);
     /// ```
+    ///
+    /// Proved of `IntMap::extend`: `extends`, `runs`, `len`, `has_room`, `stops`.
     pub fn try_extend<I>(&mut self, pairs: I) -> Result<(), RefusedPair<K, V>>
     where
         I: IntoIterator<Item = (K, V)>,

@@ -76,8 +76,9 @@ impl<K: IntKey, V> IntMap<K, V> {
     /// The next `additional` insertions of any keys then can't fail, and allocate nothing. This
     /// holds until a call other than an insertion, a removal or a look-up changes the map. That they
     /// can't fail is proved, by `any` of this call, `has_room` of the insertions and the law
-    /// `insertions_leave_room`. That they allocate nothing is tested. Where [`try_reserve_insertions`](Self::try_reserve_insertions) fails, this call panics or
-    /// ends the process.
+    /// `insertions_leave_room`. That they allocate nothing is tested. Where
+    /// [`try_reserve_insertions`](Self::try_reserve_insertions) fails, this call panics or ends the
+    /// process.
     ///
     /// ```
     /// let mut map = intmap_proved::IntMap::from([(0u64, 'a')]);
@@ -98,9 +99,6 @@ impl<K: IntKey, V> IntMap<K, V> {
     /// needed, and otherwise [`Cause::Memory`] if an allocation fails. The map then stays as it
     /// was.
     ///
-    /// Proved of `IntMap::reserve_insertions`: `reserved`, `room`, `any`, `err`, `too_large`,
-    /// `updates`, `len`.
-    ///
     /// ```
     /// use intmap_proved::{Cause, IntMap};
     ///
@@ -109,6 +107,9 @@ impl<K: IntKey, V> IntMap<K, V> {
     /// assert_eq!(map.try_reserve_insertions(1 << 60), Err(Cause::Memory));
     /// assert_eq!(map.capacity(), 2);
     /// ```
+    ///
+    /// Proved of `IntMap::reserve_insertions`: `reserved`, `room`, `any`, `err`, `too_large`,
+    /// `updates`, `len`.
     pub fn try_reserve_insertions(&mut self, additional: usize) -> Result<(), Cause> {
         guarded!(&mut self.map, |map| map.reserve_insertions(additional))
     }

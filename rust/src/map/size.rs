@@ -8,11 +8,11 @@ use crate::room::thousandths_of;
 impl<K: IntKey, V> IntMap<K, V> {
     /// Returns the number of pairs. The cost is *O*(1).
     ///
-    /// Proved of `IntMap::len`: `value`.
-    ///
     /// ```
     /// assert_eq!(intmap_proved::IntMap::from([(21u64, 'a')]).len(), 1);
     /// ```
+    ///
+    /// Proved of `IntMap::len`: `value`.
     #[inline]
     pub fn len(&self) -> usize {
         self.map.len()
@@ -20,11 +20,11 @@ impl<K: IntKey, V> IntMap<K, V> {
 
     /// Returns whether there is no pair. The cost is *O*(1).
     ///
-    /// Proved of `IntMap::is_empty`: `value`.
-    ///
     /// ```
     /// assert!(intmap_proved::IntMap::<u64, char>::new().is_empty());
     /// ```
+    ///
+    /// Proved of `IntMap::is_empty`: `value`.
     #[inline]
     pub fn is_empty(&self) -> bool {
         self.map.is_empty()
@@ -35,13 +35,13 @@ impl<K: IntKey, V> IntMap<K, V> {
     /// Unlike std's, it isn't the number of pairs for which there is room: it says which keys share
     /// a slot.
     ///
-    /// Proved of `IntMap::capacity`: `value`.
-    ///
     /// ```
     /// let mut map = intmap_proved::IntMap::new();
     /// map.extend((0u64..4).map(|key| (key, 'a')));
     /// assert_eq!(map.capacity(), 8);
     /// ```
+    ///
+    /// Proved of `IntMap::capacity`: `value`.
     #[inline]
     pub fn capacity(&self) -> usize {
         self.map.capacity()
@@ -71,8 +71,6 @@ impl<K: IntKey, V> IntMap<K, V> {
     /// [`Cause::Memory`] if an allocation fails. The map then stays as it was. It never fails if
     /// the capacity stays.
     ///
-    /// Proved of `IntMap::reserve`: `reserved`, `err`, `refused`, `updates`, `len`.
-    ///
     /// ```
     /// use intmap_proved::{Cause, IntMap};
     ///
@@ -81,6 +79,8 @@ impl<K: IntKey, V> IntMap<K, V> {
     /// assert_eq!(map.try_reserve(1 << 62), Err(Cause::Memory));
     /// assert_eq!(map.capacity(), 2);
     /// ```
+    ///
+    /// Proved of `IntMap::reserve`: `reserved`, `err`, `refused`, `updates`, `len`.
     pub fn try_reserve(&mut self, additional: usize) -> Result<(), Cause> {
         guarded!(&mut self.map, |map| map.reserve(additional))
     }
@@ -91,23 +91,23 @@ impl<K: IntKey, V> IntMap<K, V> {
     /// An insertion checks it only if the pairs are then 4 to 7, 12 to 15, 20 to 23, and so on. In
     /// between there may be more.
     ///
-    /// Proved in part: it is [`load_factor_thousandths`](IntMap::load_factor_thousandths), divided
-    /// by hand.
-    ///
     /// ```
     /// assert_eq!(intmap_proved::IntMap::<u64, char>::new().get_load_factor(), 0.909);
     /// ```
+    ///
+    /// Proved in part: it is [`load_factor_thousandths`](IntMap::load_factor_thousandths), divided
+    /// by hand.
     pub fn get_load_factor(&self) -> f32 {
         self.load_factor_thousandths() as f32 / 1000.
     }
 
     /// Returns the load factor in thousandths, as the map has it. The cost is *O*(1).
     ///
-    /// Proved of `IntMap::get_load_factor`: `value`.
-    ///
     /// ```
     /// assert_eq!(intmap_proved::IntMap::<u64, char>::new().load_factor_thousandths(), 909);
     /// ```
+    ///
+    /// Proved of `IntMap::get_load_factor`: `value`.
     pub fn load_factor_thousandths(&self) -> usize {
         self.map.get_load_factor()
     }
@@ -153,37 +153,37 @@ impl<K: IntKey, V> IntMap<K, V> {
     /// [`Cause::Memory`] if an allocation fails. The map then stays as it was, with its load
     /// factor. It never fails if the capacity stays.
     ///
-    /// Proved of `IntMap::set_load_factor`: `set`, `err`, `refused`, `updates`, `len`.
-    ///
     /// ```
     /// let mut map = intmap_proved::IntMap::from([(0u64, 'a'), (1, 'b'), (2, 'c')]);
     /// assert_eq!(map.try_set_load_factor_thousandths(100), Ok(()));
     /// assert_eq!(map.capacity(), 32);
     /// ```
+    ///
+    /// Proved of `IntMap::set_load_factor`: `set`, `err`, `refused`, `updates`, `len`.
     pub fn try_set_load_factor_thousandths(&mut self, thousandths: usize) -> Result<(), Cause> {
         guarded!(&mut self.map, |map| map.set_load_factor(thousandths))
     }
 
     /// Returns the number of slots that have a pair. The cost is *O*(*c*), by 64 slots at a time.
     ///
-    /// Proved of `IntMap::load`: `value`.
-    ///
     /// ```
     /// assert_eq!(intmap_proved::IntMap::from([(0u64, 'a'), (4, 'b')]).load(), 1);
     /// ```
+    ///
+    /// Proved of `IntMap::load`: `value`.
     pub fn load(&self) -> u64 {
         self.map.load()
     }
 
     /// Returns how many pairs a slot has on average, in percent. The cost is *O*(1).
     ///
-    /// Proved in part: it is [`len`](IntMap::len) by [`capacity`](IntMap::capacity), divided by
-    /// hand.
-    ///
     /// ```
     /// let map = intmap_proved::IntMap::from([(0u64, 'a'), (4, 'b'), (8, 'c')]);
     /// assert_eq!(map.load_rate(), 75.);
     /// ```
+    ///
+    /// Proved in part: it is [`len`](IntMap::len) by [`capacity`](IntMap::capacity), divided by
+    /// hand.
     pub fn load_rate(&self) -> f64 {
         self.len() as f64 / self.capacity() as f64 * 100.
     }
@@ -191,11 +191,11 @@ impl<K: IntKey, V> IntMap<K, V> {
     /// Counts the pairs, and returns whether their number is [`len`](Self::len). It always is. The
     /// cost is *O*(*n* + *c*).
     ///
-    /// Proved of `IntMap::assert_count`: `value`.
-    ///
     /// ```
     /// assert!(intmap_proved::IntMap::from([(21u64, 'a')]).assert_count());
     /// ```
+    ///
+    /// Proved of `IntMap::assert_count`: `value`.
     pub fn assert_count(&self) -> bool {
         self.map.assert_count()
     }

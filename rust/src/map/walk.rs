@@ -7,12 +7,12 @@ impl<K: IntKey, V> IntMap<K, V> {
     /// Returns an iterator over the pairs, in iteration order. It doesn't allocate. All steps
     /// together cost *O*(*n* + *c*).
     ///
-    /// Proved of `IntMap::iter`: `walk`, `runs`.
-    ///
     /// ```
     /// let map = intmap_proved::IntMap::from([(0u64, 'a'), (1, 'b')]);
     /// assert_eq!(map.iter().collect::<Vec<_>>(), [(&0, &'a'), (&1, &'b')]);
     /// ```
+    ///
+    /// Proved of `IntMap::iter`: `walk`, `runs`.
     #[inline]
     pub fn iter(&self) -> Iter<'_, K, V> {
         Iter { left: self.len(), inner: self.map.iter() }
@@ -43,12 +43,12 @@ impl<K: IntKey, V> IntMap<K, V> {
     /// Returns an iterator over the keys, in iteration order. The cost is that of
     /// [`iter`](Self::iter).
     ///
-    /// Proved of `IntMap::keys`: `walk`, `len`, `runs`.
-    ///
     /// ```
     /// let map = intmap_proved::IntMap::from([(0u64, 'a'), (1, 'b')]);
     /// assert_eq!(map.keys().sum::<u64>(), 1);
     /// ```
+    ///
+    /// Proved of `IntMap::keys`: `walk`, `len`, `runs`.
     #[inline]
     pub fn keys(&self) -> Keys<'_, K, V> {
         Keys { left: self.len(), inner: self.map.keys() }
@@ -57,12 +57,12 @@ impl<K: IntKey, V> IntMap<K, V> {
     /// Returns an iterator over the values, in iteration order. The cost is that of
     /// [`iter`](Self::iter).
     ///
-    /// Proved of `IntMap::values`: `walk`, `len`, `runs`.
-    ///
     /// ```
     /// let map = intmap_proved::IntMap::from([(0u64, 'a'), (1, 'b')]);
     /// assert_eq!(map.values().collect::<String>(), "ab");
     /// ```
+    ///
+    /// Proved of `IntMap::values`: `walk`, `len`, `runs`.
     #[inline]
     pub fn values(&self) -> Values<'_, K, V> {
         Values { left: self.len(), inner: self.map.values() }
@@ -85,12 +85,12 @@ impl<K: IntKey, V> IntMap<K, V> {
     /// key is returned, and the rest as the iterator is dropped. The cost is that of
     /// [`iter`](Self::iter).
     ///
-    /// Proved of `IntMap::into_keys`: `walk`, `len`, `runs`.
-    ///
     /// ```
     /// let map = intmap_proved::IntMap::from([(0u64, 'a'), (1, 'b')]);
     /// assert_eq!(map.into_keys().collect::<Vec<_>>(), [0, 1]);
     /// ```
+    ///
+    /// Proved of `IntMap::into_keys`: `walk`, `len`, `runs`.
     #[inline]
     pub fn into_keys(self) -> IntoKeys<K, V> {
         IntoKeys { left: self.len(), inner: self.map.into_keys() }
@@ -99,12 +99,12 @@ impl<K: IntKey, V> IntMap<K, V> {
     /// Returns an iterator over the values by value, in iteration order. The cost is that of
     /// [`iter`](Self::iter).
     ///
-    /// Proved of `IntMap::into_values`: `walk`, `len`, `runs`.
-    ///
     /// ```
     /// let map = intmap_proved::IntMap::from([(0u64, 'a'), (1, 'b')]);
     /// assert_eq!(map.into_values().collect::<String>(), "ab");
     /// ```
+    ///
+    /// Proved of `IntMap::into_values`: `walk`, `len`, `runs`.
     #[inline]
     pub fn into_values(self) -> IntoValues<K, V> {
         IntoValues { left: self.len(), inner: self.map.into_values() }

@@ -82,12 +82,12 @@ impl<K: IntKey> IntSet<K> {
 
     /// Returns whether the key is a member. The cost is *O*(*s*).
     ///
-    /// Proved of `IntSet::contains`: `value`.
-    ///
     /// ```
     /// let set = intmap_proved::IntSet::from([21u64]);
     /// assert!(set.contains(21) && !set.contains(22));
     /// ```
+    ///
+    /// Proved of `IntSet::contains`: `value`.
     #[inline]
     pub fn contains(&self, key: K) -> bool {
         self.set.contains(key)
@@ -96,13 +96,13 @@ impl<K: IntKey> IntSet<K> {
     /// Returns a reference to the member that is equal to the key, or `None` if there is none. The
     /// cost is *O*(*s*).
     ///
-    /// Proved in part: it is [`IntMap::get_key_value`](crate::IntMap::get_key_value), on the map
-    /// from each member to `()`.
-    ///
     /// ```
     /// let set = intmap_proved::IntSet::from([21u64]);
     /// assert_eq!((set.get(21), set.get(22)), (Some(&21), None));
     /// ```
+    ///
+    /// Proved in part: it is [`IntMap::get_key_value`](crate::IntMap::get_key_value), on the map
+    /// from each member to `()`.
     #[inline]
     pub fn get(&self, key: K) -> Option<&K> {
         self.set.get(key)
@@ -141,13 +141,13 @@ impl<K: IntKey> IntSet<K> {
     /// Removes the key, and returns whether it was a member. The last member of its slot takes its
     /// place. The others keep their order, and the capacity stays. The cost is *O*(*s*).
     ///
-    /// Proved of `IntSet::remove`: `value`, `state`, `absent`, `updates`, `len`.
-    ///
     /// ```
     /// let mut set = intmap_proved::IntSet::from([21u64]);
     /// assert!(set.remove(21));
     /// assert!(!set.remove(21));
     /// ```
+    ///
+    /// Proved of `IntSet::remove`: `value`, `state`, `absent`, `updates`, `len`.
     #[inline]
     pub fn remove(&mut self, key: K) -> bool {
         self.set.remove(key)
@@ -166,11 +166,11 @@ impl<K: IntKey> IntSet<K> {
 
     /// Returns the number of members. The cost is *O*(1).
     ///
-    /// Proved of `IntSet::len`: `value`.
-    ///
     /// ```
     /// assert_eq!(intmap_proved::IntSet::from([21u64, 21]).len(), 1);
     /// ```
+    ///
+    /// Proved of `IntSet::len`: `value`.
     #[inline]
     pub fn len(&self) -> usize {
         self.set.len()
@@ -178,11 +178,11 @@ impl<K: IntKey> IntSet<K> {
 
     /// Returns whether there is no member. The cost is *O*(1).
     ///
-    /// Proved of `IntSet::is_empty`: `value`.
-    ///
     /// ```
     /// assert!(intmap_proved::IntSet::<u64>::new().is_empty());
     /// ```
+    ///
+    /// Proved of `IntSet::is_empty`: `value`.
     #[inline]
     pub fn is_empty(&self) -> bool {
         self.set.is_empty()

@@ -7,13 +7,13 @@ impl<K: IntKey> IntSet<K> {
     /// Returns an iterator over the members that are absent from `other`, in the order of this set.
     /// A step looks up the next members of this set in `other`.
     ///
-    /// Proved of `IntSet::difference`: `walk`, `members`, `runs`.
-    ///
     /// ```
     /// # use intmap_proved::IntSet;
     /// let (first, second) = (IntSet::from([1u64, 2, 3]), IntSet::from([2, 3, 4]));
     /// assert_eq!(first.difference(&second).collect::<Vec<_>>(), [&1]);
     /// ```
+    ///
+    /// Proved of `IntSet::difference`: `walk`, `members`, `runs`.
     pub fn difference<'a>(&'a self, other: &'a IntSet<K>) -> Difference<'a, K> {
         let bounds = (self.len().saturating_sub(other.len()), self.len());
         Difference { inner: self.set.difference(&other.set), bounds }
@@ -23,13 +23,13 @@ impl<K: IntKey> IntSet<K> {
     /// members, or of this one if both have the same number. It looks the members of that set up in
     /// the other.
     ///
-    /// Proved of `IntSet::intersection`: `walk`, `members`, `runs`.
-    ///
     /// ```
     /// # use intmap_proved::IntSet;
     /// let (first, second) = (IntSet::from([1u64, 2, 3]), IntSet::from([2, 3, 4]));
     /// assert_eq!(first.intersection(&second).collect::<Vec<_>>(), [&2, &3]);
     /// ```
+    ///
+    /// Proved of `IntSet::intersection`: `walk`, `members`, `runs`.
     pub fn intersection<'a>(&'a self, other: &'a IntSet<K>) -> Intersection<'a, K> {
         let bounds = (0, self.len().min(other.len()));
         Intersection { inner: self.set.intersection(&other.set), bounds }
@@ -39,13 +39,13 @@ impl<K: IntKey> IntSet<K> {
     /// of the set with more members, or of this one if both have the same number, and then those
     /// that only the other has, each in the order of its set.
     ///
-    /// Proved of `IntSet::union`: `walk`, `members`, `runs`.
-    ///
     /// ```
     /// # use intmap_proved::IntSet;
     /// let (first, second) = (IntSet::from([1u64, 2, 3]), IntSet::from([2, 3, 4]));
     /// assert_eq!(first.union(&second).collect::<Vec<_>>(), [&1, &2, &3, &4]);
     /// ```
+    ///
+    /// Proved of `IntSet::union`: `walk`, `members`, `runs`.
     pub fn union<'a>(&'a self, other: &'a IntSet<K>) -> Union<'a, K> {
         let bounds = (self.len().max(other.len()), self.len() + other.len());
         Union { inner: self.set.union(&other.set), bounds }
@@ -54,13 +54,13 @@ impl<K: IntKey> IntSet<K> {
     /// Returns an iterator over the members that exactly one of the sets has: first those that only
     /// this set has, and then those that only `other` has, each in the order of its set.
     ///
-    /// Proved of `IntSet::symmetric_difference`: `walk`, `members`, `runs`.
-    ///
     /// ```
     /// # use intmap_proved::IntSet;
     /// let (first, second) = (IntSet::from([1u64, 2, 3]), IntSet::from([2, 3, 4]));
     /// assert_eq!(first.symmetric_difference(&second).collect::<Vec<_>>(), [&1, &4]);
     /// ```
+    ///
+    /// Proved of `IntSet::symmetric_difference`: `walk`, `members`, `runs`.
     pub fn symmetric_difference<'a>(&'a self, other: &'a IntSet<K>) -> SymmetricDifference<'a, K> {
         let bounds = (self.len().abs_diff(other.len()), self.len() + other.len());
         SymmetricDifference { inner: self.set.symmetric_difference(&other.set), bounds }
@@ -69,12 +69,12 @@ impl<K: IntKey> IntSet<K> {
     /// Returns whether each member is one of `other`. It looks the members up in turn, up to the
     /// first that is absent from `other`.
     ///
-    /// Proved of `IntSet::is_subset`: `value`.
-    ///
     /// ```
     /// # use intmap_proved::IntSet;
     /// assert!(IntSet::from([1u64, 2]).is_subset(&IntSet::from([1, 2, 3])));
     /// ```
+    ///
+    /// Proved of `IntSet::is_subset`: `value`.
     pub fn is_subset(&self, other: &IntSet<K>) -> bool {
         self.set.is_subset(&other.set)
     }
@@ -82,12 +82,12 @@ impl<K: IntKey> IntSet<K> {
     /// Returns whether each member of `other` is one of this set. It looks the members of `other`
     /// up in turn, up to the first that is absent from this set.
     ///
-    /// Proved of `IntSet::is_superset`: `value`.
-    ///
     /// ```
     /// # use intmap_proved::IntSet;
     /// assert!(IntSet::from([1u64, 2, 3]).is_superset(&IntSet::from([1, 2])));
     /// ```
+    ///
+    /// Proved of `IntSet::is_superset`: `value`.
     pub fn is_superset(&self, other: &IntSet<K>) -> bool {
         self.set.is_superset(&other.set)
     }
@@ -95,12 +95,12 @@ impl<K: IntKey> IntSet<K> {
     /// Returns whether no member is one of `other`. It looks the members of the smaller set up in
     /// the other, up to the first that both have.
     ///
-    /// Proved of `IntSet::is_disjoint`: `value`.
-    ///
     /// ```
     /// # use intmap_proved::IntSet;
     /// assert!(IntSet::from([1u64, 2]).is_disjoint(&IntSet::from([3])));
     /// ```
+    ///
+    /// Proved of `IntSet::is_disjoint`: `value`.
     pub fn is_disjoint(&self, other: &IntSet<K>) -> bool {
         self.set.is_disjoint(&other.set)
     }

@@ -7,12 +7,12 @@ impl<K: IntKey> IntSet<K> {
     /// Returns an iterator over the members, in iteration order. It doesn't allocate. All steps
     /// together cost *O*(*n* + *c*).
     ///
-    /// Proved of `IntSet::iter`: `walk`, `runs`.
-    ///
     /// ```
     /// let set = intmap_proved::IntSet::from([0u64, 1]);
     /// assert_eq!(set.iter().collect::<Vec<_>>(), [&0, &1]);
     /// ```
+    ///
+    /// Proved of `IntSet::iter`: `walk`, `runs`.
     #[inline]
     pub fn iter(&self) -> Iter<'_, K> {
         Iter { left: self.len(), inner: self.set.iter() }
@@ -24,13 +24,13 @@ impl<K: IntKey> IntSet<K> {
     /// The others keep their order, and the capacity and the load factor stay. If `keep` panics,
     /// the set stays whole, with the members that weren't reached.
     ///
-    /// Proved of `IntSet::retain`: `by_key`, `filtered`, `keys`, `state`, `updates`, `len`.
-    ///
     /// ```
     /// let mut set = intmap_proved::IntSet::from([0u64, 1, 2]);
     /// set.retain(|key| key > 0);
     /// assert_eq!(set.len(), 2);
     /// ```
+    ///
+    /// Proved of `IntSet::retain`: `by_key`, `filtered`, `keys`, `state`, `updates`, `len`.
     pub fn retain<F: FnMut(K) -> bool>(&mut self, keep: F) {
         guarded!(&mut self.set, |set| set.retain(keep))
     }
@@ -38,13 +38,13 @@ impl<K: IntKey> IntSet<K> {
     /// Removes all members. The capacity, the load factor and the memory stay. The cost is
     /// *O*(*n* + *c*).
     ///
-    /// Proved of `IntSet::clear`: `state`, `updates`, `len`.
-    ///
     /// ```
     /// let mut set = intmap_proved::IntSet::from([21u64]);
     /// set.clear();
     /// assert_eq!((set.len(), set.capacity()), (0, 2));
     /// ```
+    ///
+    /// Proved of `IntSet::clear`: `state`, `updates`, `len`.
     pub fn clear(&mut self) {
         self.set.clear();
     }
@@ -56,12 +56,12 @@ impl<K: IntKey> IntSet<K> {
     ///
     /// The capacity and the load factor stay. All steps together cost *O*(*n* + *c*).
     ///
-    /// Proved of `IntSet::drain`: `state`, `next_gives`.
-    ///
     /// ```
     /// let mut set = intmap_proved::IntSet::from([0u64, 1]);
     /// assert_eq!((set.drain().next(), set.len()), (Some(0), 1));
     /// ```
+    ///
+    /// Proved of `IntSet::drain`: `state`, `next_gives`.
     #[must_use = "a drain removes one member at each step, so `drain();` removes none: take `clear`"]
     pub fn drain(&mut self) -> Drain<'_, K> {
         Drain { left: self.len(), inner: self.set.drain() }
@@ -74,14 +74,14 @@ impl<K: IntKey> IntSet<K> {
     /// dropped early or forgotten, the members that it didn't reach stay. All steps together cost
     /// *O*(*n s* + *c*) beside the calls of `pick`; [`retain`](Self::retain) costs *O*(*n* + *c*).
     ///
-    /// Proved in part: each step is the proved one of `IntMap::extract_if`, on the map from each
-    /// member to `()`.
-    ///
     /// ```
     /// let mut set = intmap_proved::IntSet::from([0u64, 1, 2]);
     /// assert_eq!(set.extract_if(|key| key > 0).collect::<Vec<_>>(), [1, 2]);
     /// assert_eq!(set.len(), 1);
     /// ```
+    ///
+    /// Proved in part: each step is the proved one of `IntMap::extract_if`, on the map from each
+    /// member to `()`.
     pub fn extract_if<F: FnMut(K) -> bool>(&mut self, pick: F) -> ExtractIf<'_, K, F> {
         ExtractIf { set: &mut self.set, at: Progress::start(), pick }
     }
@@ -94,8 +94,6 @@ impl<K: IntKey> IntSet<K> {
     /// That of [`try_insert`](Self::try_insert), with the key, `()` as its value, and the number of
     /// keys before it.
     ///
-    /// Proved of `IntSet::extend`: `extends`, `runs`, `len`, `stops`.
-    ///
     /// ```
     /// use intmap_proved::{IntSet, RefusedPair};
     ///
@@ -104,6 +102,8 @@ impl<K: IntKey> IntSet<K> {
     /// assert_eq!(set.len(), 2);
     /// # Ok::<(), RefusedPair<u64, ()>>(())
     /// ```
+    ///
+    /// Proved of `IntSet::extend`: `extends`, `runs`, `len`, `stops`.
     pub fn try_extend<I>(&mut self, keys: I) -> Result<(), RefusedPair<K, ()>>
     where
         I: IntoIterator<Item = K>,

@@ -7,11 +7,11 @@ use crate::room::{LEAST_SLOTS, slots_for, thousandths_of};
 impl<K: IntKey> IntSet<K> {
     /// Returns the number of slots, a power of two from 2 to 2^63. The cost is *O*(1).
     ///
-    /// Proved of `IntSet::capacity`: `value`.
-    ///
     /// ```
     /// assert_eq!(intmap_proved::IntSet::from([21u64]).capacity(), 2);
     /// ```
+    ///
+    /// Proved of `IntSet::capacity`: `value`.
     #[inline]
     pub fn capacity(&self) -> usize {
         self.set.capacity()
@@ -96,8 +96,9 @@ impl<K: IntKey> IntSet<K> {
     ///
     /// The next `additional` insertions of any keys then can't fail, and allocate nothing, as
     /// [`IntMap::reserve_insertions`](crate::IntMap::reserve_insertions) says. Of a set, `any` and
-    /// `has_room` prove it of the next insertion. The rest is tested. Where [`try_reserve_insertions`](Self::try_reserve_insertions) fails, this call
-    /// panics or ends the process.
+    /// `has_room` prove it of the next insertion. The rest is tested. Where
+    /// [`try_reserve_insertions`](Self::try_reserve_insertions) fails, this call panics or ends the
+    /// process.
     ///
     /// ```
     /// let mut set = intmap_proved::IntSet::from([0u64]);
@@ -125,25 +126,25 @@ impl<K: IntKey> IntSet<K> {
 
     /// Returns the load factor, as [`IntMap::get_load_factor`](crate::IntMap::get_load_factor) does.
     ///
-    /// Proved in part: it is [`load_factor_thousandths`](IntSet::load_factor_thousandths), divided
-    /// by hand.
-    ///
     /// ```
     /// assert_eq!(intmap_proved::IntSet::<u64>::new().get_load_factor(), 0.909);
     /// ```
+    ///
+    /// Proved in part: it is [`load_factor_thousandths`](IntSet::load_factor_thousandths), divided
+    /// by hand.
     pub fn get_load_factor(&self) -> f32 {
         self.load_factor_thousandths() as f32 / 1000.
     }
 
     /// Returns the load factor in thousandths. The cost is *O*(1).
     ///
-    /// Proved in part: it is
-    /// [`IntMap::load_factor_thousandths`](crate::IntMap::load_factor_thousandths), on the map from
-    /// each member to `()`.
-    ///
     /// ```
     /// assert_eq!(intmap_proved::IntSet::<u64>::new().load_factor_thousandths(), 909);
     /// ```
+    ///
+    /// Proved in part: it is
+    /// [`IntMap::load_factor_thousandths`](crate::IntMap::load_factor_thousandths), on the map from
+    /// each member to `()`.
     pub fn load_factor_thousandths(&self) -> usize {
         self.set.load_factor_thousandths()
     }
@@ -188,12 +189,12 @@ impl<K: IntKey> IntSet<K> {
 
     /// Returns the number of slots that have a member. The cost is *O*(*c*), by 64 slots at a time.
     ///
-    /// Proved in part: it is [`IntMap::load`](crate::IntMap::load), on the map from each member to
-    /// `()`.
-    ///
     /// ```
     /// assert_eq!(intmap_proved::IntSet::from([0u64, 4]).load(), 1);
     /// ```
+    ///
+    /// Proved in part: it is [`IntMap::load`](crate::IntMap::load), on the map from each member to
+    /// `()`.
     pub fn load(&self) -> u64 {
         self.set.load()
     }
