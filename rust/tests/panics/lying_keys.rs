@@ -3,7 +3,7 @@
 use crate::fuse::{burn, panics_at};
 use crate::random::Random;
 use intmap_proved::{Entry, IntKey, IntMap, IntSet};
-use std::cell::RefCell;
+use std::cell::{Cell, RefCell};
 use std::rc::Rc;
 
 const ROUNDS: u64 = 200;
@@ -132,4 +132,65 @@ fn a_panic_in_growth_of_keys_that_lie_leaves_no_slot_marked_that_holds_none() {
         }
     }
     assert!(panics > 1000, "only {panics} panics");
+}
+
+thread_local!(static ADDED: Cell<u64> = const { Cell::new(0) });
+
+/// A key whose number is the same one, but for the time of one call.
+#[derive(Clone, Copy, PartialEq, Eq)]
+struct Shifted(u64);
+
+impl IntKey for Shifted {
+    fn number(&self) -> u64 {
+        burn();
+        self.0 + ADDED.get()
+    }
+}
+
+const SHIFTED_GROWTHS: [Growth<IntMap<Shifted, u64>>; 4] = [
+    ("reserve", |map| map.reserve(200)),
+    ("reserve_insertions", |map| map.reserve_insertions(1000)),
+    ("set_load_factor", |map| map.set_load_factor(0.1)),
+    ("insert", |map| _ = map.insert(Shifted(1 << 40), 1 << 40)),
+];
+
+/// A map of 64 slots that grows at the next new key. Half of its keys share slots.
+fn shifted() -> IntMap<Shifted, u64> {
+    let mut map = IntMap::with_capacity(64);
+    let numbers = (0..30).chain((1..30).map(|it| (it % 7) + 64 * it));
+    map.extend(numbers.map(|number| (Shifted(number), number)));
+    assert_eq!((map.len(), map.capacity(), map.load()), (59, 64, 30));
+    map
+}
+
+fn numbers_of(map: &IntMap<Shifted, u64>) -> Vec<u64> {
+    let mut numbers: Vec<u64> = map.iter().map(|(key, value)| key.0 & value).collect();
+    numbers.sort_unstable();
+    numbers
+}
+
+#[test]
+fn growth_by_other_numbers_than_those_of_insertion_loses_no_pair() {
+    let (before, mut panics) = (numbers_of(&shifted()), 0);
+    for ((name, grow), added) in
+        SHIFTED_GROWTHS.into_iter().flat_map(|it| [1, 5, 64, 99].map(|added| (it, added)))
+    {
+        for place in 1.. {
+            let (mut map, after) = (shifted(), format!("after {name}, place {place}, {added}"));
+            ADDED.set(added);
+            let panicked = panics_at(place, || grow(&mut map));
+            ADDED.set(0);
+            let mut numbers = numbers_of(&map);
+            numbers.retain(|number| *number != 1 << 40);
+            assert_eq!(numbers, before, "{after}");
+            if !panicked {
+                assert!(map.capacity() > 64, "{after}");
+                break;
+            }
+            // each pair is back in the slot of its own number
+            assert!(numbers.iter().all(|it| map.get(Shifted(*it)) == Some(it)), "{after}");
+            panics += 1;
+        }
+    }
+    assert!(panics > 500, "only {panics} panics");
 }
