@@ -93,10 +93,11 @@
 ///
 /// # Types that are declared elsewhere
 ///
-/// `for` is followed by the path of a type of your crate that is `Copy + Eq`, `by` by a name for a
-/// reference to a key, and an expression, itself a key, whose number the key gets. No two keys may
-/// get one number. The macro can't see to that: [`check_keys`](crate::check_keys) tries some keys in
-/// a test, and [`IntKey`](crate::IntKey) says what happens to keys that break the rule.
+/// Write `for TYPE by |key| NUMBER;`. `TYPE` is a type of your crate that is `Copy + Eq`. `NUMBER`
+/// is an expression of any type of keys, and `key` in it a reference to the key, which gets the
+/// expression's number. No two keys may get one number. The macro can't see to that:
+/// [`check_keys`](crate::check_keys) tries some keys in a test, and [`IntKey`](crate::IntKey) says
+/// what happens to keys that break the rule.
 ///
 /// ```
 /// use intmap_proved::{IntMap, check_keys, int_key};
@@ -155,7 +156,7 @@
 /// as long as those of plain ids. Look-ups of absent ids took 1.0 to 1.5 times as long as those of
 /// random keys, and insertions 1.2 times. Beside std's map with its `RandomState`, look-ups of
 /// present ids took 0.65 to 0.8 of the time, of absent ids 0.4 to 1.1, and insertions 0.75 to 1.05.
-/// Each time is the least of a thousand rounds or more, in which the maps took turns.
+/// Each time is the least of a thousand rounds or more on 2026-12-01, in which the maps took turns.
 #[macro_export]
 macro_rules! int_key {
     ($(

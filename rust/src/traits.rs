@@ -146,8 +146,8 @@ impl<K: IntKey, V> FromIterator<(K, V)> for IntMap<K, V> {
 }
 
 /// A map of the pairs of an array, as `collect` makes it. So a key keeps its last value. The first
-/// capacity is the least power of two, from 2 on, that is at least `N`. If `N` is more than 0.909 of
-/// it, the last pairs double it by the rule of [`IntMap::insert`], and all move.
+/// capacity is the least power of two, from 2 on, that is at least `N`. If there are more pairs than
+/// 0.909 of it, the last of them double it by the rule of [`IntMap::insert`], and all move.
 ///
 /// ```
 /// # use intmap_proved::IntMap;

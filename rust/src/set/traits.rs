@@ -110,8 +110,8 @@ impl<K: IntKey> FromIterator<K> for IntSet<K> {
 }
 
 /// A set of the keys of an array, as `collect` makes it. The first capacity is the least power of
-/// two, from 2 on, that is at least `N`. If `N` is more than 0.909 of it, the last keys double it by
-/// the rule of [`IntMap::insert`](crate::IntMap::insert), and all move.
+/// two, from 2 on, that is at least `N`. If there are more members than 0.909 of it, the last of
+/// them double it by the rule of [`IntMap::insert`](crate::IntMap::insert), and all move.
 ///
 /// ```
 /// assert_eq!(intmap_proved::IntSet::from([21u64, 21]).len(), 1);
