@@ -1,14 +1,16 @@
 //! Facts of sets that a caller draws from their clauses and laws: when the next member grows the
-//! table, when there is room for it, how many members two sets have together, in common and apart,
-//! which members a set made of two has, and how many of some numbers are distinct.
+//! table, when there is room for it and for others, how many members two sets have together, in
+//! common and apart, which members a set made of two has, and how many of some numbers are
+//! distinct.
 ghost use Rattle.std.specs.Prelude.{[], ◌+◌, ◌<◌, ◌∷◌, ◌||◌, ◌↔◌, ◌≡◌, ◌≤◌, IfErr, IfOk, IfSome, IsErrOf, IsSome, IsTrue, OnErr, OnOk, false, length, not, true};
 ghost use Rattle.intmap.specs.Bindings.{HasDistinctKeys};
 ghost use Rattle.intmap.specs.Classes.{same_key};
 ghost use Rattle.intmap.specs.Growth.{IsNext, MeetsLoad};
 ghost use Rattle.intmap.specs.Map.{IsCapacityAfter, IsOutOfRange};
 ghost use Rattle.intmap.specs.Reach.{class_size};
+ghost use Rattle.intmap.specs.Room.{HasRoom};
 ghost use Rattle.intmap_set.specs.Combined.{HaveSameMembers, IsDifference, IsIntersection, IsSubset, IsUnion, difference_of, sets_equal, symmetric_difference_of};
-ghost use Rattle.intmap_set.specs.Sets.{AreBelow, IsAlone, Updates, holds, load_factor, paired};
+ghost use Rattle.intmap_set.specs.Sets.{AreBelow, IsAlone, Updates, as_map, holds, load_factor, paired};
 
 use intmap::{Cause, IntKey};
 use intmap_set::{IntSet, laws};
@@ -215,6 +217,51 @@ pub fn take_in_one<K: IntKey, A: Allocator + Copy>(
     match set.extend_from_set(other) {
         Ok(()) => (),
         Err(_refused) => unreachable!(),
+    }
+}
+
+// Insertions behind a reservation. None of them fails, whatever the keys are.
+
+/// Makes each of the keys a member. Each other key is a member afterwards if and only if it was
+/// one.
+///
+/// It fails only if the room for the keys can't be made. The set then stays as it was.
+pub fn take_in_listed<K: IntKey, A: Allocator + Copy>(
+    set: &mut IntSet<K, A>,
+    keys: Vec<K, A>,
+) -> Result<(), Cause>
+    ensures members { OnOk result ((q : K) → holds K.number_of set.new.walk q
+        ≡ (holds K.number_of set.old.walk q || holds K.number_of keys.items q)) }
+    ensures err { OnErr result (set.new ≡ set.old) }
+{
+    set.reserve_insertions(keys.len())?;
+    take_in_reserved(set, keys);
+    Ok(())
+}
+
+/// Makes each of the keys a member of a set that has room for them. It never fails.
+fn take_in_reserved<K: IntKey, A: Allocator + Copy>(set: &mut IntSet<K, A>, keys: Vec<K, A>)
+    requires { HasRoom K.number_of (as_map set.old) (length keys.items) }
+    ensures { (q : K) → holds K.number_of set.new.walk q
+        ≡ (holds K.number_of set.old.walk q || holds K.number_of keys.items q) }
+{
+    match set.extend(keys.into_iter()) {
+        Ok(()) => (),
+        Err(_refused) => unreachable!(),
+    }
+}
+
+/// Makes a key a member of a set that has room for it and `left` more. It never fails, and leaves
+/// room for these.
+pub fn note_reserved<K: IntKey, A: Allocator + Copy>(set: &mut IntSet<K, A>, key: K, left: usize)
+    requires { HasRoom K.number_of (as_map set.old) (left + 1) }
+    ensures updates { Updates K.number_of set.old.walk set.new.walk key true }
+    ensures room { HasRoom K.number_of (as_map set.new) left }
+{
+    laws::insertions_leave_room::<K>();
+    match set.insert(key) {
+        Ok(_new) => (),
+        Err(_cause) => unreachable!(),
     }
 }
 

@@ -1,5 +1,5 @@
--- When a new member has a slot of its own, and how far a search then goes.
-use Rattle.std.proofs.Common.{◌≡◌, ◌∙◌, inl, inr, ℕ, ◌+◌, ◌%◌, ◌*◌, ◌/◌, ◌^◌, ◌<◌, ◌≤◌, Bool, true, false, cond, List, [], ◌∷◌, Option, Some, None, refl, sym, ap, length, arith}
+-- When a new member has a slot of its own, and how far a search then goes; what insertions and removals leave of the room for any members.
+use Rattle.std.proofs.Common.{◌≡◌, ◌∙◌, inl, inr, ℕ, ◌+◌, ◌%◌, ◌*◌, ◌/◌, ◌^◌, ◌<◌, ◌≤◌, Bool, true, false, cond, List, [], ◌∷◌, Option, Some, None, refl, sym, ap, subst, length, arith}
 use Rattle.std.proofs.Math.Nat.{mod-eq_of_lt}
 use Rattle.std.proofs.lemmas.Bool.{cases_Bool, cases_lt, eqb-true, true≢false}
 use Rattle.std.proofs.lemmas.List.Elements.{All-cons, All-nil}
@@ -8,17 +8,21 @@ use Rattle.std.specs.Prelude.{◌==◌, ◌||◌, All, IsTrue, MatchOption}
 use Rattle.intmap.specs.Bindings.{HasDistinctKeys, value_of}
 use Rattle.intmap.specs.Classes.{IsCapacity, agrees}
 use Rattle.intmap.specs.Growth.{IsNext, MeetsLoad}
-use Rattle.intmap.specs.Map.{IsCapacityAfter, NeedsNoMemory}
+use Rattle.intmap.specs.Map.{IsCapacityAfter, NeedsNoMemory, after_insert, after_remove, after_search}
 use Rattle.intmap.specs.PlainLists.{RefusalIsDue, list_of}
 use Rattle.intmap.specs.Reach.{class_size, reach}
+use Rattle.intmap.specs.Room.{HasRoom}
 use Rattle.intmap.specs.declared.refusal.Cause.{Cause}
 use Rattle.intmap.proofs.CostLemmas.{class_size-below, reach-within_class}
 use Rattle.intmap.proofs.CountLemmas.{count_by-cons}
 use Rattle.intmap.proofs.LoadFactorLemmas.{IsNext-met, IsNext-unique, MeetsLoad-fewer}
 use Rattle.intmap.proofs.RefusalLemmas.{NeedsNoMemory-never_refused}
+use Rattle.intmap.proofs.ReservedLemmas.{HasRoom-fewer, HasRoom-inserted, HasRoom-removed}
 use Rattle.intmap.proofs.SlotNumberLemmas.{capacity-greatest, capacity-positive}
-use Rattle.intmap_set.specs.Sets.{SetState, AreBelow, IsAlone, as_map, holds, load_factor, paired}
-use Rattle.intmap_set.proofs.MemberLemmas.{holds-paired, holds-same_number, length-paired, same_key-itself}
+use Rattle.intmap_set.specs.Extending.{Inserts}
+use Rattle.intmap_set.specs.Sets.{SetState, AreBelow, IsAlone, IsSet, as_map, holds, load_factor, looked_up, paired, set_of}
+use Rattle.intmap_set.proofs.CallLemmas.{HasRoom-seen}
+use Rattle.intmap_set.proofs.MemberLemmas.{as_map-seen, holds-paired, holds-same_number, length-paired, same_key-itself}
 
 -- what is true beside another is true of both
 or-true : (b c : Bool) → c ≡ true → (b || c) ≡ true
@@ -105,3 +109,20 @@ module _ {K : Type 0} (number : K → ℕ) where
   small-never_due s k cause capacity below small meets due =
       let alone = IsAlone-below s.walk s.capacity k below small (holds-paired number s.walk k ∙ due.new_key) in
       NeedsNoMemory-never_due s k cause capacity (NeedsNoMemory-met s.walk s.capacity (length s.walk + 1) k capacity meets (omega arith) alone) due
+
+  -- an insertion into a set with room for n + 1 members leaves room for n
+  pub HasRoom-inserts : (is_valid : K → Type 0) (s t : SetState K) (k : K) (n : ℕ) → IsSet number is_valid s → HasRoom number (as_map s) (n + 1) → Inserts number is_valid s k t
+      → HasRoom number (as_map t) n
+  HasRoom-inserts is_valid s t k n valid room did = left (holds number s.walk k) did.state
+    where
+      left : (b : Bool) → t ≡ cond b (looked_up number s k) (set_of (after_insert number (as_map s) k tt t.capacity)) → HasRoom number (as_map t) n
+      left true state = subst (λ u. HasRoom number (as_map u) n) (sym state) (HasRoom-fewer number (as_map s) (n + 1) n valid.capacity room (omega arith))
+      left false state =
+          HasRoom-inserted number is_valid (as_map s) (as_map t) k tt n valid room did.inserted (sym (as_map-seen (after_insert number (as_map s) k tt t.capacity) t (sym state) refl))
+
+  -- a removal leaves the room
+  pub HasRoom-removes : (is_valid : K → Type 0) (s : SetState K) (k : K) (n : ℕ) → IsSet number is_valid s → HasRoom number (as_map s) n
+      → HasRoom number (as_map (set_of (after_remove number (as_map s) k))) n
+  HasRoom-removes is_valid s k n valid room =
+      let m = after_remove number (as_map s) k in
+      HasRoom-seen number m m (set_of m) refl refl n (HasRoom-removed number is_valid (after_search number (as_map s) k) k n valid room)

@@ -7,13 +7,15 @@ ghost use Rattle.std.specs.Prelude.{◌≡◌, ◌+◌, ◌*◌, ◌<◌, ◌≤
 ghost use Rattle.intmap.specs.Bindings.{HasDistinctKeys, value_of};
 ghost use Rattle.intmap.specs.Classes.{IsCapacity};
 ghost use Rattle.intmap.specs.Growth.{MeetsLoad};
-ghost use Rattle.intmap.specs.Map.{IsCapacityAfter, NeedsNoMemory};
+ghost use Rattle.intmap.specs.Map.{IsCapacityAfter, NeedsNoMemory, after_remove};
 ghost use Rattle.intmap.specs.PlainLists.{RefusalIsDue, list_of};
 ghost use Rattle.intmap.specs.Reach.{reach};
+ghost use Rattle.intmap.specs.Room.{HasRoom};
 ghost use Rattle.intmap.specs.declared.refusal.Cause.{Cause};
-ghost use Rattle.intmap_set.specs.Sets.{SetState, AreBelow, IsAlone, as_map, holds, load_factor, paired};
+ghost use Rattle.intmap_set.specs.Sets.{SetState, AreBelow, IsAlone, IsSet, as_map, holds, load_factor, paired, set_of};
 ghost use Rattle.intmap_set.specs.Combined.{IsSubset, IsDisjoint, HaveSameMembers, IsDifference, IsIntersection, IsUnion, IsSymmetricDifference, sets_equal, difference_of, intersection_of, union_of, symmetric_difference_of};
 ghost use Rattle.intmap.specs.Extending.{new_keys};
+ghost use Rattle.intmap_set.specs.Extending.{Inserts};
 
 use intmap::IntKey;
 
@@ -144,6 +146,19 @@ pub fn keys_that_need_no_memory_are_never_refused<K: IntKey>()
     ensures { (s : SetState K) (k : K) (cause : Cause) → IsCapacity s.capacity
         → NeedsNoMemory K.number_of (paired s.walk) s.capacity load_factor k
         → RefusalIsDue K.number_of (list_of (as_map s)) k cause → ⊥ }
+{}
+
+/// An insertion into a set that has room for `n + 1` members of any keys leaves room for `n`. Room
+/// for some members is room for fewer. A removal leaves the room.
+pub fn insertions_leave_room<K: IntKey>()
+    ensures inserted { (s t : SetState K) (k : K) (n : ℕ) → IsSet K.number_of K.is_valid s
+        → HasRoom K.number_of (as_map s) (n + 1) → Inserts K.number_of K.is_valid s k t
+        → HasRoom K.number_of (as_map t) n }
+    ensures fewer { (s : SetState K) (n fewer : ℕ) → IsSet K.number_of K.is_valid s
+        → HasRoom K.number_of (as_map s) n → fewer ≤ n → HasRoom K.number_of (as_map s) fewer }
+    ensures removed { (s : SetState K) (k : K) (n : ℕ) → IsSet K.number_of K.is_valid s
+        → HasRoom K.number_of (as_map s) n
+        → HasRoom K.number_of (as_map (set_of (after_remove K.number_of (as_map s) k))) n }
 {}
 
 /// If all members have numbers below the capacity, a new key with such a number shares its slot

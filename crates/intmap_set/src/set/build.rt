@@ -1,10 +1,11 @@
 //! Sets made of many keys.
-ghost use Rattle.std.specs.Prelude.{◌≡◌, ℕ, ◌+◌, ◌^◌, ◌<◌, ◌≤◌, ◌⊎◌, ◌||◌, length, max, OnOk, IfOk, IfErr, MatchResult};
+ghost use Rattle.std.specs.Prelude.{◌≡◌, ℕ, ◌+◌, ◌^◌, ◌<◌, ◌≤◌, ◌⊎◌, ◌||◌, length, max, OnOk, IfOk, IfErr, IsOk, MatchResult};
 ghost use Rattle.std.specs.Iterator.{IsFinite, size};
 ghost use Rattle.std.specs.Iterator.Runs.{WholeRun};
 ghost use Rattle.intmap.specs.Growth.{IsLeastPower};
 ghost use Rattle.intmap.specs.Map.{least_capacity};
-ghost use Rattle.intmap_set.specs.Sets.{IsSet, empty_set, holds};
+ghost use Rattle.intmap.specs.Room.{HasRoom};
+ghost use Rattle.intmap_set.specs.Sets.{IsSet, as_map, empty_set, holds};
 ghost use Rattle.intmap_set.specs.Extending.{Extends, ExtendsUpTo, MayStop, IsCollected, LeavesRange};
 
 use crate::set::IntSet;
@@ -40,6 +41,8 @@ impl<K: IntKey, A: Allocator + Copy> IntSet<K, A> {
             ≡ (holds K.number_of self.old.walk q || holds K.number_of run.items q))) }
         ensures len { OnOk result
             (length self.new.walk ≤ length self.old.walk + size (I.remaining iter)) }
+        ensures has_room { HasRoom K.number_of (as_map self.old) (size (I.remaining iter))
+            → IsOk result }
         ensures stops { IfErr result (λ refused.
             ExtendsUpTo K.number_of K.is_valid I.next_gives iter self.old refused self.new) }
         ensures valid { IsSet K.number_of K.is_valid self.old }

@@ -197,7 +197,9 @@ impl<K: IntKey, A: Allocator + Copy> IntSet<K, A> {
     /// leaves the set as it was.
     ///
     /// Contracts say so by `HasRoom` of the map that the set stands for: an insertion into a set
-    /// that has room for a member doesn't fail (its clause `has_room`).
+    /// that has room for a member doesn't fail (its clause `has_room`), and
+    /// [`insertions_leave_room`](crate::laws::insertions_leave_room) says what it leaves of the
+    /// room.
     ///
     /// ```text
     /// let mut set: IntSet<u64> = IntSet::new(alloc)?;

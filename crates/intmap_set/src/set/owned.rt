@@ -1,7 +1,8 @@
 //! New sets that are made of two, and a set that takes the members of another.
-ghost use Rattle.std.specs.Prelude.{◌≡◌, ◌*◌, ◌/◌, ◌^◌, ◌<◌, ◌≤◌, length, OnOk, IfOk, IfErr, MatchResult};
+ghost use Rattle.std.specs.Prelude.{◌≡◌, ◌*◌, ◌/◌, ◌^◌, ◌<◌, ◌≤◌, length, OnOk, IfOk, IfErr, IsOk, MatchResult};
 ghost use Rattle.std.specs.Iterator.{IsFinite};
-ghost use Rattle.intmap_set.specs.Sets.{IsSet, empty_set, load_factor};
+ghost use Rattle.intmap.specs.Room.{HasRoom};
+ghost use Rattle.intmap_set.specs.Sets.{IsSet, as_map, empty_set, load_factor};
 ghost use Rattle.intmap_set.specs.Combined.{IsDifference, IsIntersection, IsUnion, IsSymmetricDifference, difference_of, intersection_of, union_of, symmetric_difference_of};
 ghost use Rattle.intmap_set.specs.Extending.{Extends, IsExtended, MayStop, StopsAmong};
 
@@ -140,6 +141,8 @@ impl<K: IntKey, A: Allocator + Copy> IntSet<K, A> {
         ensures extended { OnOk result (IsExtended K.number_of K.is_valid self.old
             other.now.walk self.new) }
         ensures capacity { OnOk result (self.old.capacity ≤ self.new.capacity) }
+        ensures has_room { HasRoom K.number_of (as_map self.old) (length other.now.walk)
+            → IsOk result }
         ensures stops { IfErr result (λ refused. StopsAmong K.number_of K.is_valid self.old
             other.now.walk refused self.new) }
         ensures valid { IsSet K.number_of K.is_valid self.old }
