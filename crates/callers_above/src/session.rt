@@ -1,7 +1,8 @@
 //! Runs of commands, described by one plain list of pairs.
-ghost use Rattle.std.specs.Prelude.{◌≡◌, ◌++◌, ◌∷◌, [], IfOk, IfErr, Some, None};
+ghost use Rattle.std.specs.Prelude.{◌≡◌, ◌≤◌, ◌++◌, ◌∷◌, [], All, IfOk, IfErr, Some, None};
 ghost use Rattle.intmap.specs.PlainLists.{PlainList, Stands, empty_list};
 ghost use Rattle.intmap_run.specs.Bounds.{LeavesFewSlots, PlacesFew};
+ghost use Rattle.intmap_run.specs.Room.{IsNoFailedInsertion, LeavesSlots, most_inserted};
 ghost use Rattle.intmap_run.specs.Runs.{Runs, RunsFrom};
 ghost use Rattle.callers_above.specs.Sessions.{RunsTwice, Stops};
 
@@ -85,6 +86,28 @@ pub fn run_twice<K: IntKey, V: Drop, J: Judge<K, V>, A: Allocator + Copy>(
     match run(alloc, map, second, judge) {
         Ok(late) => Ok((early, late)),
         Err(second) => Err(Stopped::Second(early, second)),
+    }
+}
+
+/// Makes room for `count` keys, and runs commands that insert at most as many. No insertion fails.
+///
+/// It fails if the room can't be made, or if there is no memory for the answers. It then returns
+/// the commands.
+pub fn run_in_room<K: IntKey, V: Drop, J: Judge<K, V>, A: Allocator + Copy>(
+    alloc: A,
+    map: &mut IntMap<K, V, A>,
+    count: usize,
+    commands: Vec<Command<K, V, A>, A>,
+    judge: &J,
+) -> Result<Vec<Answer<K, V, J::Seen, A>, A>, Vec<Command<K, V, A>, A>>
+    requires few { most_inserted commands.items ≤ count }
+    requires slots { All LeavesSlots commands.items }
+    ensures inserted { IfOk result (λ answers. All IsNoFailedInsertion answers.items) }
+    ensures err { IfErr result (λ returned. returned ≡ commands) }
+{
+    match map.reserve_insertions(count) {
+        Ok(()) => run(alloc, map, commands, judge),
+        Err(_cause) => Err(commands),
     }
 }
 

@@ -13,3 +13,4 @@ pub mod JoinLemmas
 pub mod CollisionStepLemmas
 pub mod FrontLemmas
 pub mod RemovalLemmas
+pub mod RoomLemmas

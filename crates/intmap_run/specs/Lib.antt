@@ -3,3 +3,4 @@ pub mod Bounds
 pub mod Steps
 pub mod Laws
 pub mod Removals
+pub mod Room

@@ -3,7 +3,8 @@ ghost use Rattle.std.specs.Prelude.{◌≡◌, Some, IfOk, IfErr, OnErr, MatchRe
 ghost use Rattle.intmap.specs.Map.{IsMap};
 ghost use Rattle.intmap_run.specs.Runs.{RunsFrom};
 ghost use Rattle.intmap_run.specs.Bounds.{PlacesFew, LeavesFewSlots};
-ghost use Rattle.intmap_run.specs.Steps.{StepsFrom};
+ghost use Rattle.intmap_run.specs.Room.{KeepsRoom};
+ghost use Rattle.intmap_run.specs.Steps.{StepKeepsRoom, StepsFrom};
 ghost use Rattle.intmap_run.specs.declared.command.Command.TheVariants as command;
 ghost use Rattle.intmap.specs.Bindings.{keep_pairs};
 
@@ -36,6 +37,12 @@ const FEW: usize = 1024;
 /// run. At the end the capacity is the same as at the start, or one that a successful `Reserve` or
 /// `SetLoadFactor` left, or a capacity C with `(F + 1) * C <= 2000 * length`. Here F is the load
 /// factor at the end, in thousandths, and length the greatest length.
+///
+/// No insertion of the run fails if the map has room for all keys that the commands insert
+/// (`HasRoom`), as [`IntMap::reserve_insertions`](intmap::IntMap::reserve_insertions) makes it, and
+/// no command is a `Reserve` or a `SetLoadFactor`. The map at the end then has room for as many
+/// keys as there was room for beyond these. A command that answers a list may still lack memory
+/// for it.
 ///
 /// It fails if there is no memory for the answers. It then returns the commands, and the map is as
 /// it was.
@@ -81,6 +88,8 @@ pub fn run<K: IntKey, V: Drop, J: Judge<K, V>, A: Allocator + Copy>(
         (J.keeps judge.now) map.old commands.items answers.items map.new) }
     ensures last_capacity { IfOk result (λ answers. LeavesFewSlots K.number_of (J.sees judge.now)
         (J.keeps judge.now) map.old commands.items answers.items map.new) }
+    ensures keeps_room { IfOk result (λ answers.
+        KeepsRoom K.number_of map.old commands.items answers.items map.new) }
     ensures commands_returned { IfErr result (λ returned. returned ≡ commands) }
     ensures err { OnErr result (map.new ≡ map.old) }
     ensures valid { IsMap K.number_of K.is_valid map.old }
@@ -115,6 +124,7 @@ fn apply<K: IntKey, V: Drop, J: Judge<K, V>, A: Allocator + Copy>(
 ) -> Answer<K, V, J::Seen, A>
     ensures step { StepsFrom K.number_of (J.sees judge.now) (J.keeps judge.now)
         map.old command result map.new }
+    ensures room { StepKeepsRoom K.number_of map.old command result map.new }
     ensures valid_after { IsMap K.number_of K.is_valid map.new }
 {
     match command {
@@ -172,6 +182,7 @@ fn entry_insert<K: IntKey, V: Drop, J: Judge<K, V>, A: Allocator + Copy>(
 ) -> Answer<K, V, J::Seen, A>
     ensures step { (judge : J) → StepsFrom K.number_of (J.sees judge) (J.keeps judge)
         map.old (command.EntryInsert key value) result map.new }
+    ensures room { StepKeepsRoom K.number_of map.old (command.EntryInsert key value) result map.new }
     ensures valid_after { IsMap K.number_of K.is_valid map.new }
 {
     match map.entry(key) {
@@ -194,6 +205,7 @@ fn entry_remove<K: IntKey, V: Drop, J: Judge<K, V>, A: Allocator + Copy>(
 ) -> Answer<K, V, J::Seen, A>
     ensures step { (judge : J) → StepsFrom K.number_of (J.sees judge) (J.keeps judge)
         map.old (command.EntryRemove key) result map.new }
+    ensures room { StepKeepsRoom K.number_of map.old (command.EntryRemove key) result map.new }
     ensures valid_after { IsMap K.number_of K.is_valid map.new }
 {
     match map.entry(key) {
@@ -209,6 +221,7 @@ fn extend<K: IntKey, V: Drop, J: Judge<K, V>, A: Allocator + Copy>(
 ) -> Answer<K, V, J::Seen, A>
     ensures step { (judge : J) → StepsFrom K.number_of (J.sees judge) (J.keeps judge)
         map.old (command.Extend pairs) result map.new }
+    ensures room { StepKeepsRoom K.number_of map.old (command.Extend pairs) result map.new }
     ensures valid_after { IsMap K.number_of K.is_valid map.new }
 {
     match map.extend(pairs.into_iter()) {
@@ -243,6 +256,7 @@ fn keep_all<K: IntKey, V: Drop, S: Keeps<K, V>, A: Allocator + Copy>(
 )
     ensures walk { map.new.walk ≡ keep_pairs (S.stays_at keeper.now) map.old.walk }
     ensures state { map.new ≡ record map.old { walk = map.new.walk } }
+    ensures valid { IsMap K.number_of K.is_valid map.old }
     ensures valid_after { IsMap K.number_of K.is_valid map.new }
 {
     map.retain(|key, value| keeper.stays(key, value));

@@ -8,7 +8,8 @@ ghost use Rattle.intmap.specs.Map.{MapState, IsMap, with_walk};
 ghost use Rattle.intmap.specs.declared.refusal.Cause.TheVariants.{Memory};
 ghost use Rattle.intmap_run.specs.declared.command.Command.TheVariants as command;
 ghost use Rattle.intmap_run.specs.Runs.{SeesPair};
-ghost use Rattle.intmap_run.specs.Steps.{StepsFrom};
+ghost use Rattle.intmap_run.specs.Room.{IsNoFailedInsertion};
+ghost use Rattle.intmap_run.specs.Steps.{StepKeepsRoom, StepsFrom};
 
 use crate::answer::Answer;
 use crate::judge::Judge;
@@ -33,6 +34,7 @@ pub(crate) fn walk<K: IntKey, V: Drop, J: Judge<K, V>, A: Allocator + Copy>(
 ) -> Answer<K, V, J::Seen, A>
     ensures step { StepsFrom K.number_of (J.sees judge.now) (J.keeps judge.now)
         map.now command.Walk result map.now }
+    ensures answer { IsNoFailedInsertion result }
     ensures valid { IsMap K.number_of K.is_valid map.now }
 {
     match look_all(alloc, map, judge) {
@@ -48,6 +50,7 @@ pub(crate) fn keys<K: IntKey, V: Drop, J: Judge<K, V>, A: Allocator + Copy>(
 ) -> Answer<K, V, J::Seen, A>
     ensures step { (judge : J) → StepsFrom K.number_of (J.sees judge) (J.keeps judge)
         map.now command.Keys result map.now }
+    ensures answer { IsNoFailedInsertion result }
     ensures valid { IsMap K.number_of K.is_valid map.now }
 {
     match all_keys(alloc, map) {
@@ -64,6 +67,7 @@ pub(crate) fn values<K: IntKey, V: Drop, J: Judge<K, V>, A: Allocator + Copy>(
 ) -> Answer<K, V, J::Seen, A>
     ensures step { StepsFrom K.number_of (J.sees judge.now) (J.keeps judge.now)
         map.now command.Values result map.now }
+    ensures answer { IsNoFailedInsertion result }
     ensures valid { IsMap K.number_of K.is_valid map.now }
 {
     match look_at_values(alloc, map, judge) {
@@ -80,6 +84,7 @@ pub(crate) fn drain<K: IntKey, V: Drop, J: Judge<K, V>, A: Allocator + Copy>(
 ) -> Answer<K, V, J::Seen, A>
     ensures step { (judge : J) → StepsFrom K.number_of (J.sees judge) (J.keeps judge)
         map.old (command.Drain count) result map.new }
+    ensures room { StepKeepsRoom K.number_of map.old (command.Drain count) result map.new }
     ensures valid_after { IsMap K.number_of K.is_valid map.new }
 {
     match take_front(alloc, map, count) {
@@ -95,6 +100,7 @@ pub(crate) fn collisions<K: IntKey, V: Drop, J: Judge<K, V>, A: Allocator + Copy
 ) -> Answer<K, V, J::Seen, A>
     ensures step { (judge : J) → StepsFrom K.number_of (J.sees judge) (J.keeps judge)
         map.now command.Collisions result map.now }
+    ensures answer { IsNoFailedInsertion result }
     ensures valid { IsMap K.number_of K.is_valid map.now }
 {
     match all_sizes(alloc, map) {

@@ -1,7 +1,11 @@
-use Rattle.std.proofs.Common.{rules, Some, None}
+use Rattle.std.proofs.Common.{rules, length, Some, None, ◌+◌, arith}
+use Rattle.std.proofs.Math.Seq.{drop-length}
+use Rattle.intmap.specs.Room.{HasRoom}
+use Rattle.intmap.proofs.ReservedLemmas.{HasRoom-fewer, HasRoom-removed}
 use Rattle.intmap_run.proofs.StepLemmas.{StepsFrom-insert, StepsFrom-refused, StepsFrom-insert_checked, StepsFrom-refused_checked, StepsFrom-contains_key, StepsFrom-is_empty, StepsFrom-clear, StepsFrom-get, StepsFrom-remove, StepsFrom-len, StepsFrom-load, StepsFrom-load_rate, StepsFrom-assert_count}
 use Rattle.intmap_run.proofs.GrowthStepLemmas.{StepsFrom-reserve, StepsFrom-set_load_factor}
 use Rattle.intmap_run.proofs.WritingStepLemmas.{StepsFrom-get_mut, StepsFrom-back, StepsFrom-retain}
+use Rattle.intmap_run.proofs.RoomLemmas.{HasRoom-checked, HasRoom-less, HasRoom-pushed, HasRoom-thinned, thinned-drop, thinned-filter, thinned-written}
 use Rattle.intmap_run.proofs.runner.apply.Goals as goal
 
 pub returns-in-Ok-clause-step : goal.returns-in-Ok-clause-step
@@ -135,3 +139,71 @@ returns-in-Walk-clause-step g c = rw c.in-Walk.is c.walk.ensures.step
 
 pub returns-in-Values-clause-step : goal.returns-in-Values-clause-step
 returns-in-Values-clause-step g c = rw c.in-Values.is c.values.ensures.step
+
+-- what a command leaves of the room; where it leaves the map, the search finds it
+pub returns-in-Ok-clause-room : goal.returns-in-Ok-clause-room
+returns-in-Ok-clause-room g c = record {
+  kept = λ left leaves room.
+      let e = c.in-Ok.ensures in
+      (tt, HasRoom-pushed g.K.IntKey.number_of g.K.IntKey.is_valid c.args.map.now c.insert.new.self c.in-Insert.key c.in-Insert.value left c.insert.ensures.valid e.inserted e.state (rw c.in-Insert.is at room));
+}
+
+pub returns-in-Err-clause-room : goal.returns-in-Err-clause-room
+returns-in-Err-clause-room g c = record {
+  kept = λ left leaves room.
+      let one : HasRoom g.K.IntKey.number_of c.args.map.now (1 + left) = rw c.in-Insert.is at room in
+      let none = c.in-Err.ensures.has_room (HasRoom-fewer g.K.IntKey.number_of c.args.map.now (1 + left) 1 c.insert.ensures.valid.capacity one (omega arith)) in cc;
+}
+
+pub returns-in-Ok-insert_checked-clause-room : goal.returns-in-Ok-insert_checked-clause-room
+returns-in-Ok-insert_checked-clause-room g c = record {
+  kept = λ left leaves room.
+      let e = c.in-Ok-insert_checked.ensures in (
+        tt,
+        HasRoom-checked g.K.IntKey.number_of g.K.IntKey.is_valid c.args.map.now c.insert_checked.new.self c.in-InsertChecked.key c.in-InsertChecked.value c.in-Ok-insert_checked.new _ left c.insert_checked.ensures.valid
+            e.new e.inserted e.state (rw c.in-InsertChecked.is at room),
+      );
+}
+
+pub returns-in-Err-insert_checked-clause-room : goal.returns-in-Err-insert_checked-clause-room
+returns-in-Err-insert_checked-clause-room g c = record {
+  kept = λ left leaves room.
+      let one : HasRoom g.K.IntKey.number_of c.args.map.now (1 + left) = rw c.in-InsertChecked.is at room in
+      let none = c.in-Err-insert_checked.ensures.has_room (HasRoom-fewer g.K.IntKey.number_of c.args.map.now (1 + left) 1 c.insert_checked.ensures.valid.capacity one (omega arith)) in cc;
+}
+
+pub returns-in-Some-get_mut-clause-room : goal.returns-in-Some-get_mut-clause-room
+returns-in-Some-get_mut-clause-room g c = record {
+  kept = λ left leaves room.
+      let m = c.args.map.now in (
+        tt,
+        rw c.replace.ensures.after
+            (HasRoom-thinned g.K.IntKey.number_of g.K.IntKey.is_valid m _ left c.get_mut.ensures.valid.capacity (thinned-written g.K.IntKey.number_of m.capacity m.walk c.in-GetMut.key c.in-GetMut.value) (HasRoom-less g.K.IntKey.number_of g.K.IntKey.is_valid m _ left c.get_mut.ensures.valid room)),
+      );
+}
+
+pub returns-in-Remove-clause-room : goal.returns-in-Remove-clause-room
+returns-in-Remove-clause-room g c = record {
+  kept = λ left leaves room.
+      (tt, rw c.remove.ensures.state (HasRoom-removed g.K.IntKey.number_of g.K.IntKey.is_valid c.args.map.now c.in-Remove.key left c.remove.ensures.valid (HasRoom-less g.K.IntKey.number_of g.K.IntKey.is_valid c.args.map.now _ left c.remove.ensures.valid room)));
+}
+
+pub returns-in-Clear-clause-room : goal.returns-in-Clear-clause-room
+returns-in-Clear-clause-room g c = record {
+  kept = λ left leaves room.
+      let m = c.args.map.now in (
+        tt,
+        rw (c.clear.ensures.state, ← drop-length m.walk)
+            (HasRoom-thinned g.K.IntKey.number_of g.K.IntKey.is_valid m _ left c.clear.ensures.valid.capacity (thinned-drop g.K.IntKey.number_of m.capacity (length m.walk) m.walk) (HasRoom-less g.K.IntKey.number_of g.K.IntKey.is_valid m _ left c.clear.ensures.valid room)),
+      );
+}
+
+pub returns-in-Retain-clause-room : goal.returns-in-Retain-clause-room
+returns-in-Retain-clause-room g c = record {
+  kept = λ left leaves room.
+      let m = c.args.map.now in let all = c.keep_all.ensures in (
+        tt,
+        rw (all.state, all.walk)
+            (HasRoom-thinned g.K.IntKey.number_of g.K.IntKey.is_valid m _ left all.valid.capacity (thinned-filter g.K.IntKey.number_of m.capacity _ m.walk) (HasRoom-less g.K.IntKey.number_of g.K.IntKey.is_valid m _ left all.valid room)),
+      );
+}

@@ -1,7 +1,9 @@
-use Rattle.std.proofs.Common.{sym, ◌∙◌}
+use Rattle.std.proofs.Common.{rules, sym, length, ◌+◌, ◌∙◌, arith}
 use Rattle.std.proofs.IntoIterSteps.{All-taken}
 use Rattle.intmap.proofs.ExtendLemmas.{items-yielded_then}
+use Rattle.intmap.proofs.ReservedLemmas.{HasRoom-fewer}
 use Rattle.intmap_run.proofs.ExtendStepLemmas.{StepsFrom-extend, StepsFrom-stopped, counted-all}
+use Rattle.intmap_run.proofs.RoomLemmas.{HasRoom-extended}
 use Rattle.intmap_run.proofs.runner.extend.Goals as goal
 
 pub returns-in-Ok-clause-step : goal.returns-in-Ok-clause-step
@@ -19,3 +21,19 @@ returns-in-Err-clause-step g c judge =
     pairs stopped.pairs _ stopped.before c.extend.new.self c.in-Err.refused split
     (counted-all stopped.pairs pairs.items _ _ c.in-Err.refused.applied pairs.len pairs.cap split pairs.ok.0 pairs.ok.1 pairs.small stopped.applied)
     stopped.extended.inserted stopped.after stopped.may_refuse
+
+pub returns-in-Ok-clause-room : goal.returns-in-Ok-clause-room
+returns-in-Ok-clause-room g c = record {
+  kept = λ left leaves room.
+      let all = c.in-Ok.ensures.extends in
+      let whole = All-taken c.into_iter.result all.pairs all.came ∙ c.into_iter.ensures.rest in
+      (tt, HasRoom-extended g.K.IntKey.number_of g.K.IntKey.is_valid c.args.map.now c.extend.new.self all.pairs left c.extend.ensures.valid all.extended.inserted (rw whole room));
+}
+
+pub returns-in-Err-clause-room : goal.returns-in-Err-clause-room
+returns-in-Err-clause-room g c = record {
+  kept = λ left leaves room.
+      let count = length c.args.pairs.items in
+      let less = HasRoom-fewer g.K.IntKey.number_of c.args.map.now (count + left) count c.extend.ensures.valid.capacity room (omega arith) in
+      search (rules, c.in-Err.ensures.has_room, less);
+}
