@@ -480,9 +480,11 @@ INTMAP_NONNULL INTMAP_MUST_USE intmap_status intmap_reserve(intmap *map, size_t 
 // whatever is looked up, written or removed between them, also by intmap_retain, intmap_cut or
 // intmap_clear. This holds until a call makes room, even for more pairs, or sets the load factor,
 // shrinks or frees the map, or puts another map into the word. So call it last. A copy that
-// intmap_clone makes doesn't have this room. It is proved that insertions into the map can't fail
-// then, with look-ups and removals by key between them. The rest is tested: that they request no
-// memory, and that these functions hand this on. Their status must be read all the same:
+// intmap_clone makes doesn't have this room. It is proved that intmap_insert, intmap_find_or_insert
+// and intmap_add_or_insert can't fail then, and that insertions, look-ups and removals by key leave
+// the room for the next ones. The rest is tested: that writes to present keys and the calls for all
+// pairs leave it too, and that insertions then request no memory. Their status must be read all the
+// same:
 //
 //     if (intmap_failed(intmap_put(&map, 21, 7))) {
 //         abort(); // there was room

@@ -6,6 +6,7 @@ use Rattle.intmap.specs.Bindings.{value_of}
 use Rattle.intmap.specs.Insertions.{IsInsertion}
 use Rattle.intmap.specs.Map.{after_search, with_pair}
 use Rattle.intmap.specs.PlainLists.{RefusalIsDue, list_of}
+use Rattle.intmap.specs.Room.{HasRoom}
 use Rattle.intmap.specs.declared.refusal.Cause.{Cause}
 use Rattle.intmap_c.specs.Statuses.{failed_status}
 use Rattle.intmap.proofs.InsertionLemmas.{IsInsertion-searched}
@@ -37,15 +38,20 @@ module _ {v w : Option State} where
   pub AreEqual-second : {n : State} {r : Bool} → v ≡ None → w ≡ Some n → r ≡ (length n.walk == 0) → AreEqual (map_of v) (map_of w) r
   AreEqual-second {n} {r} e f told = rw (e, f) (let is = no_value-nil n.walk r told in ((λ yes k. sym (is.0 yes k)), (λ same. is.1 (λ k. sym (same k)))))
 
+-- an insertion of k was refused, with a cause that was due, in a map without room
+pub Fails-refused : (m n : State) (k : ℕ) (status : ℤ) (cause : Cause) → n ≡ after_search itself m k → RefusalIsDue itself (list_of m) k cause → (HasRoom itself m 1 → ⊥) → status ≡ failed_status cause → FailsToBind m n k status
+Fails-refused m n k status cause stayed due no_room told = (cause, told, record { due = due; no_room = no_room }, stayed)
+
 -- a call on the key k, where v is the map once k was looked up, and q is what was looked up
 module _ (m v : State) (k q : ℕ) (searched : v ≡ after_search itself m k) (same : q ≡ k) where
   said_before : (P : State → ℕ → Type 0) → P v q → P (after_search itself m k) k
   said_before P p = subst (λ s. P s k) searched (subst (P v) same p)
 
   -- a refusal that is due is told by the status of its cause
-  pub Fails-due : (n : State) (status : ℤ) (cause : Cause) → n ≡ v → RefusalIsDue itself (list_of v) q cause → status ≡ failed_status cause → FailsToBind m n k status
-  Fails-due n status cause stayed due told =
-      (cause, told, RefusalIsDue-searched itself m k k cause (said_before (λ s key. RefusalIsDue itself (list_of s) key cause) due), stayed ∙ searched)
+  pub Fails-due : (n : State) (status : ℤ) (cause : Cause) → n ≡ v → RefusalIsDue itself (list_of v) q cause → (HasRoom itself v 1 → ⊥) → status ≡ failed_status cause → FailsToBind m n k status
+  Fails-due n status cause stayed due no_room told =
+      Fails-refused m n k status cause (stayed ∙ searched) (RefusalIsDue-searched itself m k k cause (said_before (λ s key. RefusalIsDue itself (list_of s) key cause) due))
+      (said_before (λ s key. HasRoom itself s 1 → ⊥) no_room) told
 
   -- an insertion, into the number of slots that it needs
   pub Binds-new : (n : State) (x D : ℕ) → n ≡ with_pair itself v q x D → IsInsertion itself (λ r. r < 2 ^ 64) v q x n → Binds m n k x

@@ -6,8 +6,9 @@ use Rattle.intmap.specs.Growing.{IsReservation, IsNewFactor, IsRoomMade, MayRefu
 use Rattle.intmap.specs.Insertions.{MapInserts}
 use Rattle.intmap.specs.Map.{MapState, empty_map, first_capacity, first_factor, after_search, after_remove, written}
 use Rattle.intmap.specs.PlainLists.{RefusalIsDue, list_of}
-use Rattle.intmap.specs.Room.{HasRoomInRow}
+use Rattle.intmap.specs.Room.{HasRoom, HasRoomInRow}
 use Rattle.intmap_table.specs.Figures.{load_of}
+use Rattle.intmap.specs.declared.refusal.Cause.{Cause}
 use Rattle.intmap.specs.declared.refusal.Cause.TheVariants.{TooLarge}
 use Rattle.intmap_c.specs.Statuses.{ok_status, present_status, absent_status, no_memory_status, too_large_status}
 use Rattle.intmap_c.specs.declared.answer.FoundValue.{FoundValue}
@@ -64,9 +65,14 @@ Clones (Some m) old new status =
 abbrev pub Binds : State → State → ℕ → ℕ → Type 0
 Binds m n k v = MapInserts itself (λ n. n < 2 ^ 64) m k v n
 
--- the insertion of k failed, as `RefusalIsDue` allows, and the map is as it was except for the count of comparisons
+-- the insertion of k may fail with this cause: as `RefusalIsDue` allows, and never if the map has room for a pair of any key
+pub record MayRefuseToBind (m : State) (k : ℕ) (cause : Cause) : Type 0 where
+  pub due : RefusalIsDue itself (list_of m) k cause
+  pub no_room : HasRoom itself m 1 → ⊥
+
+-- the insertion of k failed with such a cause, and the map is as it was except for the count of comparisons
 abbrev pub FailsToBind : State → State → ℕ → ℤ → Type 0
-FailsToBind m n k status = Fails (RefusalIsDue itself (list_of m) k) (after_search itself m k) n status
+FailsToBind m n k status = Fails (MayRefuseToBind m k) (after_search itself m k) n status
 
 -- k was inserted with v, and its value before is returned; or the insertion failed
 abbrev pub Inserts : State → State → ℕ → ℕ → FoundValue → Type 0
@@ -137,10 +143,10 @@ MakesRoom m n more status =
     ((status ≡ ok_status) × GainsRoom m n more)
     ⊎ Fails (MayRefuseRoom m.capacity (length m.walk + more) m.factor) m n status
 
--- the same of a call that also requests memory for pairs that share a slot, which contracts don't see
+-- the same of a call that also requests memory for pairs that share a slot: there is room for this number of pairs of any keys
 abbrev pub MakesRoomToShare : State → State → ℕ → ℤ → Type 0
 MakesRoomToShare m n more status =
-    ((status ≡ ok_status) × GainsRoom m n more)
+    ((status ≡ ok_status) × GainsRoom m n more × HasRoom itself n more)
     ⊎ Fails (λ cause. (cause ≡ TooLarge) ↔ NeedsTooMuchRoom m.capacity (length m.walk + more) m.factor) m n status
 
 -- the load factor is F, and met; or the call failed

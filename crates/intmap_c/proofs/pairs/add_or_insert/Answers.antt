@@ -21,5 +21,5 @@ returns-in-Ok c =
 pub returns-in-Err : goal.returns-in-Err
 returns-in-Err c =
     let v = c.in-Vacant.ensures in let told = rw (to_z-of_z (record { sfits = c.status_of.type_inv })) at c.none.ensures in let status = ap (λ a. a.status) told in
-    let due = Fails-due c.args.map.now _ c.args.key _ v.state v.key _ _ _ (search rules) c.in-Err.ensures.refused c.status_of.ensures in
+    let due = Fails-due c.args.map.now _ c.args.key _ v.state v.key _ _ _ (search rules) c.in-Err.ensures.refused (λ room. let ok = c.in-Err.ensures.has_room room in cc) c.status_of.ensures in
     inr (inr (told ∙ ap (λ s. record { value = 0; status = s }) (sym status), subst (FailsToBind c.args.map.now _ c.args.key) (sym status) due))
