@@ -103,7 +103,7 @@ impl<K: IntKey> IntSet<K> {
     /// # Ok::<(), RefusedPair<u64, ()>>(())
     /// ```
     ///
-    /// Proved of `IntSet::extend`: `extends`, `runs`, `len`, `stops`.
+    /// Proved of `IntSet::extend`: `extends`, `runs`, `len`, `has_room`, `stops`.
     pub fn try_extend<I>(&mut self, keys: I) -> Result<(), RefusedPair<K, ()>>
     where
         I: IntoIterator<Item = K>,

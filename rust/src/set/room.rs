@@ -95,8 +95,8 @@ impl<K: IntKey> IntSet<K> {
     /// a slot with another. The cost is *O*(*n* + *c*), or *O*(*n*) if the capacity stays.
     ///
     /// The next `additional` insertions of any keys then can't fail, and allocate nothing, as
-    /// [`IntMap::reserve_insertions`](crate::IntMap::reserve_insertions) says. Of a set, `any` and
-    /// `has_room` prove it of the next insertion. The rest is tested. Where
+    /// [`IntMap::reserve_insertions`](crate::IntMap::reserve_insertions) says. Of sets the same is
+    /// proved and the same tested. Where
     /// [`try_reserve_insertions`](Self::try_reserve_insertions) fails, this call panics or ends the
     /// process.
     ///
