@@ -10,6 +10,9 @@ TYPE = r"(?:\{[^}]*\}|\[\d+ x i8\]|i\d+|ptr|void)"
 FUNCTION = re.compile(r"^(define .*?) \{\n(.*?)^\}", re.M | re.S)
 HEAD = rf"define (.*?)@({NAME})\((.*?)\) (?:unnamed_addr|local_unnamed_addr|#)"
 GROUP = re.compile(r"^attributes (#\d+) = \{(.*)\}", re.M)
+# a function that only the module calls, with its name, and a name of the module wherever it stands
+OWN = re.compile(rf"^define internal [^\n]*?@({NAME})\([^\n]* \{{\n.*?^\}}\n", re.M | re.S)
+CALLED = re.compile(rf"@({NAME})")
 # attributes that hold a type or a value of their own
 NUMBERED = re.compile(r"(?:range|dereferenceable|captures)\([^)]*\)")
 # the cases of a switch have a line each
@@ -215,6 +218,20 @@ class Function:
                 del self.uses[value]
             for value, users in self.uses.items():
                 self.uses[value] = [it for it in users if it[0] not in unused]
+
+
+def merged(text):
+    """A module with one function in place of several that have the same path and, but for their names, the same text. Types that
+    lie alike in memory have each an instance of their own, and the optimiser would make each another function."""
+    while True:
+        first, same = {}, {}
+        for it in OWN.finditer(text):
+            form = it[1].partition("::<")[0], it[0].replace(f"@{it[1]}(", "@(")
+            same[it[1]] = first.setdefault(form, it[1])
+        if len(first) == len(same):
+            return text
+        text = OWN.sub(lambda it: it[0] if same[it[1]] == it[1] else "", text)
+        text = CALLED.sub(lambda it: f"@{same.get(it[1], it[1])}", text)
 
 
 def kept_apart(text, ends):

@@ -45,13 +45,22 @@ class Origins:
         *modules, last = path_of(name)
         crate = modules[0] if modules else "intmap_c"
         there = [it for it, text in self.texts.items() if f"/{crate}/" in it and re.search(rf"\bfn {re.escape(last)}\b", text)]
-        return min(there, key=lambda path: -sum(it.lower() in path for it in [*modules[1:], last]), default=None)
+
+        def rank(path):
+            kinds = [kind for _, kind, _ in self.places(path, last)]
+            return any(it in modules for it in kinds), sum(it.lower() in path for it in [*modules[1:], last])
+
+        return max(there, key=rank, default=None)
+
+    def places(self, path, last):
+        """Where a file has functions of a name: where the name ends, and the name and the type of the `impl`, or nothing."""
+        text = self.texts[path]
+        return [(it.end(), *self.impl_at(text, it.start())) for it in re.finditer(rf"\bfn {re.escape(last)}\b", text)]
 
     def found(self, name):
         """Where a function's name ends in its file, and the type of the `impl` that has it, or nothing."""
         *modules, last = path_of(name)
-        text = self.texts[self.file(name)]
-        types = [(it.end(), *self.impl_at(text, it.start())) for it in re.finditer(rf"\bfn {re.escape(last)}\b", text)]
+        types = self.places(self.file(name), last)
         end, _, whole = next((it for it in types if it[1] in modules), types[0])
         return end, whole
 

@@ -15,7 +15,11 @@ from scopes import Scopes
 
 PARTS = "tools/portable_driver"
 # Functions that stay functions, so that no other becomes too long to read. The compiler of the C inlines them in LLVM's place.
-APART = ("IntMap::get_counted", "Slots::clone", "chain::last_in", "chain::seek", "Pool::add_new")
+APART = (
+    *("IntMap::get_counted", "IntMap::get_mut", "IntMap::fit", "load::wanted_capacity"),
+    *("Slots::clone", "Bits::clone", "refill::put_at", "Pool::add_new", "Pool::release"),
+    *("chain::last_in", "chain::seek", "Vec::reserve_exact", "Vec::shrink_to_fit"),
+)
 # How clang prints a module, with names: as it is given, and behind the optimiser. Vectors have no form in C, and unrolled
 # loops are longer and no faster.
 GIVEN = "-Xclang -disable-llvm-passes -fno-discard-value-names -S -emit-llvm"
@@ -185,7 +189,8 @@ class Printer:
     def __init__(self, functions, texts):
         self.origins = Origins(texts)
         self.places = Places(functions, self.origins)
-        self.names, self.taken, self.structs = {}, set(), {}
+        # no function of Rattle gets the name of a call
+        self.names, self.taken, self.structs = {}, {it.name for it in functions if "::" not in it.name}, {}
         # types whose fields have names, and numbers that have
         self.laid_out, self.defined = {}, {}
 
@@ -657,7 +662,7 @@ class FunctionInC:
         if kind == "void":
             return "return;"
         code, parts = self.function.made_by.get(bare(value), ""), {}
-        while given and code.startswith("insertvalue "):
+        while code.startswith("insertvalue "):
             _, whole, _, part, at = groups_of(INSERTED, code)
             parts.setdefault(int(at), given.get(bare(part), part))
             code = self.function.made_by.get(bare(whole), "")

@@ -19,7 +19,7 @@
 //
 //     grep -v '^// Compilers: ' intmap.c | sha256sum
 //
-// Compilers: rattle-kit-13f logic dac8208d650f15bf; clang version 22.1.8
+// Compilers: rattle-kit-13b logic dac8208d650f15bf; clang version 22.1.8
 // Sources: 260c969aaa9a440d6dad8d7c57acbcc9e71e52c9cdd3ae45d287ff4c7f26abce
 //
 // SPDX-License-Identifier: MIT
@@ -360,6 +360,16 @@ static inline struct byte_word made_byte_word(uint8_t first, uint64_t second) {
     made.second = second;
     return made;
 }
+struct byte_byte {
+    uint8_t first;
+    uint8_t second;
+};
+static inline struct byte_byte made_byte_byte(uint8_t first, uint8_t second) {
+    struct byte_byte made;
+    made.first = first;
+    made.second = second;
+    return made;
+}
 struct word_half {
     uint64_t first;
     uint32_t second;
@@ -496,7 +506,7 @@ enum {
     TABLE_SIZE = 96
 };
 // Nodes, and a list of those without a pair.
-// Pool<P, Global>, in crates/intmap_table/src/linked/pool.rt
+// Pool<(Stored<u64>, Kept<u64>), Global>, in crates/intmap_table/src/linked/pool.rt
 enum {
     POOL_NODES = 0,
     POOL_NODES_LEN = 8,
@@ -504,6 +514,22 @@ enum {
     POOL_FREE = 24,
     POOL_SPARE = 32,
     POOL_SIZE = 40
+};
+// Result<Bits<Global>, AllocError>
+enum {
+    MADE_BITS_HAS_FAILED = 0,
+    MADE_BITS_WORDS = 8,
+    MADE_BITS_WORDS_LEN = 16,
+    MADE_BITS_WORDS_ROOM = 24,
+    MADE_BITS_SIZE = 32
+};
+// One bit for each index: whether it is marked.
+// Bits<Global>, in crates/intmap_table/src/bits.rt
+enum {
+    BITS_WORDS = 0,
+    BITS_WORDS_LEN = 8,
+    BITS_WORDS_ROOM = 16,
+    BITS_SIZE = 24
 };
 // A pair, if there is one.
 // FoundPair, in crates/intmap_c/src/answer.rt
@@ -556,30 +582,34 @@ enum {
 #define GREATEST_CAPACITY UINT64_C(9223372036854775808)
 #define MOST_FIRST_PAIRS UINT64_C(8393268553537845985)
 
+static ALWAYS_INLINE struct byte_address intmap_get_mut(char *map, uint64_t key);
 static ALWAYS_INLINE struct byte_address intmap_get_counted(char *map, uint64_t key);
 static ALWAYS_INLINE struct word_word chain_last_in(char *pool, uint64_t from);
 static ALWAYS_INLINE uint64_t chain_seek(char *pool, uint64_t from, uint64_t place);
 static ALIGNED NOINLINE struct word_word removal_pop_front_of_several(char *slot, uint64_t link, char *pool);
-static COLD bool vec_grow_amortized(char *nodes_at);
+static ALWAYS_INLINE struct word_word pool_release(char *nodes_at, uint64_t at);
+static ALIGNED NOINLINE void slots_add_empty(char *slots, uint64_t count);
+static COLD bool vec_grow_amortized(char *vec, uint64_t a1);
 static ALIGNED NOINLINE struct byte_word removal_remove_of_several(char *slot, uint64_t link, char *pool, uint64_t key_number);
 static ALWAYS_INLINE void slots_clone(char *result, char *map);
+static ALWAYS_INLINE void bits_clone(char *result, char *words_at);
 static ALIGNED NOINLINE struct byte_word clone_clone_chain(char *pool, uint64_t from, char *made);
 static ALWAYS_INLINE void pool_add_new(char *result, char *nodes_at, uint64_t link, uint64_t a3, uint64_t a4);
-static COLD bool vec_grow_amortized_2(char *vec, uint64_t a1);
-static ALIGNED NOINLINE void slots_add_empty(char *slots, uint64_t count);
 static ALIGNED uint32_t make_keep(char *handle, char *made);
 static ALIGNED void intmap_of_slots(char *result, uint64_t slots);
 static ALIGNED NOINLINE struct byte_address handle_make_first(void);
 static ALIGNED NOINLINE void intmap_add_growing(char *result, char *map, uint64_t slot, uint64_t key_key, uint64_t key_number, uint64_t value);
+static ALWAYS_INLINE struct byte_word load_wanted_capacity(uint64_t len, uint64_t capacity, uint64_t factor);
 static ALIGNED uint8_t slots_enlarge(char *map, uint64_t capacity, uint64_t room);
-static ALIGNED NOINLINE void growth_put_before_first(char *node, char *a1, uint64_t a2, uint64_t a3);
-static ALIGNED NOINLINE void growth_put_behind_first(char *node, char *a1, uint64_t a2, uint64_t a3);
+static ALWAYS_INLINE uint8_t vec_reserve_exact(char *vec, uint64_t a1);
+static ALWAYS_INLINE void vec_shrink_to_fit(char *slots_at);
+static ALWAYS_INLINE uint64_t refill_put_at(char *slots, char *bits, char *pool, uint64_t index, uint8_t a4, uint64_t a5, uint64_t a6);
+static ALIGNED NOINLINE void growth_put_before_first(char *node, char *nodes_at, uint64_t a2, uint64_t a3);
+static ALIGNED NOINLINE void growth_put_behind_first(char *node, char *nodes_at, uint64_t a2, uint64_t a3);
 static ALIGNED NOINLINE void insertion_push_further(char *result, char *slot, char *pool, uint64_t a3, uint64_t a4);
-static ALWAYS_INLINE struct word_word chain_last_in_2(char *pool, uint64_t from);
 static COLD uint64_t insertion_replace_first_of_several(char *slot, uint64_t link, char *pool, uint64_t a3, uint64_t a4);
 static ALIGNED NOINLINE void intmap_insert_otherwise(char *result, char *map, uint64_t slot, uint64_t key_key, uint64_t key_number, uint64_t value);
-static ALWAYS_INLINE void pool_add_new_2(char *result, char *nodes_at, uint64_t a3, uint64_t a4);
-static ALIGNED uint8_t table_grow_to(char *map, uint64_t capacity, uint64_t additional);
+static ALWAYS_INLINE struct byte_byte intmap_fit(char *map, uint64_t pairs, uint64_t thousandths, uint64_t sharing);
 static ALWAYS_INLINE void do_intmap_place(char *word, uint64_t key, char *at);
 static ALWAYS_INLINE uint32_t do_intmap_version(void);
 static ALWAYS_INLINE uint64_t do_intmap_capacity(char *word);
@@ -605,6 +635,39 @@ static ALWAYS_INLINE uint32_t do_intmap_reserve(char *handle, uint64_t more);
 static ALWAYS_INLINE uint32_t do_intmap_reserve_insertions(char *handle, uint64_t more);
 static ALWAYS_INLINE uint32_t do_intmap_reserve_slots(char *handle, uint64_t additional);
 static ALWAYS_INLINE uint32_t do_intmap_set_load_factor(char *handle, uint64_t thousandths);
+
+// A mutable reference to the value of the key, or `None` if the key is absent.
+// intmap::map::IntMap::get_mut, in crates/intmap/src/map/get.rt
+static ALWAYS_INLINE struct byte_address intmap_get_mut(char *map, uint64_t key) {
+    char *node = load_address(map + INT_MAP_SLOTS) + ((load64(map + INT_MAP_MASK) & (key * MULTIPLIER)) * NODE_SIZE);
+    if (load8(node + NODE_HAS_PAIR) != 1) {
+        return made_byte_address(0, NULL);
+    }
+    if (load64(node + NODE_KEY) == key) {
+        return made_byte_address(1, node + NODE_VALUE);
+    }
+    uint64_t link = link_of(load16(node + NODE_HIGH), load32(node + NODE_LOW));
+    uint64_t nodes_len = load64(map + INT_MAP_NODES_LEN);
+    if (nodes_len <= link) {
+        return made_byte_address(0, NULL);
+    }
+    char *nodes = load_address(map + INT_MAP_NODES);
+    uint64_t at = link;
+    for (;;) {
+        char *node_2 = nodes + (at * NODE_SIZE);
+        if (load8(node_2 + NODE_HAS_PAIR) != 1) {
+            return made_byte_address(0, NULL);
+        }
+        if (load64(node_2 + NODE_KEY) == key) {
+            return made_byte_address(1, node_2 + NODE_VALUE);
+        }
+        uint64_t link_2 = link_of(load16(node_2 + NODE_HIGH), load32(node_2 + NODE_LOW));
+        if (nodes_len <= link_2) {
+            return made_byte_address(0, NULL);
+        }
+        at = link_2;
+    }
+}
 
 // The same as `get`, but each comparison of a stored key with the sought one is counted in `steps`.
 // intmap::map::IntMap::get_counted, in crates/intmap/src/map/get.rt
@@ -651,19 +714,19 @@ static ALWAYS_INLINE struct word_word chain_last_in(char *pool, uint64_t from) {
     }
     char *nodes = load_address(pool + POOL_NODES);
     uint64_t r3_017 = 0;
-    uint64_t at = from;
+    uint64_t r2_016 = from;
     for (;;) {
-        char *node = nodes + (at * NODE_SIZE);
-        if (load8(node + NODE_HAS_PAIR) != 1) {
+        char *r11 = nodes + (r2_016 * 24);
+        if (load8(r11) != 1) {
             abort(); // The proof excludes this.
         }
-        uint16_t high = load16(node + NODE_HIGH);
+        uint16_t r19 = load16(r11 + 2);
         uint64_t r14 = r3_017 + 1;
-        if (high == NOWHERE_HIGH) {
-            return made_word_word(at, r14);
+        if (r19 == NOWHERE_HIGH) {
+            return made_word_word(r2_016, r14);
         }
         r3_017 = r14;
-        at = link_of(high, load32(node + NODE_LOW));
+        r2_016 = link_of(r19, load32(r11 + 4));
     }
 }
 
@@ -700,57 +763,105 @@ static ALIGNED NOINLINE struct word_word removal_pop_front_of_several(char *slot
     }
     uint16_t high = load16(node + NODE_HIGH);
     uint32_t low = load32(node + NODE_LOW);
-    uint64_t free = load64(pool + POOL_FREE);
-    uint64_t key = load64(node + NODE_KEY);
-    uint64_t value = load64(node + NODE_VALUE);
-    store16(node + NODE_HAS_PAIR, 0);
-    store16(node + NODE_HIGH, (uint16_t)(free >> 32));
-    store32(node + NODE_LOW, (uint32_t)free);
-    memset(node + NODE_KEY, 0, PAIR_SIZE);
-    store64(pool + POOL_FREE, link);
-    store64(pool + POOL_SPARE, load64(pool + POOL_SPARE) + 1);
+    struct word_word r11 = pool_release(pool, link);
     if (load8(slot + NODE_HAS_PAIR) != 1) {
         abort(); // The proof excludes this.
     }
     store16(slot + NODE_HIGH, high);
     store32(slot + NODE_LOW, low);
-    uint64_t key_2 = load64(slot + NODE_KEY);
-    uint64_t value_2 = load64(slot + NODE_VALUE);
-    store64(slot + NODE_KEY, key);
-    store64(slot + NODE_VALUE, value);
-    return made_word_word(key_2, value_2);
+    uint64_t key = load64(slot + NODE_KEY);
+    uint64_t value = load64(slot + NODE_VALUE);
+    store64(slot + NODE_KEY, r11.first);
+    store64(slot + NODE_VALUE, r11.second);
+    return made_word_word(key, value);
+}
+
+// Removes the pair of a node, which is used again before any other one that is free.
+// intmap_table::linked::pool::Pool::release, in crates/intmap_table/src/linked/pool.rt
+static ALWAYS_INLINE struct word_word pool_release(char *nodes_at, uint64_t at) {
+    char *node = load_address(nodes_at + POOL_NODES) + (at * NODE_SIZE);
+    uint64_t free = load64(nodes_at + POOL_FREE);
+    uint64_t key = load64(node + NODE_KEY);
+    uint64_t value = load64(node + NODE_VALUE);
+    uint8_t has_pair = load8(node + NODE_HAS_PAIR);
+    store16(node + NODE_HAS_PAIR, 0);
+    store16(node + NODE_HIGH, (uint16_t)(free >> 32));
+    store32(node + NODE_LOW, (uint32_t)free);
+    memset(node + NODE_KEY, 0, PAIR_SIZE);
+    if (has_pair != 1) {
+        abort(); // The proof excludes this.
+    }
+    store64(nodes_at + POOL_FREE, at);
+    store64(nodes_at + POOL_SPARE, load64(nodes_at + POOL_SPARE) + 1);
+    return made_word_word(key, value);
+}
+
+// Adds slots without a pair, so that there are `count`.
+// intmap_table::table::slots::add_empty, in crates/intmap_table/src/table/slots.rt
+static ALIGNED NOINLINE void slots_add_empty(char *slots, uint64_t count) {
+    uint64_t len_2;
+    uint64_t len = load64(slots + VEC_LEN);
+    if (count <= len) {
+        if (len <= count) {
+            return;
+        }
+        store64(slots + VEC_LEN, count);
+        return;
+    }
+    uint64_t r30 = count - len;
+    if (r30 > (load64(slots + VEC_ROOM) - len)) {
+        bool r24 = vec_grow_amortized(slots, r30);
+        if (!r24) {
+            return;
+        }
+        len_2 = load64(slots + VEC_LEN);
+    } else {
+        len_2 = len;
+    }
+    if (len_2 >= count) {
+        return;
+    }
+    uint64_t r2 = len_2;
+    for (;;) {
+        uint64_t r41 = r2 + 1;
+        memset(load_address(slots + VEC_ADDRESS) + (r2 * 24), 0, 24);
+        store64(slots + VEC_LEN, r41);
+        if (r41 == count) {
+            return;
+        }
+        r2 = r41;
+    }
 }
 
 // std_alloc::vec::Vec::grow_amortized, in Rattle's library std_alloc
-static COLD bool vec_grow_amortized(char *nodes_at) {
+static COLD bool vec_grow_amortized(char *vec, uint64_t a1) {
     struct word_word r0;
-    uint64_t nodes_len = load64(nodes_at + POOL_NODES_LEN);
-    if (nodes_len == UINT64_MAX) {
+    uint64_t len = load64(vec + VEC_LEN);
+    if (a1 > (~len)) {
         return false;
     }
-    uint64_t nodes_room = load64(nodes_at + POOL_NODES_ROOM);
-    uint64_t x0 = greater(nodes_len, 3);
-    uint64_t a2_a1 = x0 + 1;
-    uint64_t x1 = greater(a2_a1, nodes_room << 1);
-    uint64_t common_ret_op = (nodes_room < UINT64_C(4611686018427387904)) ? x1 : a2_a1;
+    uint64_t room = load64(vec + VEC_ROOM);
+    uint64_t a2_a1 = greater(len + a1, 4);
+    uint64_t x0 = greater(a2_a1, room << 1);
+    uint64_t common_ret_op = (room < UINT64_C(4611686018427387904)) ? x0 : a2_a1;
     if (common_ret_op >= TOO_MANY(24)) {
         return false;
     }
-    if (nodes_room == 0) {
-        struct word_word block = rattle_alloc(x1 * 24, 8);
+    if (room == 0) {
+        struct word_word block = rattle_alloc(x0 * 24, 8);
         if ((block.first & 1) == 0) {
             return false;
         }
         r0 = block;
     } else {
-        struct word_word block_2 = rattle_realloc(load_address(nodes_at + POOL_NODES), nodes_len * 24, common_ret_op * 24, 8);
+        struct word_word block_2 = rattle_realloc(load_address(vec + VEC_ADDRESS), len * 24, common_ret_op * 24, 8);
         if ((block_2.first & 1) == 0) {
             return false;
         }
         r0 = block_2;
     }
-    store_address(nodes_at + POOL_NODES, (char *)(uintptr_t)r0.second);
-    store64(nodes_at + POOL_NODES_ROOM, common_ret_op);
+    store_address(vec + VEC_ADDRESS, (char *)(uintptr_t)r0.second);
+    store64(vec + VEC_ROOM, common_ret_op);
     return true;
 }
 
@@ -761,74 +872,63 @@ static ALIGNED NOINLINE struct byte_word removal_remove_of_several(char *slot, u
         abort(); // The proof excludes this.
     }
     if (load64(slot + NODE_KEY) == key_number) {
+        struct word_word r11_2, r11_4;
         uint32_t low_2;
-        uint64_t r8_2, at, r2_0;
         char *nodes = load_address(pool + POOL_NODES);
-        uint64_t r8 = link * NODE_SIZE;
-        char *node = nodes + r8;
+        char *node = nodes + (link * NODE_SIZE);
         if (load8(node + NODE_HAS_PAIR) != 1) {
             abort(); // The proof excludes this.
         }
         uint16_t high = load16(node + NODE_HIGH);
         uint32_t low = load32(node + NODE_LOW);
         if (high == NOWHERE_HIGH) {
+            struct word_word r11 = pool_release(pool, link);
+            r11_2 = r11;
             low_2 = low;
-            r8_2 = r8;
-            at = NOWHERE;
-            r2_0 = link;
         } else {
-            uint64_t at_2 = link_of(high, low);
-            uint64_t r2_0_2 = link;
+            uint64_t at = link_of(high, low);
+            uint64_t at_2 = link;
             for (;;) {
-                uint64_t r8_3 = at_2 * NODE_SIZE;
-                char *node_2 = nodes + r8_3;
+                char *node_2 = nodes + (at * NODE_SIZE);
                 if (load8(node_2 + NODE_HAS_PAIR) != 1) {
                     abort(); // The proof excludes this.
                 }
                 uint16_t high_2 = load16(node_2 + NODE_HIGH);
                 uint32_t low_3 = load32(node_2 + NODE_LOW);
                 if (high_2 == NOWHERE_HIGH) {
-                    low_2 = low_3;
-                    r8_2 = r8_3;
-                    at = r2_0_2;
-                    r2_0 = at_2;
-                    break;
+                    struct word_word r11_3 = pool_release(pool, at);
+                    if (at_2 > UINT64_C(281470681743359)) {
+                        r11_2 = r11_3;
+                        low_2 = low_3;
+                        break;
+                    }
+                    char *node_3 = load_address(pool + POOL_NODES) + (at_2 * NODE_SIZE);
+                    if (load8(node_3 + NODE_HAS_PAIR) != 1) {
+                        abort(); // The proof excludes this.
+                    }
+                    store16(node_3 + NODE_HIGH, NOWHERE_HIGH);
+                    store32(node_3 + NODE_LOW, low_3);
+                    if (load8(slot + NODE_HAS_PAIR) != 1) {
+                        abort(); // The proof excludes this.
+                    }
+                    r11_4 = r11_3;
+                    goto after_removal_swap_remove_first;
                 }
-                r2_0_2 = at_2;
-                at_2 = link_of(high_2, low_3);
+                at_2 = at;
+                at = link_of(high_2, low_3);
             }
         }
-        char *node_3 = nodes + r8_2;
-        uint64_t free = load64(pool + POOL_FREE);
-        uint64_t key = load64(node_3 + NODE_KEY);
-        uint64_t value = load64(node_3 + NODE_VALUE);
-        store16(node_3 + NODE_HAS_PAIR, 0);
-        store16(node_3 + NODE_HIGH, (uint16_t)(free >> 32));
-        store32(node_3 + NODE_LOW, (uint32_t)free);
-        memset(node_3 + NODE_KEY, 0, PAIR_SIZE);
-        store64(pool + POOL_FREE, r2_0);
-        store64(pool + POOL_SPARE, load64(pool + POOL_SPARE) + 1);
-        if (at > UINT64_C(281470681743359)) {
-            if (load8(slot + NODE_HAS_PAIR) != 1) {
-                abort(); // The proof excludes this.
-            }
-            store16(slot + NODE_HIGH, NOWHERE_HIGH);
-            store32(slot + NODE_LOW, low_2);
-        } else {
-            char *node_4 = load_address(pool + POOL_NODES) + (at * NODE_SIZE);
-            if (load8(node_4 + NODE_HAS_PAIR) != 1) {
-                abort(); // The proof excludes this.
-            }
-            store16(node_4 + NODE_HIGH, NOWHERE_HIGH);
-            store32(node_4 + NODE_LOW, low_2);
-            if (load8(slot + NODE_HAS_PAIR) != 1) {
-                abort(); // The proof excludes this.
-            }
+        if (load8(slot + NODE_HAS_PAIR) != 1) {
+            abort(); // The proof excludes this.
         }
-        uint64_t value_2 = load64(slot + NODE_VALUE);
-        store64(slot + NODE_KEY, key);
-        store64(slot + NODE_VALUE, value);
-        return made_byte_word(1, value_2);
+        store16(slot + NODE_HIGH, NOWHERE_HIGH);
+        store32(slot + NODE_LOW, low_2);
+        r11_4 = r11_2;
+    after_removal_swap_remove_first:;
+        uint64_t value = load64(slot + NODE_VALUE);
+        store64(slot + NODE_KEY, r11_4.first);
+        store64(slot + NODE_VALUE, r11_4.second);
+        return made_byte_word(1, value);
     }
     uint64_t nodes_len = load64(pool + POOL_NODES_LEN);
     if (nodes_len <= link) {
@@ -838,35 +938,33 @@ static ALIGNED NOINLINE struct byte_word removal_remove_of_several(char *slot, u
     uint64_t at_3 = link;
     uint64_t at_4 = NOWHERE;
     for (;;) {
-        uint64_t r8_4 = at_3 * NODE_SIZE;
-        char *node_5 = nodes_2 + r8_4;
-        if (load8(node_5 + NODE_HAS_PAIR) != 1) {
+        uint64_t r8 = at_3 * NODE_SIZE;
+        char *node_4 = nodes_2 + r8;
+        if (load8(node_4 + NODE_HAS_PAIR) != 1) {
             return made_byte_word(0, 0);
         }
-        if (load64(node_5 + NODE_KEY) == key_number) {
+        if (load64(node_4 + NODE_KEY) == key_number) {
             uint32_t low_5;
-            uint64_t r8_5, at_5, at_6;
-            uint16_t high_3 = load16(node_5 + NODE_HIGH);
-            uint32_t low_4 = load32(node_5 + NODE_LOW);
+            uint64_t at_5, at_6;
+            struct word_word r40_1_merged;
+            uint16_t high_3 = load16(node_4 + NODE_HIGH);
+            uint32_t low_4 = load32(node_4 + NODE_LOW);
             if (high_3 == NOWHERE_HIGH) {
                 low_5 = low_4;
-                r8_5 = r8_4;
                 at_5 = at_4;
                 at_6 = at_3;
             } else {
                 uint64_t at_7 = link_of(high_3, low_4);
                 uint64_t at_8 = at_3;
                 for (;;) {
-                    uint64_t r8_6 = at_7 * NODE_SIZE;
-                    char *node_6 = nodes_2 + r8_6;
-                    if (load8(node_6 + NODE_HAS_PAIR) != 1) {
+                    char *node_5 = nodes_2 + (at_7 * NODE_SIZE);
+                    if (load8(node_5 + NODE_HAS_PAIR) != 1) {
                         abort(); // The proof excludes this.
                     }
-                    uint16_t high_4 = load16(node_6 + NODE_HIGH);
-                    uint32_t low_6 = load32(node_6 + NODE_LOW);
+                    uint16_t high_4 = load16(node_5 + NODE_HIGH);
+                    uint32_t low_6 = load32(node_5 + NODE_LOW);
                     if (high_4 == NOWHERE_HIGH) {
                         low_5 = low_6;
-                        r8_5 = r8_6;
                         at_5 = at_8;
                         at_6 = at_7;
                         break;
@@ -875,16 +973,7 @@ static ALIGNED NOINLINE struct byte_word removal_remove_of_several(char *slot, u
                     at_7 = link_of(high_4, low_6);
                 }
             }
-            char *node_7 = nodes_2 + r8_5;
-            uint64_t free_2 = load64(pool + POOL_FREE);
-            uint64_t key_2 = load64(node_7 + NODE_KEY);
-            uint64_t value_3 = load64(node_7 + NODE_VALUE);
-            store16(node_7 + NODE_HAS_PAIR, 0);
-            store16(node_7 + NODE_HIGH, (uint16_t)(free_2 >> 32));
-            store32(node_7 + NODE_LOW, (uint32_t)free_2);
-            memset(node_7 + NODE_KEY, 0, PAIR_SIZE);
-            store64(pool + POOL_FREE, at_6);
-            store64(pool + POOL_SPARE, load64(pool + POOL_SPARE) + 1);
+            struct word_word r11_5 = pool_release(pool, at_6);
             if (at_5 > UINT64_C(281470681743359)) {
                 if (load8(slot + NODE_HAS_PAIR) != 1) {
                     abort(); // The proof excludes this.
@@ -892,26 +981,29 @@ static ALIGNED NOINLINE struct byte_word removal_remove_of_several(char *slot, u
                 store16(slot + NODE_HIGH, NOWHERE_HIGH);
                 store32(slot + NODE_LOW, low_5);
             } else {
-                char *node_8 = load_address(pool + POOL_NODES) + (at_5 * NODE_SIZE);
-                if (load8(node_8 + NODE_HAS_PAIR) != 1) {
+                char *node_6 = load_address(pool + POOL_NODES) + (at_5 * NODE_SIZE);
+                if (load8(node_6 + NODE_HAS_PAIR) != 1) {
                     abort(); // The proof excludes this.
                 }
-                store16(node_8 + NODE_HIGH, NOWHERE_HIGH);
-                store32(node_8 + NODE_LOW, low_5);
+                store16(node_6 + NODE_HIGH, NOWHERE_HIGH);
+                store32(node_6 + NODE_LOW, low_5);
             }
             if (at_6 == at_3) {
-                return made_byte_word(1, value_3);
+                r40_1_merged = r11_5;
+            } else {
+                char *node_7 = load_address(pool + POOL_NODES) + r8;
+                if (load8(node_7 + NODE_HAS_PAIR) != 1) {
+                    abort(); // The proof excludes this.
+                }
+                uint64_t key = load64(node_7 + NODE_KEY);
+                uint64_t value_2 = load64(node_7 + NODE_VALUE);
+                store64(node_7 + NODE_KEY, r11_5.first);
+                store64(node_7 + NODE_VALUE, r11_5.second);
+                r40_1_merged = made_word_word(key, value_2);
             }
-            char *node_9 = load_address(pool + POOL_NODES) + r8_4;
-            if (load8(node_9 + NODE_HAS_PAIR) != 1) {
-                abort(); // The proof excludes this.
-            }
-            uint64_t value_4 = load64(node_9 + NODE_VALUE);
-            store64(node_9 + NODE_KEY, key_2);
-            store64(node_9 + NODE_VALUE, value_3);
-            return made_byte_word(1, value_4);
+            return made_byte_word(1, r40_1_merged.second);
         }
-        uint64_t link_2 = link_of(load16(node_5 + NODE_HIGH), load32(node_5 + NODE_LOW));
+        uint64_t link_2 = link_of(load16(node_4 + NODE_HIGH), load32(node_4 + NODE_LOW));
         if (nodes_len <= link_2) {
             return made_byte_word(0, 0);
         }
@@ -923,18 +1015,16 @@ static ALIGNED NOINLINE struct byte_word removal_remove_of_several(char *slot, u
 // The same keys in the same slots, with clones of their values.
 // intmap_table::table::slots::Slots::clone, in crates/intmap_table/src/table/slots/clone.rt
 static ALWAYS_INLINE void slots_clone(char *result, char *map) {
-    char *r15, *r9_45_0_ph34, *r20;
-    uint64_t r7_pre_phi33, r42;
+    char *r15;
     char *dangling = (char *)no_bytes;
-    uint64_t r0_24_room[3];
-    char *r0_24 = (char *)r0_24_room;
-    uint64_t r0_25_room[5];
-    char *r0_25 = (char *)r0_25_room;
     uint64_t vec_room[3];
     char *vec = (char *)vec_room;
     uint64_t nodes_at_room[5];
     char *nodes_at = (char *)nodes_at_room;
-    memset(nodes_at, 0, POOL_SIZE);
+    uint64_t has_failed_at_room[4];
+    char *has_failed_at = (char *)has_failed_at_room;
+    store64(nodes_at + POOL_SPARE, 0);
+    memset(has_failed_at, 0, MADE_BITS_SIZE);
     uint64_t slots_len = load64(map + INT_MAP_SLOTS_LEN);
     bool r12 = slots_len == 0;
     if (!r12) {
@@ -954,33 +1044,8 @@ arm_1:;
     store_address(vec + VEC_ADDRESS, r15);
     store64(vec + VEC_LEN, 0);
     store64(vec + VEC_ROOM, slots_len);
-    char *words = load_address(map + INT_MAP_WORDS);
-    uint64_t words_len = load64(map + INT_MAP_WORDS_LEN);
-    bool r12_2 = words_len == 0;
-    if (!r12_2) {
-        if (words_len < TOO_MANY(8)) {
-            uint64_t r19 = words_len << 3;
-            struct word_word block_2 = rattle_alloc(r19, 8);
-            if ((block_2.first & 1) != 0) {
-                char *r8 = (char *)(uintptr_t)block_2.second;
-                if ((block_2.second - ((uint64_t)(uintptr_t)words)) >= r19) {
-                    r9_45_0_ph34 = r8;
-                    r7_pre_phi33 = r19;
-                    goto apart_2;
-                }
-                uint64_t r0_05 = 0;
-                for (;;) {
-                    uint64_t r18 = r0_05 << 3;
-                    store64(r8 + r18, load64(words + r18));
-                    uint64_t r30 = r0_05 + 1;
-                    if (r30 == words_len) {
-                        r20 = r8;
-                        goto arm_5;
-                    }
-                    r0_05 = r30;
-                }
-            }
-        }
+    bits_clone(has_failed_at, map + INT_MAP_WORDS);
+    if (load8(has_failed_at + MADE_BITS_HAS_FAILED) != 0) {
         if (!r12) {
             rattle_dealloc(r15);
         }
@@ -988,12 +1053,9 @@ arm_1:;
         memset(result + MADE_SLOTS_MASK, 0, SLOTS_SIZE);
         return;
     }
-    r9_45_0_ph34 = dangling;
-    r7_pre_phi33 = 0;
-apart_2:;
-    memmove(r9_45_0_ph34, words, r7_pre_phi33);
-    r20 = r9_45_0_ph34;
-arm_5:;
+    char *words = load_address(has_failed_at + MADE_BITS_WORDS);
+    uint64_t words_len = load64(has_failed_at + MADE_BITS_WORDS_LEN);
+    uint64_t words_room = load64(has_failed_at + MADE_BITS_WORDS_ROOM);
     uint64_t nodes_len = load64(map + INT_MAP_NODES_LEN);
     uint64_t spare = load64(map + INT_MAP_SPARE);
     uint64_t r10 = nodes_len - spare;
@@ -1003,11 +1065,11 @@ arm_5:;
         if (nodes_len == spare) {
             r24 = dangling;
         } else {
-            struct word_word block_3 = rattle_alloc(r10 * 24, 8);
-            if ((block_3.first & 1) == 0) {
+            struct word_word block_2 = rattle_alloc(r10 * 24, 8);
+            if ((block_2.first & 1) == 0) {
                 goto arm_9;
             }
-            r24 = (char *)(uintptr_t)block_3.second;
+            r24 = (char *)(uintptr_t)block_2.second;
         }
         store_address(nodes_at + POOL_NODES, r24);
         store64(nodes_at + POOL_NODES_LEN, 0);
@@ -1025,8 +1087,8 @@ arm_5:;
         uint64_t r4_2 = bits;
         for (;;) {
             uint64_t r4_4, r4_5;
-            uint16_t r19_2;
-            uint32_t r19_3;
+            uint16_t r19;
+            uint32_t r19_2;
             if (r4_2 == 0) {
                 uint64_t words_len_2 = load64(map + INT_MAP_WORDS_LEN);
                 uint64_t r4_3 = r4;
@@ -1037,9 +1099,9 @@ arm_5:;
                         uint64_t mask = load64(map + INT_MAP_MASK);
                         store8(result + MADE_SLOTS_HAS_FAILED, 0);
                         store64(result + MADE_SLOTS_MASK, mask);
-                        store_address(result + MADE_SLOTS_WORDS, r20);
+                        store_address(result + MADE_SLOTS_WORDS, words);
                         store64(result + MADE_SLOTS_WORDS_LEN, words_len);
-                        store64(result + MADE_SLOTS_WORDS_ROOM, words_len);
+                        store64(result + MADE_SLOTS_WORDS_ROOM, words_room);
                         memcpy(result + MADE_SLOTS_SLOTS, vec, VEC_SIZE);
                         memcpy(result + MADE_SLOTS_NODES, nodes_at, POOL_SIZE);
                         return;
@@ -1072,35 +1134,31 @@ arm_5:;
             uint64_t value = load64(node + NODE_VALUE);
             uint64_t key = load64(node + NODE_KEY);
             if (high == NOWHERE_HIGH) {
-                r19_2 = NOWHERE_HIGH;
-                r19_3 = NOWHERE_LOW;
+                r19 = NOWHERE_HIGH;
+                r19_2 = NOWHERE_LOW;
             } else {
                 struct byte_word r72 = clone_clone_chain(map + INT_MAP_NODES, link_of(high, load32(node + NODE_LOW)), nodes_at);
                 if (r72.first != 0) {
-                    memset(r0_24, 0, 24);
-                    memset(r0_25, 0, 40);
                     if (load64(nodes_at + POOL_NODES_ROOM) != 0) {
                         rattle_dealloc(load_address(nodes_at + POOL_NODES));
                     }
-                    if (!r12_2) {
-                        rattle_dealloc(r20);
+                    if (words_room != 0) {
+                        rattle_dealloc(words);
                     }
                     if (load64(vec + VEC_ROOM) != 0) {
                         rattle_dealloc(load_address(vec + VEC_ADDRESS));
                     }
                     store8(result + MADE_SLOTS_HAS_FAILED, 1);
-                    memset(result + MADE_SLOTS_MASK, 0, 32);
-                    memcpy(result + MADE_SLOTS_SLOTS, r0_24, VEC_SIZE);
-                    memcpy(result + MADE_SLOTS_NODES, r0_25, POOL_SIZE);
+                    memset(result + MADE_SLOTS_MASK, 0, SLOTS_SIZE);
                     return;
                 }
-                r19_2 = (uint16_t)(r72.second >> 32);
-                r19_3 = (uint32_t)r72.second;
+                r19 = (uint16_t)(r72.second >> 32);
+                r19_2 = (uint32_t)r72.second;
             }
             char *r9 = load_address(vec + VEC_ADDRESS) + r63;
             store16(r9, 1);
-            store16(r9 + 2, r19_2);
-            store32(r9 + 4, r19_3);
+            store16(r9 + 2, r19);
+            store32(r9 + 4, r19_2);
             store64(r9 + 8, key);
             store64(r9 + 16, value);
             r4 = r4_4;
@@ -1108,21 +1166,62 @@ arm_5:;
         }
     }
 arm_9:;
-    memset(r0_24, 0, 24);
-    memset(r0_25, 0, 40);
-    if (r12_2) {
-        r42 = slots_len;
-    } else {
-        rattle_dealloc(r20);
-        r42 = load64(vec + VEC_ROOM);
+    if (words_room != 0) {
+        rattle_dealloc(words);
     }
-    if (r42 != 0) {
-        rattle_dealloc(load_address(vec + VEC_ADDRESS));
+    if (!r12) {
+        rattle_dealloc(r15);
     }
     store8(result + MADE_SLOTS_HAS_FAILED, 1);
-    memset(result + MADE_SLOTS_MASK, 0, 32);
-    memcpy(result + MADE_SLOTS_SLOTS, r0_24, VEC_SIZE);
-    memcpy(result + MADE_SLOTS_NODES, r0_25, POOL_SIZE);
+    memset(result + MADE_SLOTS_MASK, 0, SLOTS_SIZE);
+}
+
+// A copy of the marks.
+// intmap_table::bits::Bits::clone, in crates/intmap_table/src/bits.rt
+static ALWAYS_INLINE void bits_clone(char *result, char *words_at) {
+    char *r9_45_0_ph34, *r5;
+    uint64_t r7_pre_phi33;
+    char *dangling = (char *)no_bytes;
+    char *words = load_address(words_at + BITS_WORDS);
+    uint64_t words_len = load64(words_at + BITS_WORDS_LEN);
+    if (words_len != 0) {
+        if (words_len < TOO_MANY(8)) {
+            uint64_t r19 = words_len << 3;
+            struct word_word block = rattle_alloc(r19, 8);
+            if ((block.first & 1) != 0) {
+                char *r8 = (char *)(uintptr_t)block.second;
+                if ((block.second - ((uint64_t)(uintptr_t)words)) >= r19) {
+                    r9_45_0_ph34 = r8;
+                    r7_pre_phi33 = r19;
+                    goto apart_2;
+                }
+                uint64_t r0_05 = 0;
+                for (;;) {
+                    uint64_t r18 = r0_05 << 3;
+                    store64(r8 + r18, load64(words + r18));
+                    uint64_t r30 = r0_05 + 1;
+                    if (r30 == words_len) {
+                        r5 = r8;
+                        goto arm_1_2;
+                    }
+                    r0_05 = r30;
+                }
+            }
+        }
+        store8(result + MADE_BITS_HAS_FAILED, 1);
+        memset(result + MADE_BITS_WORDS, 0, BITS_SIZE);
+        return;
+    }
+    r9_45_0_ph34 = dangling;
+    r7_pre_phi33 = 0;
+apart_2:;
+    memmove(r9_45_0_ph34, words, r7_pre_phi33);
+    r5 = r9_45_0_ph34;
+arm_1_2:;
+    store8(result + MADE_BITS_HAS_FAILED, 0);
+    store_address(result + MADE_BITS_WORDS, r5);
+    store64(result + MADE_BITS_WORDS_LEN, words_len);
+    store64(result + MADE_BITS_WORDS_ROOM, words_len);
 }
 
 // Puts clones of the pairs that a link leads through, of which there is at least one, into new nodes of `made`, in
@@ -1159,7 +1258,7 @@ static ALWAYS_INLINE void pool_add_new(char *result, char *nodes_at, uint64_t li
     if (nodes_len != NODE_LIMIT) {
         uint64_t nodes_len_2;
         if (load64(nodes_at + POOL_NODES_ROOM) == nodes_len) {
-            bool r24 = vec_grow_amortized_2(nodes_at, 1);
+            bool r24 = vec_grow_amortized(nodes_at, 1);
             if (!r24) {
                 goto join_5;
             }
@@ -1183,75 +1282,6 @@ join_5:;
     store64(result, 1);
     store64(result + 8, a3);
     store64(result + 16, a4);
-}
-
-// std_alloc::vec::Vec::grow_amortized, in Rattle's library std_alloc
-static COLD bool vec_grow_amortized_2(char *vec, uint64_t a1) {
-    struct word_word r0;
-    uint64_t len = load64(vec + VEC_LEN);
-    if (a1 > (~len)) {
-        return false;
-    }
-    uint64_t room = load64(vec + VEC_ROOM);
-    uint64_t a2_a1 = greater(len + a1, 4);
-    uint64_t x0 = greater(a2_a1, room << 1);
-    uint64_t common_ret_op = (room < UINT64_C(4611686018427387904)) ? x0 : a2_a1;
-    if (common_ret_op >= TOO_MANY(24)) {
-        return false;
-    }
-    if (room == 0) {
-        struct word_word block = rattle_alloc(x0 * 24, 8);
-        if ((block.first & 1) == 0) {
-            return false;
-        }
-        r0 = block;
-    } else {
-        struct word_word block_2 = rattle_realloc(load_address(vec + VEC_ADDRESS), len * 24, common_ret_op * 24, 8);
-        if ((block_2.first & 1) == 0) {
-            return false;
-        }
-        r0 = block_2;
-    }
-    store_address(vec + VEC_ADDRESS, (char *)(uintptr_t)r0.second);
-    store64(vec + VEC_ROOM, common_ret_op);
-    return true;
-}
-
-// Adds slots without a pair, so that there are `count`.
-// intmap_table::table::slots::add_empty, in crates/intmap_table/src/table/slots.rt
-static ALIGNED NOINLINE void slots_add_empty(char *slots, uint64_t count) {
-    uint64_t len_2;
-    uint64_t len = load64(slots + VEC_LEN);
-    if (count <= len) {
-        if (len <= count) {
-            return;
-        }
-        store64(slots + VEC_LEN, count);
-        return;
-    }
-    uint64_t r30 = count - len;
-    if (r30 > (load64(slots + VEC_ROOM) - len)) {
-        bool r24 = vec_grow_amortized_2(slots, r30);
-        if (!r24) {
-            return;
-        }
-        len_2 = load64(slots + VEC_LEN);
-    } else {
-        len_2 = len;
-    }
-    if (len_2 >= count) {
-        return;
-    }
-    uint64_t r2 = len_2;
-    for (;;) {
-        uint64_t r41 = r2 + 1;
-        memset(load_address(slots + VEC_ADDRESS) + (r2 * 24), 0, 24);
-        store64(slots + VEC_LEN, r41);
-        if (r41 == count) {
-            return;
-        }
-        r2 = r41;
-    }
 }
 
 // Puts a new map into the handle and returns `OK`.
@@ -1480,11 +1510,8 @@ static ALIGNED NOINLINE struct byte_address handle_make_first(void) {
 // Adds the pair of an absent key, if the slots don't take one more, and returns where it is.
 // intmap::map::IntMap::add_growing, in crates/intmap/src/map/insert.rt
 static ALIGNED NOINLINE void intmap_add_growing(char *result, char *map, uint64_t slot, uint64_t key_key, uint64_t key_number, uint64_t value) {
-    u128 r15;
-    uint64_t r0, x2, r19, r19_2, r25, r25_3;
+    uint64_t x3, r19_0_0_0_trunc38, a4_sink, r25, r25_3;
     uint8_t r25_2;
-    uint64_t r4_room[3];
-    char *r4 = (char *)r4_room;
     uint64_t len = load64(map + INT_MAP_LEN);
     if (len == UINT64_MAX) {
         store64(result, 1);
@@ -1495,109 +1522,91 @@ static ALIGNED NOINLINE void intmap_add_growing(char *result, char *map, uint64_
         return;
     }
     uint64_t r49 = len + 1;
-    uint64_t slots_len = load64(map + INT_MAP_SLOTS_LEN);
-    u128 r10 = u128_mul(u128_of(r49), u128_of(1000u));
-    u128 r13 = u128_add(u128_of(load64(map + INT_MAP_FACTOR)), u128_of(1u));
-    u128 r187 = u128_mul(r13, u128_of(slots_len));
-    if (u128_above(r187, r10)) {
-        r15 = r187;
-        r0 = slots_len;
-    } else {
-        uint64_t r3_09 = slots_len;
-        for (;;) {
-            if (r3_09 == GREATEST_CAPACITY) {
-                store64(result, 1);
-                store64(result + 8, value);
-                store8(result + 16, 1);
-                store_bytes(result + 17, 0, 7);
-                store64(result + 24, 0);
-                return;
-            }
-            uint64_t r31 = r3_09 << 1;
-            u128 r18 = u128_mul(r13, u128_of(r31));
-            if (u128_above(r18, r10)) {
-                r15 = r18;
-                r0 = r31;
-                break;
-            }
-            r3_09 = r31;
-        }
+    uint64_t factor = load64(map + INT_MAP_FACTOR);
+    struct byte_word r57 = load_wanted_capacity(r49, load64(map + INT_MAP_SLOTS_LEN), factor);
+    if (r57.first != 1) {
+        store64(result, 1);
+        store64(result + 8, value);
+        store8(result + 16, 1);
+        store_bytes(result + 17, 0, 7);
+        store64(result + 24, 0);
+        return;
     }
-    u128 r17 = u128_less_one(r15);
+    u128 r17 = u128_less_one(u128_mul(u128_add(u128_of(factor), u128_of(1u)), u128_of(r57.second)));
     uint64_t r8_0 = u128_above(r17, u128_two(999, UINT64_MAX)) ? UINT64_MAX : u128_low(u128_div(r17, u128_of(1000u)));
-    uint64_t r4_2 = r0 - 1;
-    uint64_t index = r4_2 & (key_number * MULTIPLIER);
+    uint64_t r4 = r57.second - 1;
+    uint64_t index = r4 & (key_number * MULTIPLIER);
     uint64_t nodes_len = load64(map + INT_MAP_NODES_LEN);
-    uint64_t r10_2 = nodes_len - load64(map + INT_MAP_SPARE);
+    uint64_t r10 = nodes_len - load64(map + INT_MAP_SPARE);
     char *node = load_address(map + INT_MAP_SLOTS) + (slot * NODE_SIZE);
     if (load8(node + NODE_HAS_PAIR) == 1) {
-        if (((load64(node + NODE_KEY) * MULTIPLIER) & r4_2) != index) {
+        if (((load64(node + NODE_KEY) * MULTIPLIER) & r4) != index) {
             uint64_t at = link_of(load16(node + NODE_HIGH), load32(node + NODE_LOW));
             for (;;) {
                 if (nodes_len <= at) {
-                    x2 = r10_2;
+                    x3 = r10;
                     goto after_Slots_needed;
                 }
                 char *node_2 = load_address(map + INT_MAP_NODES) + (at * NODE_SIZE);
                 if (load8(node_2 + NODE_HAS_PAIR) != 1) {
-                    x2 = r10_2;
+                    x3 = r10;
                     goto after_Slots_needed;
                 }
-                if (((load64(node_2 + NODE_KEY) * MULTIPLIER) & r4_2) == index) {
+                if (((load64(node_2 + NODE_KEY) * MULTIPLIER) & r4) == index) {
                     break;
                 }
                 at = link_of(load16(node_2 + NODE_HIGH), load32(node_2 + NODE_LOW));
             }
         }
-        x2 = r10_2 + 1;
+        x3 = r10 + 1;
     } else {
-        x2 = r10_2;
+        x3 = r10;
     }
 after_Slots_needed:;
-    uint8_t r18_2 = slots_enlarge(map, r0, x2);
-    if ((r18_2 & 1) != 0) {
-        r19 = value;
-        r19_2 = 1;
+    uint8_t r18 = slots_enlarge(map, r57.second, x3);
+    if ((r18 & 1) != 0) {
+        r19_0_0_0_trunc38 = 1;
+        a4_sink = value;
         r25 = 0;
         r25_2 = 0;
         r25_3 = 0;
     } else {
-        uint64_t common_ret_op;
-        char *node_3 = load_address(map + INT_MAP_SLOTS) + (index * NODE_SIZE);
-        uint8_t has_pair = load8(node_3 + NODE_HAS_PAIR);
-        if (has_pair == 1) {
-            memset(r4, 0, 24);
-            insertion_push_further(r4, node_3, map + INT_MAP_NODES, key_key, value);
-            if (load8(r4) != 0) {
-                abort(); // The proof excludes this.
-            }
-            common_ret_op = load64(r4 + 8);
-        } else {
-            store16(node_3 + NODE_HAS_PAIR, 1);
-            store16(node_3 + NODE_HIGH, NOWHERE_HIGH);
-            store32(node_3 + NODE_LOW, NOWHERE_LOW);
-            store64(node_3 + NODE_KEY, key_key);
-            store64(node_3 + NODE_VALUE, value);
-            if (has_pair != 0) {
-                abort(); // The proof excludes this.
-            }
-            common_ret_op = 0;
-        }
-        char *r11 = load_address(map + INT_MAP_WORDS) + ((index >> 3) & UINT64_C(0x1FFFFFFFFFFFFFF8));
-        store64(r11, load64(r11) | ((uint64_t)1 << (index & 63)));
+        uint64_t r20 = refill_put_at(map + INT_MAP_SLOTS, map + INT_MAP_WORDS, map + INT_MAP_NODES, index, 2, key_key, value);
         store64(map + INT_MAP_LEN, r49);
         store64(map + INT_MAP_THRESHOLD, r8_0);
-        r19 = key_key;
-        r19_2 = 0;
+        r19_0_0_0_trunc38 = 0;
+        a4_sink = key_key;
         r25 = (uint64_t)((index >> 8) & UINT64_C(72057594037927935));
         r25_2 = (uint8_t)index;
-        r25_3 = common_ret_op;
+        r25_3 = r20;
     }
-    store64(result, r19_2);
-    store64(result + 8, r19);
+    store64(result, r19_0_0_0_trunc38);
+    store64(result + 8, a4_sink);
     store8(result + 16, r25_2);
     store_bytes(result + 17, r25, 7);
     store64(result + 24, r25_3);
+}
+
+// The least capacity, among `capacity` and its doublings, in which `len` pairs meet the load factor `factor`, in
+// thousandths.
+// intmap::load::wanted_capacity, in crates/intmap/src/load.rt
+static ALWAYS_INLINE struct byte_word load_wanted_capacity(uint64_t len, uint64_t capacity, uint64_t factor) {
+    u128 r10 = u128_mul(u128_of(len), u128_of(1000u));
+    u128 r13 = u128_add(u128_of(factor), u128_of(1u));
+    if (u128_above(u128_mul(r13, u128_of(capacity)), r10)) {
+        return made_byte_word(1, capacity);
+    }
+    uint64_t r3_09 = capacity;
+    for (;;) {
+        if (r3_09 == GREATEST_CAPACITY) {
+            return made_byte_word(0, 0);
+        }
+        uint64_t r31 = r3_09 << 1;
+        if (u128_above(u128_mul(r13, u128_of(r31)), r10)) {
+            return made_byte_word(1, r31);
+        }
+        r3_09 = r31;
+    }
 }
 
 // Adds slots, so that there are `capacity`, and moves all pairs, in the order of the walk, to their slots among
@@ -1607,31 +1616,13 @@ static ALIGNED uint8_t slots_enlarge(char *map, uint64_t capacity, uint64_t room
     char *r9;
     uint64_t r9_2;
     char *dangling = (char *)no_bytes;
-    uint64_t r4_room[5];
-    char *r4 = (char *)r4_room;
-    uint64_t slots_len = load64(map + INT_MAP_SLOTS_LEN);
-    uint64_t r41 = capacity - slots_len;
-    uint64_t slots_room = load64(map + INT_MAP_SLOTS_ROOM);
-    if (r41 > (slots_room - slots_len)) {
-        struct word_word r0;
-        if (!((capacity < TOO_MANY(24)) & (r41 <= (~slots_len)))) {
-            return 1;
-        }
-        if (slots_room == 0) {
-            struct word_word block = rattle_alloc(capacity * 24, 8);
-            if ((block.first & 1) == 0) {
-                return 1;
-            }
-            r0 = block;
-        } else {
-            struct word_word block_2 = rattle_realloc(load_address(map + INT_MAP_SLOTS), slots_len * 24, capacity * 24, 8);
-            if ((block_2.first & 1) == 0) {
-                return 1;
-            }
-            r0 = block_2;
-        }
-        store_address(map + INT_MAP_SLOTS, (char *)(uintptr_t)r0.second);
-        store64(map + INT_MAP_SLOTS_ROOM, capacity);
+    uint64_t words_at_room[3];
+    char *words_at = (char *)words_at_room;
+    uint64_t nodes_at_room[5];
+    char *nodes_at = (char *)nodes_at_room;
+    uint8_t r44 = vec_reserve_exact(map + INT_MAP_SLOTS, capacity - load64(map + INT_MAP_SLOTS_LEN));
+    if ((r44 & 1) != 0) {
+        return 1;
     }
     uint64_t r4_0 = (capacity >> 6) + ((uint64_t)((capacity & 63) != 0));
     bool r12 = capacity == 0;
@@ -1641,11 +1632,11 @@ static ALIGNED uint8_t slots_enlarge(char *map, uint64_t capacity, uint64_t room
     } else {
         uint64_t r3;
         uint64_t r19 = r4_0 << 3;
-        struct word_word block_3 = rattle_alloc(r19, 8);
-        if ((block_3.first & 1) == 0) {
+        struct word_word block = rattle_alloc(r19, 8);
+        if ((block.first & 1) == 0) {
             goto arm_7;
         }
-        char *r8 = (char *)(uintptr_t)block_3.second;
+        char *r8 = (char *)(uintptr_t)block.second;
         if (r4_0 == 1) {
             r3 = 0;
         } else {
@@ -1662,18 +1653,21 @@ static ALIGNED uint8_t slots_enlarge(char *map, uint64_t capacity, uint64_t room
         if (room == 0) {
             r13 = dangling;
         } else {
-            struct word_word block_4 = rattle_alloc(room * 24, 8);
-            if ((block_4.first & 1) == 0) {
-                goto arm_6_3;
+            struct word_word block_2 = rattle_alloc(room * 24, 8);
+            if ((block_2.first & 1) == 0) {
+                goto arm_6_2;
             }
-            r13 = (char *)(uintptr_t)block_4.second;
+            r13 = (char *)(uintptr_t)block_2.second;
         }
         slots_add_empty(map + INT_MAP_SLOTS, capacity);
-        store_address(r4, r13);
-        store64(r4 + 8, 0);
-        store64(r4 + 16, room);
-        store64(r4 + 24, NOWHERE);
-        store64(r4 + 32, 0);
+        store_address(words_at + BITS_WORDS, r9);
+        store64(words_at + BITS_WORDS_LEN, r9_2);
+        store64(words_at + BITS_WORDS_ROOM, r4_0);
+        store_address(nodes_at + POOL_NODES, r13);
+        store64(nodes_at + POOL_NODES_LEN, 0);
+        store64(nodes_at + POOL_NODES_ROOM, room);
+        store64(nodes_at + POOL_FREE, NOWHERE);
+        store64(nodes_at + POOL_SPARE, 0);
         uint64_t mask = load64(map + INT_MAP_MASK);
         uint64_t r69 = capacity - 1;
         if (load64(map + INT_MAP_WORDS_LEN) == 0) {
@@ -1684,28 +1678,26 @@ static ALIGNED uint8_t slots_enlarge(char *map, uint64_t capacity, uint64_t room
         uint64_t a3 = ~mask;
         uint64_t invariant_op7 = a3 & r69;
         uint64_t invariant_op = a3 & r69;
-        uint64_t r0_2 = 0;
-        uint64_t r0_3 = bits;
+        uint64_t r0 = 0;
+        uint64_t r0_2 = bits;
         for (;;) {
-            uint64_t r0_5, r0_6;
-            if (r0_3 == 0) {
+            uint64_t r0_4, r0_5;
+            if (r0_2 == 0) {
                 uint64_t words_len = load64(map + INT_MAP_WORDS_LEN);
-                uint64_t r0_4 = r0_2;
+                uint64_t r0_3 = r0;
                 for (;;) {
-                    uint64_t r26 = r0_4 + 1;
+                    uint64_t r26 = r0_3 + 1;
                     if (words_len <= r26) {
                         store64(map + INT_MAP_MASK, r69);
                         char *words = load_address(map + INT_MAP_WORDS);
                         uint64_t words_room = load64(map + INT_MAP_WORDS_ROOM);
-                        store_address(map + INT_MAP_WORDS, r9);
-                        store64(map + INT_MAP_WORDS_LEN, r9_2);
-                        store64(map + INT_MAP_WORDS_ROOM, r4_0);
+                        memcpy(map + INT_MAP_WORDS, words_at, BITS_SIZE);
                         if (words_room != 0) {
                             rattle_dealloc(words);
                         }
                         char *nodes = load_address(map + INT_MAP_NODES);
                         uint64_t nodes_room = load64(map + INT_MAP_NODES_ROOM);
-                        memcpy(map + INT_MAP_NODES, r4, POOL_SIZE);
+                        memcpy(map + INT_MAP_NODES, nodes_at, POOL_SIZE);
                         if (nodes_room == 0) {
                             return 0;
                         }
@@ -1714,144 +1706,184 @@ static ALIGNED uint8_t slots_enlarge(char *map, uint64_t capacity, uint64_t room
                     }
                     uint64_t bits_2 = load64(load_address(map + INT_MAP_WORDS) + (r26 << 3));
                     if (bits_2 != 0) {
-                        r0_5 = r26;
-                        r0_6 = bits_2;
+                        r0_4 = r26;
+                        r0_5 = bits_2;
                         break;
                     }
-                    r0_4 = r26;
+                    r0_3 = r26;
                 }
             } else {
+                r0_4 = r0;
                 r0_5 = r0_2;
-                r0_6 = r0_3;
             }
-            uint64_t r49 = place_of_lowest_1(r0_6);
-            uint64_t at = r49 | (r0_5 << 6);
-            uint64_t r64 = (r0_6 - 1) & r0_6;
+            uint64_t r49 = place_of_lowest_1(r0_5);
+            uint64_t at = r49 | (r0_4 << 6);
+            uint64_t r64 = (r0_5 - 1) & r0_5;
             char *node = load_address(map + INT_MAP_SLOTS) + (at * NODE_SIZE);
             if (load8(node + NODE_HAS_PAIR) != 1) {
                 abort(); // The proof excludes this.
             }
             uint16_t high = load16(node + NODE_HIGH);
-            uint64_t link = link_of(high, load32(node + NODE_LOW));
+            uint32_t low = load32(node + NODE_LOW);
             uint64_t key = load_key(node + NODE_KEY);
             uint64_t index = (key * MULTIPLIER) & invariant_op7;
-            uint64_t at_2 = index + at;
             uint64_t value = load64(node + NODE_VALUE);
             memset(node, 0, NODE_SIZE);
-            char *node_2 = load_address(map + INT_MAP_SLOTS) + (at_2 * NODE_SIZE);
-            uint8_t has_pair = load8(node_2 + NODE_HAS_PAIR);
-            if (has_pair == 1) {
-                growth_put_before_first(node_2, r4, key, value);
-            } else {
-                store16(node_2 + NODE_HAS_PAIR, 1);
-                store16(node_2 + NODE_HIGH, NOWHERE_HIGH);
-                store32(node_2 + NODE_LOW, NOWHERE_LOW);
-                store64(node_2 + NODE_KEY, key);
-                store64(node_2 + NODE_VALUE, value);
-                if (has_pair != 0) {
-                    abort(); // The proof excludes this.
-                }
-            }
-            char *r11 = r9 + ((at_2 >> 3) & UINT64_C(0x1FFFFFFFFFFFFFF8));
-            store64(r11, load64(r11) | ((uint64_t)1 << (at_2 & 63)));
+            refill_put_at(map + INT_MAP_SLOTS, words_at, nodes_at, index + at, 0, key, value);
             if (high != NOWHERE_HIGH) {
-                uint64_t at_3 = NOWHERE;
-                uint64_t at_4 = link;
+                uint64_t at_2 = NOWHERE;
+                uint64_t at_3 = link_of(high, low);
                 for (;;) {
-                    char *node_3 = load_address(map + INT_MAP_NODES) + (at_4 * NODE_SIZE);
-                    if (load8(node_3 + NODE_HAS_PAIR) != 1) {
+                    char *node_2 = load_address(map + INT_MAP_NODES) + (at_3 * NODE_SIZE);
+                    if (load8(node_2 + NODE_HAS_PAIR) != 1) {
                         abort(); // The proof excludes this.
                     }
-                    uint16_t high_2 = load16(node_3 + NODE_HIGH);
-                    uint64_t link_2 = link_of(high_2, load32(node_3 + NODE_LOW));
-                    store16(node_3 + NODE_HIGH, (uint16_t)(at_3 >> 32));
-                    store32(node_3 + NODE_LOW, (uint32_t)at_3);
+                    uint16_t high_2 = load16(node_2 + NODE_HIGH);
+                    uint64_t link = link_of(high_2, load32(node_2 + NODE_LOW));
+                    store16(node_2 + NODE_HIGH, (uint16_t)(at_2 >> 32));
+                    store32(node_2 + NODE_LOW, (uint32_t)at_2);
                     if (high_2 == NOWHERE_HIGH) {
-                        if (at_4 >= NODE_LIMIT) {
+                        if (at_3 >= NODE_LIMIT) {
                             break;
                         }
-                        uint64_t at_5 = at_4;
+                        uint64_t at_4 = at_3;
                         for (;;) {
-                            char *node_4 = load_address(map + INT_MAP_NODES) + (at_5 * NODE_SIZE);
-                            if (load8(node_4 + NODE_HAS_PAIR) != 1) {
+                            char *node_3 = load_address(map + INT_MAP_NODES) + (at_4 * NODE_SIZE);
+                            if (load8(node_3 + NODE_HAS_PAIR) != 1) {
                                 abort(); // The proof excludes this.
                             }
-                            uint64_t key_2 = load_key(node_4 + NODE_KEY);
-                            uint64_t index_2 = (key_2 * MULTIPLIER) & invariant_op;
-                            uint64_t at_6 = index_2 + at;
-                            uint16_t high_3 = load16(node_4 + NODE_HIGH);
-                            uint64_t link_3 = link_of(high_3, load32(node_4 + NODE_LOW));
-                            uint64_t free = load64(map + INT_MAP_FREE);
-                            uint64_t value_2 = load64(node_4 + NODE_VALUE);
-                            store16(node_4 + NODE_HAS_PAIR, 0);
-                            store16(node_4 + NODE_HIGH, (uint16_t)(free >> 32));
-                            store32(node_4 + NODE_LOW, (uint32_t)free);
-                            memset(node_4 + NODE_KEY, 0, PAIR_SIZE);
-                            store64(map + INT_MAP_FREE, at_5);
-                            store64(map + INT_MAP_SPARE, load64(map + INT_MAP_SPARE) + 1);
-                            char *node_5 = load_address(map + INT_MAP_SLOTS) + (at_6 * NODE_SIZE);
-                            uint8_t has_pair_2 = load8(node_5 + NODE_HAS_PAIR);
-                            if (has_pair_2 == 1) {
-                                if (index == index_2) {
-                                    growth_put_behind_first(node_5, r4, key_2, value_2);
-                                } else {
-                                    growth_put_before_first(node_5, r4, key_2, value_2);
-                                }
-                            } else {
-                                store16(node_5 + NODE_HAS_PAIR, 1);
-                                store16(node_5 + NODE_HIGH, NOWHERE_HIGH);
-                                store32(node_5 + NODE_LOW, NOWHERE_LOW);
-                                store64(node_5 + NODE_KEY, key_2);
-                                store64(node_5 + NODE_VALUE, value_2);
-                                if (has_pair_2 != 0) {
-                                    abort(); // The proof excludes this.
-                                }
-                            }
-                            char *r11_2 = r9 + ((at_6 >> 3) & UINT64_C(0x1FFFFFFFFFFFFFF8));
-                            store64(r11_2, load64(r11_2) | ((uint64_t)1 << (at_6 & 63)));
+                            uint64_t index_2 = (load64(node_3 + NODE_KEY) * MULTIPLIER) & invariant_op;
+                            uint16_t high_3 = load16(node_3 + NODE_HIGH);
+                            uint64_t link_2 = link_of(high_3, load32(node_3 + NODE_LOW));
+                            struct word_word r12_2 = pool_release(map + INT_MAP_NODES, at_4);
+                            refill_put_at(map + INT_MAP_SLOTS, words_at, nodes_at, index_2 + at, (uint8_t)(index == index_2), r12_2.first, r12_2.second);
                             if (high_3 == NOWHERE_HIGH) {
                                 goto loop_2_backedge;
                             }
-                            at_5 = link_3;
+                            at_4 = link_2;
                         }
                     }
-                    at_3 = at_4;
-                    at_4 = link_2;
+                    at_2 = at_3;
+                    at_3 = link;
                 }
             }
         loop_2_backedge:;
-            r0_2 = r0_5;
-            r0_3 = r64;
+            r0 = r0_4;
+            r0_2 = r64;
         }
     }
-arm_6_3:;
+arm_6_2:;
     if (!r12) {
         rattle_dealloc(r9);
     }
 arm_7:;
-    uint64_t slots_len_2 = load64(map + INT_MAP_SLOTS_LEN);
-    if (load64(map + INT_MAP_SLOTS_ROOM) <= slots_len_2) {
-        return 1;
-    }
-    if (slots_len_2 == 0) {
-        rattle_dealloc(load_address(map + INT_MAP_SLOTS));
-        store_address(map + INT_MAP_SLOTS, dangling);
-        memset(map + INT_MAP_SLOTS_LEN, 0, 16);
-        return 1;
-    }
-    uint64_t r12_2 = slots_len_2 * NODE_SIZE;
-    struct word_word block_5 = rattle_realloc(load_address(map + INT_MAP_SLOTS), r12_2, r12_2, 8);
-    if ((block_5.first & 1) == 0) {
-        return 1;
-    }
-    store_address(map + INT_MAP_SLOTS, (char *)(uintptr_t)block_5.second);
-    store64(map + INT_MAP_SLOTS_ROOM, slots_len_2);
+    vec_shrink_to_fit(map + INT_MAP_SLOTS);
     return 1;
+}
+
+// std_alloc::vec::Vec::reserve_exact, in Rattle's library std_alloc
+static ALWAYS_INLINE uint8_t vec_reserve_exact(char *vec, uint64_t a1) {
+    struct word_word r0;
+    uint64_t len = load64(vec + VEC_LEN);
+    uint64_t room = load64(vec + VEC_ROOM);
+    if (a1 <= (room - len)) {
+        return 0;
+    }
+    if (a1 > (~len)) {
+        return 1;
+    }
+    uint64_t r33 = len + a1;
+    if (r33 >= TOO_MANY(24)) {
+        return 1;
+    }
+    if (room == 0) {
+        struct word_word block = rattle_alloc(r33 * 24, 8);
+        if ((block.first & 1) == 0) {
+            return 1;
+        }
+        r0 = block;
+    } else {
+        struct word_word block_2 = rattle_realloc(load_address(vec + VEC_ADDRESS), len * 24, r33 * 24, 8);
+        if ((block_2.first & 1) == 0) {
+            return 1;
+        }
+        r0 = block_2;
+    }
+    store_address(vec + VEC_ADDRESS, (char *)(uintptr_t)r0.second);
+    store64(vec + VEC_ROOM, r33);
+    return 0;
+}
+
+// std_alloc::vec::Vec::shrink_to_fit, in Rattle's library std_alloc
+static ALWAYS_INLINE void vec_shrink_to_fit(char *slots_at) {
+    char *dangling = (char *)no_bytes;
+    uint64_t slots_len = load64(slots_at + VEC_LEN);
+    if (load64(slots_at + VEC_ROOM) <= slots_len) {
+        return;
+    }
+    if (slots_len == 0) {
+        rattle_dealloc(load_address(slots_at + VEC_ADDRESS));
+        store_address(slots_at + VEC_ADDRESS, dangling);
+        memset(slots_at + VEC_LEN, 0, 16);
+        return;
+    }
+    uint64_t r12 = slots_len * NODE_SIZE;
+    struct word_word block = rattle_realloc(load_address(slots_at + VEC_ADDRESS), r12, r12, 8);
+    if ((block.first & 1) == 0) {
+        return;
+    }
+    store_address(slots_at + VEC_ADDRESS, (char *)(uintptr_t)block.second);
+    store64(slots_at + VEC_ROOM, slots_len);
+}
+
+// Puts a pair into its slot, where `order` says, marks the slot, counts the pair, and returns its place.
+// intmap_table::table::slots::refill::put_at, in crates/intmap_table/src/table/slots/refill.rt
+static ALWAYS_INLINE uint64_t refill_put_at(char *slots, char *bits, char *pool, uint64_t index, uint8_t a4, uint64_t a5, uint64_t a6) {
+    uint64_t common_ret_op;
+    uint64_t r4_room[3];
+    char *r4 = (char *)r4_room;
+    char *node = load_address(slots + VEC_ADDRESS) + (index * NODE_SIZE);
+    uint8_t has_pair = load8(node + NODE_HAS_PAIR);
+    if (has_pair == 1) {
+        switch (a4) {
+        case 0:
+            growth_put_before_first(node, pool, a5, a6);
+            common_ret_op = 0;
+            break;
+        case 1:
+            growth_put_behind_first(node, pool, a5, a6);
+            common_ret_op = 1;
+            break;
+        case 2:
+            memset(r4, 0, 24);
+            insertion_push_further(r4, node, pool, a5, a6);
+            if (load8(r4) != 0) {
+                abort(); // The proof excludes this.
+            }
+            common_ret_op = load64(r4 + 8);
+            break;
+        default:
+            abort(); // The proof excludes this.
+        }
+    } else {
+        store16(node + NODE_HAS_PAIR, 1);
+        store16(node + NODE_HIGH, NOWHERE_HIGH);
+        store32(node + NODE_LOW, NOWHERE_LOW);
+        store64(node + NODE_KEY, a5);
+        store64(node + NODE_VALUE, a6);
+        if (has_pair != 0) {
+            abort(); // The proof excludes this.
+        }
+        common_ret_op = 0;
+    }
+    char *r11 = load_address(bits + BITS_WORDS) + ((index >> 3) & UINT64_C(0x1FFFFFFFFFFFFFF8));
+    store64(r11, load64(r11) | ((uint64_t)1 << (index & 63)));
+    return common_ret_op;
 }
 
 // Puts a pair before the first one of a slot that holds some, and returns its place.
 // intmap_table::linked::row::growth::put_before_first, in crates/intmap_table/src/linked/row/growth.rt
-static ALIGNED NOINLINE void growth_put_before_first(char *node, char *a1, uint64_t a2, uint64_t a3) {
+static ALIGNED NOINLINE void growth_put_before_first(char *node, char *nodes_at, uint64_t a2, uint64_t a3) {
     uint64_t r10;
     uint64_t r0_room[3];
     char *r0 = (char *)r0_room;
@@ -1864,21 +1896,21 @@ static ALIGNED NOINLINE void growth_put_before_first(char *node, char *a1, uint6
     uint64_t value = load64(node + NODE_VALUE);
     store64(node + NODE_KEY, a2);
     store64(node + NODE_VALUE, a3);
-    uint64_t r19 = load64(a1 + 32);
-    if (r19 == 0) {
-        pool_add_new(r0, a1, link_of(high, low), key, value);
+    uint64_t spare = load64(nodes_at + POOL_SPARE);
+    if (spare == 0) {
+        pool_add_new(r0, nodes_at, link_of(high, low), key, value);
         if (load8(r0) != 0) {
             abort(); // The proof excludes this.
         }
         r10 = load64(r0 + 8);
     } else {
-        uint64_t r34 = load64(a1 + 24);
-        char *r11 = load_address(a1) + (r34 * 24);
+        uint64_t free = load64(nodes_at + POOL_FREE);
+        char *r11 = load_address(nodes_at + POOL_NODES) + (free * 24);
         if (load8(r11) != 0) {
             abort(); // The proof excludes this.
         }
-        store64(a1 + 24, link_of(load16(r11 + 2), load32(r11 + 4)));
-        store64(a1 + 32, r19 - 1);
+        store64(nodes_at + POOL_FREE, link_of(load16(r11 + 2), load32(r11 + 4)));
+        store64(nodes_at + POOL_SPARE, spare - 1);
         uint8_t r15 = load8(r11);
         store16(r11, 1);
         store16(r11 + 2, high);
@@ -1888,7 +1920,7 @@ static ALIGNED NOINLINE void growth_put_before_first(char *node, char *a1, uint6
         if (r15 != 0) {
             abort(); // The proof excludes this.
         }
-        r10 = r34;
+        r10 = free;
     }
     if (load8(node + NODE_HAS_PAIR) != 1) {
         abort(); // The proof excludes this.
@@ -1899,7 +1931,7 @@ static ALIGNED NOINLINE void growth_put_before_first(char *node, char *a1, uint6
 
 // Puts a pair behind the first one of a slot that holds some, and returns its place.
 // intmap_table::linked::row::growth::put_behind_first, in crates/intmap_table/src/linked/row/growth.rt
-static ALIGNED NOINLINE void growth_put_behind_first(char *node, char *a1, uint64_t a2, uint64_t a3) {
+static ALIGNED NOINLINE void growth_put_behind_first(char *node, char *nodes_at, uint64_t a2, uint64_t a3) {
     uint64_t r7;
     uint64_t r0_room[3];
     char *r0 = (char *)r0_room;
@@ -1908,21 +1940,21 @@ static ALIGNED NOINLINE void growth_put_behind_first(char *node, char *a1, uint6
     }
     uint16_t high = load16(node + NODE_HIGH);
     uint32_t low = load32(node + NODE_LOW);
-    uint64_t r19 = load64(a1 + 32);
-    if (r19 == 0) {
-        pool_add_new(r0, a1, link_of(high, low), a2, a3);
+    uint64_t spare = load64(nodes_at + POOL_SPARE);
+    if (spare == 0) {
+        pool_add_new(r0, nodes_at, link_of(high, low), a2, a3);
         if (load8(r0) != 0) {
             abort(); // The proof excludes this.
         }
         r7 = load64(r0 + 8);
     } else {
-        uint64_t r34 = load64(a1 + 24);
-        char *r11 = load_address(a1) + (r34 * 24);
+        uint64_t free = load64(nodes_at + POOL_FREE);
+        char *r11 = load_address(nodes_at + POOL_NODES) + (free * 24);
         if (load8(r11) != 0) {
             abort(); // The proof excludes this.
         }
-        store64(a1 + 24, link_of(load16(r11 + 2), load32(r11 + 4)));
-        store64(a1 + 32, r19 - 1);
+        store64(nodes_at + POOL_FREE, link_of(load16(r11 + 2), load32(r11 + 4)));
+        store64(nodes_at + POOL_SPARE, spare - 1);
         uint8_t r15 = load8(r11);
         store16(r11, 1);
         store16(r11 + 2, high);
@@ -1932,7 +1964,7 @@ static ALIGNED NOINLINE void growth_put_behind_first(char *node, char *a1, uint6
         if (r15 != 0) {
             abort(); // The proof excludes this.
         }
-        r7 = r34;
+        r7 = free;
     }
     if (load8(node + NODE_HAS_PAIR) != 1) {
         abort(); // The proof excludes this.
@@ -1950,7 +1982,7 @@ static ALIGNED NOINLINE void insertion_push_further(char *result, char *slot, ch
     if (load8(slot + NODE_HAS_PAIR) != 1) {
         abort(); // The proof excludes this.
     }
-    struct word_word at = chain_last_in_2(pool, link_of(load16(slot + NODE_HIGH), load32(slot + NODE_LOW)));
+    struct word_word r24 = chain_last_in(pool, link_of(load16(slot + NODE_HIGH), load32(slot + NODE_LOW)));
     uint64_t spare = load64(pool + POOL_SPARE);
     if (spare == 0) {
         pool_add_new(r0, pool, NOWHERE, a3, a4);
@@ -1965,64 +1997,40 @@ static ALIGNED NOINLINE void insertion_push_further(char *result, char *slot, ch
         r7 = r7_6_8_copyload35;
     } else {
         uint64_t free = load64(pool + POOL_FREE);
-        char *node = load_address(pool + POOL_NODES) + (free * NODE_SIZE);
-        if (load8(node + NODE_HAS_PAIR) != 0) {
+        char *r11 = load_address(pool + POOL_NODES) + (free * 24);
+        if (load8(r11) != 0) {
             abort(); // The proof excludes this.
         }
-        store64(pool + POOL_FREE, link_of(load16(node + NODE_HIGH), load32(node + NODE_LOW)));
+        store64(pool + POOL_FREE, link_of(load16(r11 + 2), load32(r11 + 4)));
         store64(pool + POOL_SPARE, spare - 1);
-        uint8_t has_pair = load8(node + NODE_HAS_PAIR);
-        store16(node + NODE_HAS_PAIR, 1);
-        store16(node + NODE_HIGH, NOWHERE_HIGH);
-        store32(node + NODE_LOW, NOWHERE_LOW);
-        store64(node + NODE_KEY, a3);
-        store64(node + NODE_VALUE, a4);
-        if (has_pair != 0) {
+        uint8_t r15 = load8(r11);
+        store16(r11, 1);
+        store16(r11 + 2, NOWHERE_HIGH);
+        store32(r11 + 4, NOWHERE_LOW);
+        store64(r11 + 8, a3);
+        store64(r11 + 16, a4);
+        if (r15 != 0) {
             abort(); // The proof excludes this.
         }
         r7 = free;
     }
-    if (at.first > UINT64_C(281470681743359)) {
+    if (r24.first > UINT64_C(281470681743359)) {
         if (load8(slot + NODE_HAS_PAIR) != 1) {
             abort(); // The proof excludes this.
         }
         store16(slot + NODE_HIGH, (uint16_t)(r7 >> 32));
         store32(slot + NODE_LOW, (uint32_t)r7);
     } else {
-        char *node_2 = load_address(pool + POOL_NODES) + (at.first * NODE_SIZE);
-        if (load8(node_2 + NODE_HAS_PAIR) != 1) {
+        char *r9 = load_address(pool + POOL_NODES) + (r24.first * 24);
+        if (load8(r9) != 1) {
             abort(); // The proof excludes this.
         }
-        store16(node_2 + NODE_HIGH, (uint16_t)(r7 >> 32));
-        store32(node_2 + NODE_LOW, (uint32_t)r7);
+        store16(r9 + 2, (uint16_t)(r7 >> 32));
+        store32(r9 + 4, (uint32_t)r7);
     }
     store64(result, 0);
-    store64(result + 8, at.second + 1);
+    store64(result + 8, r24.second + 1);
     store64(result + 16, 0);
-}
-
-// The last node of a chain (no node if there is no pair), and the number of pairs.
-// intmap_table::linked::chain::last_in, in crates/intmap_table/src/linked/chain.rt
-static ALWAYS_INLINE struct word_word chain_last_in_2(char *pool, uint64_t from) {
-    if (from >= NODE_LIMIT) {
-        return made_word_word(NOWHERE, 0);
-    }
-    char *nodes = load_address(pool + POOL_NODES);
-    uint64_t r3_017 = 0;
-    uint64_t at = from;
-    for (;;) {
-        char *node = nodes + (at * NODE_SIZE);
-        if (load8(node + NODE_HAS_PAIR) != 1) {
-            abort(); // The proof excludes this.
-        }
-        uint16_t high = load16(node + NODE_HIGH);
-        uint64_t r14 = r3_017 + 1;
-        if (high == NOWHERE_HIGH) {
-            return made_word_word(at, r14);
-        }
-        r3_017 = r14;
-        at = link_of(high, load32(node + NODE_LOW));
-    }
 }
 
 // Removes the first pair of a slot with this link that holds others.
@@ -2051,7 +2059,7 @@ static COLD uint64_t insertion_replace_first_of_several(char *slot, uint64_t lin
 static ALIGNED NOINLINE void intmap_insert_otherwise(char *result, char *map, uint64_t slot, uint64_t key_key, uint64_t key_number, uint64_t value) {
     char *node_2;
     bool r1_0_in, x11;
-    uint64_t r10_4_0_ph289, link, nodes_len, r18, r18_2, r18_3, at_2;
+    uint64_t r10_4_0_ph236, link, nodes_len, r18, r18_2, r18_3, at_2;
     uint8_t r103;
     uint64_t r0_room[3];
     char *r0 = (char *)r0_room;
@@ -2062,7 +2070,7 @@ static ALIGNED NOINLINE void intmap_insert_otherwise(char *result, char *map, ui
     if (len < load64(map + INT_MAP_THRESHOLD)) {
         char *node = load_address(map + INT_MAP_SLOTS) + (slot * NODE_SIZE);
         if (load8(node + NODE_HAS_PAIR) != 1) {
-            r10_4_0_ph289 = value;
+            r10_4_0_ph236 = value;
             goto then_8;
         }
         node_2 = node;
@@ -2074,7 +2082,7 @@ static ALIGNED NOINLINE void intmap_insert_otherwise(char *result, char *map, ui
             if (!r2_0_in) {
                 goto join_10;
             }
-            r10_4_0_ph289 = value;
+            r10_4_0_ph236 = value;
             goto then_8;
         }
         node_2 = node_3;
@@ -2144,9 +2152,9 @@ static ALIGNED NOINLINE void intmap_insert_otherwise(char *result, char *map, ui
         uint64_t r7;
         uint64_t spare = load64(map + INT_MAP_SPARE);
         if (spare == 0) {
-            pool_add_new_2(r0, map + INT_MAP_NODES, key_key, value);
+            pool_add_new(r0, map + INT_MAP_NODES, NOWHERE, key_key, value);
             if (load8(r0) != 0) {
-                r10_4_0_ph289 = load64(r0 + 16);
+                r10_4_0_ph236 = load64(r0 + 16);
                 goto then_8;
             }
             r7 = load64(r0 + 8);
@@ -2199,7 +2207,7 @@ join_10:;
     goto join_4;
 then_8:;
     store64(result, 1);
-    store64(result + 8, r10_4_0_ph289);
+    store64(result + 8, r10_4_0_ph236);
     store64(result + 16, 0);
     return;
 join_4:;
@@ -2208,129 +2216,57 @@ join_4:;
     store64(result + 16, r18_3);
 }
 
-// Puts a pair with a link into a new node behind the others, none of which may be free, and returns which.
-// intmap_table::linked::pool::Pool::add_new, in crates/intmap_table/src/linked/pool.rt
-static ALWAYS_INLINE void pool_add_new_2(char *result, char *nodes_at, uint64_t a3, uint64_t a4) {
-    uint64_t nodes_len = load64(nodes_at + POOL_NODES_LEN);
-    if (nodes_len != NODE_LIMIT) {
-        uint64_t at;
-        if (load64(nodes_at + POOL_NODES_ROOM) == nodes_len) {
-            bool r24 = vec_grow_amortized(nodes_at);
-            if (!r24) {
-                goto join_5;
-            }
-            at = load64(nodes_at + POOL_NODES_LEN);
-        } else {
-            at = nodes_len;
+// Makes the slots in which `pairs` pairs meet this load factor, and sets it.
+// intmap::map::IntMap::fit, in crates/intmap/src/map/grow.rt
+static ALWAYS_INLINE struct byte_byte intmap_fit(char *map, uint64_t pairs, uint64_t thousandths, uint64_t sharing) {
+    uint8_t r0;
+    uint64_t slots_len = load64(map + INT_MAP_SLOTS_LEN);
+    struct byte_word r19 = load_wanted_capacity(pairs, slots_len, thousandths);
+    if (r19.first != 1) {
+        return made_byte_byte(1, 1);
+    }
+    if (r19.second == slots_len) {
+        uint64_t spare = load64(map + INT_MAP_SPARE);
+        if (sharing <= spare) {
+            goto join_8;
         }
-        char *node = load_address(nodes_at + POOL_NODES) + (at * NODE_SIZE);
-        store16(node + NODE_HAS_PAIR, 1);
-        store16(node + NODE_HIGH, NOWHERE_HIGH);
-        store32(node + NODE_LOW, NOWHERE_LOW);
-        store64(node + NODE_KEY, a3);
-        store64(node + NODE_VALUE, a4);
-        store64(nodes_at + POOL_NODES_LEN, at + 1);
-        store64(result, 0);
-        store64(result + 8, nodes_len);
-        store64(result + 16, 0);
-        return;
-    }
-join_5:;
-    store64(result, 1);
-    store64(result + 8, a3);
-    store64(result + 16, a4);
-}
-
-// Moves all pairs, in the order of the walk, to their slots among `capacity` slots.
-// intmap_table::table::Table::grow_to, in crates/intmap_table/src/table/grow.rt
-static ALIGNED uint8_t table_grow_to(char *map, uint64_t capacity, uint64_t additional) {
-    struct word_word r0;
-    if (capacity != load64(map + INT_MAP_SLOTS_LEN)) {
-        uint64_t r10 = load64(map + INT_MAP_NODES_LEN) - load64(map + INT_MAP_SPARE);
-        if (r10 > (~additional)) {
-            return 1;
+        uint64_t r19_2 = sharing - spare;
+        if ((NODE_LIMIT - load64(map + INT_MAP_NODES_LEN)) < r19_2) {
+            return made_byte_byte(1, 0);
         }
-        uint8_t r23 = slots_enlarge(map, capacity, r10 + additional);
-        return r23;
-    }
-    uint64_t spare = load64(map + INT_MAP_SPARE);
-    if (additional <= spare) {
-        return 0;
-    }
-    uint64_t r19 = additional - spare;
-    uint64_t nodes_len = load64(map + INT_MAP_NODES_LEN);
-    if ((NODE_LIMIT - nodes_len) < r19) {
-        return 1;
-    }
-    uint64_t nodes_room = load64(map + INT_MAP_NODES_ROOM);
-    if (r19 <= (nodes_room - nodes_len)) {
-        return 0;
-    }
-    if (r19 > (~nodes_len)) {
-        return 1;
-    }
-    uint64_t r33 = nodes_len + r19;
-    if (r33 >= TOO_MANY(24)) {
-        return 1;
-    }
-    if (nodes_room == 0) {
-        struct word_word block = rattle_alloc(r33 * 24, 8);
-        if ((block.first & 1) == 0) {
-            return 1;
-        }
-        r0 = block;
+        uint8_t r33 = vec_reserve_exact(map + INT_MAP_NODES, r19_2);
+        r0 = r33;
     } else {
-        struct word_word block_2 = rattle_realloc(load_address(map + INT_MAP_NODES), nodes_len * 24, r33 * 24, 8);
-        if ((block_2.first & 1) == 0) {
-            return 1;
+        uint64_t r10 = load64(map + INT_MAP_NODES_LEN) - load64(map + INT_MAP_SPARE);
+        if (r10 > (~sharing)) {
+            return made_byte_byte(1, 0);
         }
-        r0 = block_2;
+        uint8_t r23 = slots_enlarge(map, r19.second, r10 + sharing);
+        r0 = r23;
     }
-    store_address(map + INT_MAP_NODES, (char *)(uintptr_t)r0.second);
-    store64(map + INT_MAP_NODES_ROOM, r33);
-    return 0;
+    if ((r0 & 1) != 0) {
+        return made_byte_byte(1, 0);
+    }
+join_8:;
+    store64(map + INT_MAP_FACTOR, thousandths);
+    u128 r17 = u128_less_one(u128_mul(u128_add(u128_of(thousandths), u128_of(1u)), u128_of(r19.second)));
+    store64(map + INT_MAP_THRESHOLD, u128_above(r17, u128_two(999, UINT64_MAX)) ? UINT64_MAX : u128_low(u128_div(r17, u128_of(1000u))));
+    return made_byte_byte(0, 0);
 }
 
 // Writes the address of the value of the key, or null if the key is absent.
 // intmap_place, in crates/intmap_c/src/place.rt
 static ALWAYS_INLINE void do_intmap_place(char *word, uint64_t key, char *at) {
-    char *node_2;
     store_address(at, NULL);
     char *map = load_address(word);
     if (map == NULL) {
         return;
     }
-    char *node = load_address(map + INT_MAP_SLOTS) + ((load64(map + INT_MAP_MASK) & (key * MULTIPLIER)) * NODE_SIZE);
-    if (load8(node + NODE_HAS_PAIR) != 1) {
+    struct byte_address r3 = intmap_get_mut(map, key);
+    if (r3.first != 1) {
         return;
     }
-    if (load64(node + NODE_KEY) == key) {
-        node_2 = node;
-    } else {
-        uint64_t link = link_of(load16(node + NODE_HIGH), load32(node + NODE_LOW));
-        uint64_t nodes_len = load64(map + INT_MAP_NODES_LEN);
-        if (nodes_len <= link) {
-            return;
-        }
-        char *nodes = load_address(map + INT_MAP_NODES);
-        uint64_t at_2 = link;
-        for (;;) {
-            char *node_3 = nodes + (at_2 * NODE_SIZE);
-            if (load8(node_3 + NODE_HAS_PAIR) != 1) {
-                return;
-            }
-            if (load64(node_3 + NODE_KEY) == key) {
-                node_2 = node_3;
-                break;
-            }
-            uint64_t link_2 = link_of(load16(node_3 + NODE_HIGH), load32(node_3 + NODE_LOW));
-            if (nodes_len <= link_2) {
-                return;
-            }
-            at_2 = link_2;
-        }
-    }
-    store_address(at, node_2 + NODE_VALUE);
+    store_address(at, r3.second);
 }
 
 // The version of the code, which is 1.1.0: 10000 times the first number, 100 times the second, and the third.
@@ -2647,50 +2583,18 @@ static ALWAYS_INLINE struct word_word do_intmap_add_present(char *handle, uint64
     struct word_half r23;
     uint64_t map_address = load64(handle);
     store64(handle, 0);
-    char *map = (char *)(uintptr_t)map_address;
     if (map_address == 0) {
         r23 = empty_word_half();
     } else {
         struct word_half r29;
-        char *node = load_address(map + INT_MAP_SLOTS) + ((load64(map + INT_MAP_MASK) & (key * MULTIPLIER)) * NODE_SIZE);
-        if (load8(node + NODE_HAS_PAIR) == 1) {
-            char *node_2;
-            if (load64(node + NODE_KEY) == key) {
-                node_2 = node;
-            } else {
-                uint64_t link = link_of(load16(node + NODE_HIGH), load32(node + NODE_LOW));
-                uint64_t nodes_len = load64(map + INT_MAP_NODES_LEN);
-                if (nodes_len <= link) {
-                    r29 = empty_word_half();
-                    goto after_pairs_add_present;
-                }
-                char *nodes = load_address(map + INT_MAP_NODES);
-                uint64_t at = link;
-                for (;;) {
-                    char *node_3 = nodes + (at * NODE_SIZE);
-                    if (load8(node_3 + NODE_HAS_PAIR) != 1) {
-                        r29 = empty_word_half();
-                        goto after_pairs_add_present;
-                    }
-                    if (load64(node_3 + NODE_KEY) == key) {
-                        node_2 = node_3;
-                        break;
-                    }
-                    uint64_t link_2 = link_of(load16(node_3 + NODE_HIGH), load32(node_3 + NODE_LOW));
-                    if (nodes_len <= link_2) {
-                        r29 = empty_word_half();
-                        goto after_pairs_add_present;
-                    }
-                    at = link_2;
-                }
-            }
-            uint64_t value = load64(node_2 + NODE_VALUE);
-            store64(node_2 + NODE_VALUE, value + more);
+        struct byte_address r10 = intmap_get_mut((char *)(uintptr_t)map_address, key);
+        if (r10.first == 1) {
+            uint64_t value = load64(r10.second);
+            store64(r10.second, value + more);
             r29 = made_word_half(value, 1);
         } else {
             r29 = empty_word_half();
         }
-    after_pairs_add_present:;
         store64(handle, map_address);
         r23 = r29;
     }
@@ -2804,7 +2708,7 @@ static ALWAYS_INLINE char *do_intmap_cut(char *result, char *handle, char *at) {
     } else {
         uint64_t link_2, r307091, r307090, r3_0, r115, words_len, r1, r1_2, r1_3, x12, x13, r49, at_5, r307089;
         uint16_t high_2, high_4;
-        char *node_2, *nodes_at, *node_6, *node_7, *r11;
+        char *node_2, *nodes_at, *node_6, *node_7, *r11_2;
         struct word_word r25, r25_2, r25_3, r14;
         uint32_t r8;
         uint64_t slot = load64(at + CURSOR_SLOT);
@@ -2849,22 +2753,14 @@ static ALWAYS_INLINE char *do_intmap_cut(char *result, char *handle, char *at) {
                     }
                     uint16_t high_3 = load16(node_4 + NODE_HIGH);
                     uint32_t low = load32(node_4 + NODE_LOW);
-                    uint64_t free = load64(map + INT_MAP_FREE);
-                    uint64_t key = load64(node_4 + NODE_KEY);
-                    uint64_t value = load64(node_4 + NODE_VALUE);
-                    store16(node_4 + NODE_HAS_PAIR, 0);
-                    store16(node_4 + NODE_HIGH, (uint16_t)(free >> 32));
-                    store32(node_4 + NODE_LOW, (uint32_t)free);
-                    memset(node_4 + NODE_KEY, 0, PAIR_SIZE);
-                    store64(map + INT_MAP_FREE, at_2);
-                    store64(map + INT_MAP_SPARE, load64(map + INT_MAP_SPARE) + 1);
+                    struct word_word r11 = pool_release(map + INT_MAP_NODES, at_2);
                     if (at_3 > UINT64_C(281470681743359)) {
                         if (load8(node + NODE_HAS_PAIR) != 1) {
                             abort(); // The proof excludes this.
                         }
                         store16(node + NODE_HIGH, high_3);
                         store32(node + NODE_LOW, low);
-                        r25 = made_word_word(key, value);
+                        r25 = r11;
                         goto x11;
                     }
                     char *node_5 = load_address(map + INT_MAP_NODES) + (at_3 * NODE_SIZE);
@@ -2875,7 +2771,7 @@ static ALWAYS_INLINE char *do_intmap_cut(char *result, char *handle, char *at) {
                     store32(node_5 + NODE_LOW, low);
                     r307090 = slot;
                     node_6 = node;
-                    r25_2 = made_word_word(key, value);
+                    r25_2 = r11;
                     goto after_removal_remove_2;
                 }
             }
@@ -2925,11 +2821,11 @@ static ALWAYS_INLINE char *do_intmap_cut(char *result, char *handle, char *at) {
         nodes_at = map + INT_MAP_NODES;
     then_6:;
         if (high_2 == NOWHERE_HIGH) {
-            uint64_t key_2 = load64(node_2 + NODE_KEY);
-            uint64_t value_2 = load64(node_2 + NODE_VALUE);
+            uint64_t key = load64(node_2 + NODE_KEY);
+            uint64_t value = load64(node_2 + NODE_VALUE);
             memset(node_2, 0, NODE_SIZE);
             r307089 = r307091;
-            r25_3 = made_word_word(key_2, value_2);
+            r25_3 = made_word_word(key, value);
             goto then_1_3;
         }
         r14 = removal_pop_front_of_several(node_2, link_2, nodes_at);
@@ -2944,8 +2840,8 @@ static ALWAYS_INLINE char *do_intmap_cut(char *result, char *handle, char *at) {
         r307089 = r307090;
         r25_3 = r25_2;
     then_1_3:;
-        r11 = load_address(map + INT_MAP_WORDS) + ((r307089 >> 3) & UINT64_C(0x1FFFFFFFFFFFFFF8));
-        store64(r11, load64(r11) & (~((uint64_t)1 << (r307089 & 63))));
+        r11_2 = load_address(map + INT_MAP_WORDS) + ((r307089 >> 3) & UINT64_C(0x1FFFFFFFFFFFFFF8));
+        store64(r11_2, load64(r11_2) & (~((uint64_t)1 << (r307089 & 63))));
         r25 = r25_3;
     x11:;
         store64(map + INT_MAP_LEN, load64(map + INT_MAP_LEN) - 1);
@@ -3052,50 +2948,18 @@ static ALWAYS_INLINE struct word_word do_intmap_replace(char *handle, uint64_t k
     struct word_half r23;
     uint64_t map_address = load64(handle);
     store64(handle, 0);
-    char *map = (char *)(uintptr_t)map_address;
     if (map_address == 0) {
         r23 = empty_word_half();
     } else {
         struct word_half r26;
-        char *node = load_address(map + INT_MAP_SLOTS) + ((load64(map + INT_MAP_MASK) & (key * MULTIPLIER)) * NODE_SIZE);
-        if (load8(node + NODE_HAS_PAIR) == 1) {
-            char *node_2;
-            if (load64(node + NODE_KEY) == key) {
-                node_2 = node;
-            } else {
-                uint64_t link = link_of(load16(node + NODE_HIGH), load32(node + NODE_LOW));
-                uint64_t nodes_len = load64(map + INT_MAP_NODES_LEN);
-                if (nodes_len <= link) {
-                    r26 = empty_word_half();
-                    goto after_pairs_replace;
-                }
-                char *nodes = load_address(map + INT_MAP_NODES);
-                uint64_t at = link;
-                for (;;) {
-                    char *node_3 = nodes + (at * NODE_SIZE);
-                    if (load8(node_3 + NODE_HAS_PAIR) != 1) {
-                        r26 = empty_word_half();
-                        goto after_pairs_replace;
-                    }
-                    if (load64(node_3 + NODE_KEY) == key) {
-                        node_2 = node_3;
-                        break;
-                    }
-                    uint64_t link_2 = link_of(load16(node_3 + NODE_HIGH), load32(node_3 + NODE_LOW));
-                    if (nodes_len <= link_2) {
-                        r26 = empty_word_half();
-                        goto after_pairs_replace;
-                    }
-                    at = link_2;
-                }
-            }
-            uint64_t value_2 = load64(node_2 + NODE_VALUE);
-            store64(node_2 + NODE_VALUE, value);
+        struct byte_address r10 = intmap_get_mut((char *)(uintptr_t)map_address, key);
+        if (r10.first == 1) {
+            uint64_t value_2 = load64(r10.second);
+            store64(r10.second, value);
             r26 = made_word_half(value_2, 1);
         } else {
             r26 = empty_word_half();
         }
-    after_pairs_replace:;
         store64(handle, map_address);
         r23 = r26;
     }
@@ -3422,8 +3286,8 @@ after_pairs_find_or_insert:;
 // intmap_insert, in crates/intmap_c/src/pairs.rt
 static ALWAYS_INLINE struct word_word do_intmap_insert(char *handle, uint64_t key, uint64_t value) {
     char *map;
-    uint64_t len, r8, bits, r0, r0_3_6_0_copyload115, r0_3, r5, spec_select1;
-    bool r0_2, r0_3_0_0_copyload116;
+    uint64_t len, r8, bits, r0, r0_3_6_0_copyload105, r0_3, r5, spec_select1;
+    bool r0_2, r0_3_0_0_copyload106;
     uint16_t high;
     uint64_t r9_room[3];
     char *r9 = (char *)r9_room;
@@ -3482,8 +3346,8 @@ static ALWAYS_INLINE struct word_word do_intmap_insert(char *handle, uint64_t ke
     default:
         goto after_IntMap_insert_2;
     }
-    r0_3_0_0_copyload116 = r0_2;
-    r0_3_6_0_copyload115 = r0;
+    r0_3_0_0_copyload106 = r0_2;
+    r0_3_6_0_copyload105 = r0;
     goto arm_1_2;
 after_IntMap_insert_2:;
     intmap_insert_otherwise(r9, map, index, key, key, value);
@@ -3493,11 +3357,11 @@ after_IntMap_insert_2:;
         spec_select1 = ((r0_3 & 255) == 0) ? NO_MEMORY : TOO_LARGE;
         goto after_pairs_insert;
     }
-    r0_3_0_0_copyload116 = load8(r9 + 8) == 1;
-    r0_3_6_0_copyload115 = r0_3;
+    r0_3_0_0_copyload106 = load8(r9 + 8) == 1;
+    r0_3_6_0_copyload105 = r0_3;
 arm_1_2:;
-    r5 = r0_3_0_0_copyload116 ? r0_3_6_0_copyload115 : 0;
-    spec_select1 = (uint64_t)r0_3_0_0_copyload116;
+    r5 = r0_3_0_0_copyload106 ? r0_3_6_0_copyload105 : 0;
+    spec_select1 = (uint64_t)r0_3_0_0_copyload106;
 after_pairs_insert:;
     store64(handle, map_address_2);
     return made_word_word(r5, spec_select1);
@@ -3524,39 +3388,13 @@ static ALWAYS_INLINE uint32_t do_intmap_reserve(char *handle, uint64_t more) {
     if (len > (~more)) {
         r4_0 = TOO_LARGE;
     } else {
-        uint64_t r0;
-        uint64_t factor = load64(map + INT_MAP_FACTOR);
-        uint64_t slots_len = load64(map + INT_MAP_SLOTS_LEN);
-        u128 r10 = u128_mul(u128_of(len + more), u128_of(1000u));
-        u128 r13 = u128_add(u128_of(factor), u128_of(1u));
-        if (u128_above(u128_mul(r13, u128_of(slots_len)), r10)) {
-            r0 = slots_len;
-        } else {
-            uint64_t r3_09 = slots_len;
-            for (;;) {
-                if (r3_09 == GREATEST_CAPACITY) {
-                    r4_0 = TOO_LARGE;
-                    goto after_figures_reserve;
-                }
-                uint64_t r31 = r3_09 << 1;
-                if (u128_above(u128_mul(r13, u128_of(r31)), r10)) {
-                    r0 = r31;
-                    break;
-                }
-                r3_09 = r31;
-            }
-        }
-        uint8_t r30 = table_grow_to(map, r0, 0);
-        if ((r30 & 1) != 0) {
-            r4_0 = NO_MEMORY;
-        } else {
-            store64(map + INT_MAP_FACTOR, factor);
-            u128 r17 = u128_less_one(u128_mul(r13, u128_of(r0)));
-            store64(map + INT_MAP_THRESHOLD, u128_above(r17, u128_two(999, UINT64_MAX)) ? UINT64_MAX : u128_low(u128_div(r17, u128_of(1000u))));
+        struct byte_byte r23 = intmap_fit(map, len + more, load64(map + INT_MAP_FACTOR), 0);
+        if (r23.first == 0) {
             r4_0 = 0;
+        } else {
+            r4_0 = (r23.second == 0) ? NO_MEMORY : TOO_LARGE;
         }
     }
-after_figures_reserve:;
     store64(handle, map_address_2);
     return r4_0;
 }
@@ -3582,39 +3420,13 @@ static ALWAYS_INLINE uint32_t do_intmap_reserve_insertions(char *handle, uint64_
     if (len > (~more)) {
         r4_0 = TOO_LARGE;
     } else {
-        uint64_t r0;
-        uint64_t factor = load64(map + INT_MAP_FACTOR);
-        uint64_t slots_len = load64(map + INT_MAP_SLOTS_LEN);
-        u128 r10 = u128_mul(u128_of(len + more), u128_of(1000u));
-        u128 r13 = u128_add(u128_of(factor), u128_of(1u));
-        if (u128_above(u128_mul(r13, u128_of(slots_len)), r10)) {
-            r0 = slots_len;
-        } else {
-            uint64_t r3_09 = slots_len;
-            for (;;) {
-                if (r3_09 == GREATEST_CAPACITY) {
-                    r4_0 = TOO_LARGE;
-                    goto after_figures_reserve_insertions;
-                }
-                uint64_t r31 = r3_09 << 1;
-                if (u128_above(u128_mul(r13, u128_of(r31)), r10)) {
-                    r0 = r31;
-                    break;
-                }
-                r3_09 = r31;
-            }
-        }
-        uint8_t r30 = table_grow_to(map, r0, more);
-        if ((r30 & 1) != 0) {
-            r4_0 = NO_MEMORY;
-        } else {
-            store64(map + INT_MAP_FACTOR, factor);
-            u128 r17 = u128_less_one(u128_mul(r13, u128_of(r0)));
-            store64(map + INT_MAP_THRESHOLD, u128_above(r17, u128_two(999, UINT64_MAX)) ? UINT64_MAX : u128_low(u128_div(r17, u128_of(1000u))));
+        struct byte_byte r23 = intmap_fit(map, len + more, load64(map + INT_MAP_FACTOR), more);
+        if (r23.first == 0) {
             r4_0 = 0;
+        } else {
+            r4_0 = (r23.second == 0) ? NO_MEMORY : TOO_LARGE;
         }
     }
-after_figures_reserve_insertions:;
     store64(handle, map_address_2);
     return r4_0;
 }
@@ -3648,16 +3460,20 @@ static ALWAYS_INLINE uint32_t do_intmap_reserve_slots(char *handle, uint64_t add
             uint64_t r13 = high_zeros(r42 - 1);
             r2_0 = (uint64_t)1 << ((uint64_t)64 - r13);
         }
-        uint64_t a0_a1 = greater(load64(map + INT_MAP_SLOTS_LEN), r2_0);
-        uint8_t r52 = table_grow_to(map, a0_a1, 0);
-        if ((r52 & 1) != 0) {
-            r4_0 = NO_MEMORY;
-        } else {
-            u128 r17 = u128_less_one(u128_mul(u128_add(u128_of(load64(map + INT_MAP_FACTOR)), u128_of(1u)), u128_of(a0_a1)));
-            store64(map + INT_MAP_THRESHOLD, u128_above(r17, u128_two(999, UINT64_MAX)) ? UINT64_MAX : u128_low(u128_div(r17, u128_of(1000u))));
-            r4_0 = 0;
+        uint64_t slots_len = load64(map + INT_MAP_SLOTS_LEN);
+        uint64_t a0_a1 = greater(slots_len, r2_0);
+        if (slots_len < r2_0) {
+            uint8_t r23 = slots_enlarge(map, a0_a1, load64(map + INT_MAP_NODES_LEN) - load64(map + INT_MAP_SPARE));
+            if ((r23 & 1) != 0) {
+                r4_0 = NO_MEMORY;
+                goto after_figures_reserve_slots;
+            }
         }
+        u128 r17 = u128_less_one(u128_mul(u128_add(u128_of(load64(map + INT_MAP_FACTOR)), u128_of(1u)), u128_of(a0_a1)));
+        store64(map + INT_MAP_THRESHOLD, u128_above(r17, u128_two(999, UINT64_MAX)) ? UINT64_MAX : u128_low(u128_div(r17, u128_of(1000u))));
+        r4_0 = 0;
     }
+after_figures_reserve_slots:;
     store64(handle, map_address_2);
     return r4_0;
 }
@@ -3666,9 +3482,6 @@ static ALWAYS_INLINE uint32_t do_intmap_reserve_slots(char *handle, uint64_t add
 // intmap_set_load_factor, in crates/intmap_c/src/figures.rt
 static ALWAYS_INLINE uint32_t do_intmap_set_load_factor(char *handle, uint64_t thousandths) {
     char *map;
-    uint64_t r0;
-    uint32_t r4_0;
-    uint8_t r30;
     uint64_t map_address = load64(handle);
     store64(handle, 0);
     if (map_address == 0) {
@@ -3680,39 +3493,9 @@ static ALWAYS_INLINE uint32_t do_intmap_set_load_factor(char *handle, uint64_t t
     } else {
         map = (char *)(uintptr_t)map_address;
     }
-    uint64_t map_address_2 = (uint64_t)(uintptr_t)map;
-    uint64_t slots_len = load64(map + INT_MAP_SLOTS_LEN);
-    u128 r10 = u128_mul(u128_of(load64(map + INT_MAP_LEN)), u128_of(1000u));
-    u128 r13 = u128_add(u128_of(thousandths), u128_of(1u));
-    if (u128_above(u128_mul(r13, u128_of(slots_len)), r10)) {
-        r0 = slots_len;
-    } else {
-        uint64_t r3_09 = slots_len;
-        for (;;) {
-            if (r3_09 == GREATEST_CAPACITY) {
-                r4_0 = TOO_LARGE;
-                goto after_figures_set_load_factor;
-            }
-            uint64_t r31 = r3_09 << 1;
-            if (u128_above(u128_mul(r13, u128_of(r31)), r10)) {
-                r0 = r31;
-                break;
-            }
-            r3_09 = r31;
-        }
-    }
-    r30 = table_grow_to(map, r0, 0);
-    if ((r30 & 1) != 0) {
-        r4_0 = NO_MEMORY;
-    } else {
-        store64(map + INT_MAP_FACTOR, thousandths);
-        u128 r17 = u128_less_one(u128_mul(r13, u128_of(r0)));
-        store64(map + INT_MAP_THRESHOLD, u128_above(r17, u128_two(999, UINT64_MAX)) ? UINT64_MAX : u128_low(u128_div(r17, u128_of(1000u))));
-        r4_0 = 0;
-    }
-after_figures_set_load_factor:;
-    store64(handle, map_address_2);
-    return r4_0;
+    struct byte_byte r7 = intmap_fit(map, load64(map + INT_MAP_LEN), thousandths, 0);
+    store64(handle, (uint64_t)(uintptr_t)map);
+    return (r7.first == 0) ? 0 : ((r7.second == 0) ? NO_MEMORY : TOO_LARGE);
 }
 
 // The calls of intmap.h, by value and by address as this compiler passes them.
