@@ -7,7 +7,7 @@ from layout import KNOWN, Layouts, parted_types, with_types
 from sources import LINK, comment_above, impls
 
 # what the crate for C has in place of parameters that are types
-GIVEN = {"K": "u64", "V": "u64", "X": "Kept<u64>", "A": "Global"}
+GIVEN = {"K": "u64", "V": "u64", "X": "Kept<u64>", "P": "(Stored<u64>, Kept<u64>)", "A": "Global"}
 # what has more bytes is handed on by its address
 IN_REGISTERS = 16
 CONSTANT = re.compile(r"^(?:pub(?:\(crate\))? )?const (\w+): (?:u64|usize) = (\d{10,});", re.M)
@@ -92,8 +92,11 @@ class Origins:
             return []
         end, own = self.found(function.name)
         found = SIGNATURE.match(self.texts[self.file(function.name)], end)
-        is_written = found[2] and (function.result == "void" or function.result == "ptr" and found[2][0] not in "&*")
-        places = [("result", f"&{with_types(found[2], GIVEN)}")] if is_written else []
+        kind = with_types(found[2] or "()", GIVEN)
+        # a small result goes by registers, unless nobody uses it
+        is_large = not self.layouts.is_known(kind) or self.layouts.size(kind) > IN_REGISTERS
+        is_written = found[2] and is_large and (function.result == "void" or function.result == "ptr" and kind[0] not in "&*")
+        places = [("result", f"&{kind}")] if is_written else []
         for it in parted_types(re.sub(r"//[^\n]*|\s+", " ", found[1])):
             name, _, kind = it.partition(": ")
             if name.endswith("self"):
@@ -103,6 +106,12 @@ class Origins:
                 break
             places += more
         return places
+
+    def returned(self, function):
+        """The names and the types of the parts that a function returns in registers, as far as the sources tell."""
+        signature = self.file(function.name) and SIGNATURE.match(self.texts[self.file(function.name)], self.found(function.name)[0])
+        found = signature and signature[2] and self.registers("", with_types(signature[2], GIVEN)) or []
+        return found if len(found) == function.result.count(",") + 1 else []
 
     def registers(self, name, kind):
         """The parameters that one of the source becomes; None if its type is unknown."""

@@ -9,7 +9,7 @@ from collections import defaultdict, namedtuple
 
 from crates import text_of
 from llvm_module import NAME, NUMBERED, TYPE, VALUE, bare, functions_of, groups_of, parted, result_type
-from places import MAP, Places, title
+from places import CALL, MAP, NEXT, ROW, STORED, Places, title
 from origins import WIDTH, Origins, path_of
 from scopes import Scopes
 
@@ -17,7 +17,7 @@ PARTS = "tools/portable_driver"
 # Functions that stay functions, so that no other becomes too long to read. The compiler of the C inlines them in LLVM's place.
 APART = (
     *("IntMap::get_counted", "IntMap::get_mut", "IntMap::fit", "load::wanted_capacity"),
-    *("Slots::clone", "Bits::clone", "refill::put_at", "Pool::add_new", "Pool::release"),
+    *("Slots::clone", "Bits::clone", "copy_drop::copy_bits", "refill::put_at", "Pool::add_new", "Pool::release"),
     *("chain::last_in", "chain::seek", "Vec::reserve_exact", "Vec::shrink_to_fit"),
 )
 # How clang prints a module, with names: as it is given, and behind the optimiser. Vectors have no form in C, and unrolled
@@ -50,23 +50,29 @@ WIDE_COMPARED = {
 }
 # what u128_div can divide by
 SMALL_DIVISOR = range(1, 1 << 63)
-# of the compiler's own functions: the name in head.c, and how many arguments count
+# of the compiler's own functions: the name in head.c, how many arguments count, and what their result is called
 HELPERS = {
-    "llvm.cttz.i64": ("place_of_lowest_1", 1),
-    "llvm.ctlz.i64": ("high_zeros", 1),
-    "llvm.ctpop.i64": ("ones_in", 1),
-    "llvm.umax.i64": ("greater", 2),
-    "llvm.umin.i64": ("lesser", 2),
-    "llvm.uadd.sat.i64": ("sum_or_most", 2),
+    "llvm.cttz.i64": ("place_of_lowest_1", 1, "lowest"),
+    "llvm.ctlz.i64": ("high_zeros", 1, "zeros"),
+    "llvm.ctpop.i64": ("ones_in", 1, "ones"),
+    "llvm.umax.i64": ("greater", 2, "most"),
+    "llvm.umin.i64": ("lesser", 2, "least"),
+    "llvm.uadd.sat.i64": ("sum_or_most", 2, "sum"),
 }
 MOVES = {"llvm.memset": "memset", "llvm.memcpy": "memcpy", "llvm.memmove": "memmove"}
 NO_CODE = ("llvm.lifetime", "llvm.assume")
-HEAP = ("rattle_alloc", "rattle_realloc", "rattle_dealloc")
+# requests for memory, with the names of their parameters
+HEAP = {"rattle_alloc": ["size"], "rattle_realloc": ["block", "size", "size"], "rattle_dealloc": ["block"]}
 # a product by this is a key's hash
 FACTOR = "-7046029254386353067"
 ADDRESS_AND_NUMBER = rf"getelementptr (?:(?:inbounds|nuw|nusw) )*i8, ptr ({VALUE}), i64 (-?\d+)$"
 # numbers of things of 8 and of 24 bytes for which no block of memory has room
 TOO_MANY = {((1 << 63) - 1) // size + 1: size for size in (8, 24)}
+# what has the bits of a number but for the lowest, what is true of none, and what is one of several numbers or the same number
+LESS_ONE = re.compile(rf"add (?:(?:nuw|nsw) )*i64 ({VALUE}), -1$")
+BOTH = re.compile(rf"and i64 ({VALUE}), ({VALUE})$")
+IS_NONE = re.compile(rf"icmp eq {TYPE} ({VALUE}), (0|null)$")
+ONE_OF = re.compile(rf"(?:select i1 {VALUE}, {TYPE} ({VALUE}), {TYPE} ({VALUE})|(?:trunc|zext) .*?{TYPE} ({VALUE}) to {TYPE})$")
 # what the optimiser appends to a name
 APPENDED = "i\\d*|sroa|sroa_idx|copyload|fca|extract|insert|pre-phi|pre|not|le|lcssa|unr|ph|preheader|fr|pn"
 INSERTED = rf"insertvalue ({TYPE}) ({VALUE}), ({TYPE}) ({VALUE}), (\d+)$"
@@ -147,6 +153,11 @@ def nothing(kind):
     return {"ptr": "NULL", "i128": "u128_of(0)", "i1": "false"}.get(kind, "0")
 
 
+def field_name(kind, field):
+    """Where a field of a type lies, by its name."""
+    return f"{title(kind)}_{field or 'address'}".upper()
+
+
 def is_whole(text):
     """Whether an expression needs no brackets: it is a name, a field or one call."""
     if re.fullmatch(r"\w+(?:\.\w+)?", text):
@@ -218,6 +229,12 @@ class Printer:
         self.defined[name] = constant(number, "i32" if status else kind)
         return name
 
+    def fields(self, kind):
+        """The fields of a type of which it has several, by where they lie."""
+        layouts = self.origins.layouts
+        fields = layouts.fields(kind) if kind[0] != ROW and layouts.is_known(kind) else {}
+        return fields if len(fields) > 1 else {}
+
     def size(self, kind):
         """The name of a type's size."""
         self.laid_out[kind] = None
@@ -231,7 +248,7 @@ class Printer:
             yield "// Where the fields of structs lie, by the names of the sources, and how many bytes a struct has.\n"
         for name, kind in sorted(laid_out.items(), key=lambda it: (-layouts.size(it[1]), it)):
             places = {field or "address": at for at, (field, _) in layouts.fields(kind).items()} | {"size": layouts.size(kind)}
-            words = ",\n".join(f"{STEP}{name}_{it} = {at}".upper() for it, at in places.items())
+            words = ",\n".join(f"{STEP}{field_name(kind, it)} = {at}" for it, at in places.items())
             yield from [*self.origins.about(kind), "enum {", words, "};"]
         if self.defined:
             yield "// Numbers that the sources name. Statuses are those of intmap.h, without a sign.\n"
@@ -254,6 +271,8 @@ class FunctionInC:
         self.labels = {it: unique(word_of(it), labels) for it in self.graph.order}
         self.types |= {name: kind for kind, name in function.parameters}
         self.types |= {name: kind for every in function.joined.values() for name, kind, _ in every}
+        self.cases = {value: list(its.values()) for every in function.joined.values() for value, _, its in every}
+        self.handed_back, self.fates = self.found_handed_back(), self.found_fates()
         self.name_parameters()
         # what the statements declare: variables, helpers of copies, rooms
         self.variables, self.copies_of, self.rooms = {}, {}, {}
@@ -265,14 +284,118 @@ class FunctionInC:
             self.names[value] = unique(self.place_name(value) or value, self.taken)
 
     def place_name(self, value):
-        name = self.printer.places.name(self.function, value)
+        """What a value is called by the sources, if its place or its making tells."""
+        name, places = self.printer.places.name(self.function, value), self.printer.places.of(self.function, f"%{value}")
+        if value in self.handed_back and not name:
+            name = self.printer.places.name_of_place(self.handed_back[value])
+        # an address of the first field is one of the whole
+        wholes = [kind for kind, at in places or () if at == 0 and self.printer.fields(kind) and title(kind) != "vec"]
+        if wholes and str(name).endswith("_at"):
+            name = title(wholes[0])
+        # of several addresses not all dangle
+        name = None if name == "dangling" and value in self.cases else name
         return f"{name}_" if name in TAKEN else name
+
+    def parts_returned(self):
+        """The values that are parts of what is returned, each with the name and the type that the sources have for the part."""
+        known = self.printer.origins.returned(self.function)
+        for value in self.returned & self.function.made_by.keys():
+            part = re.match(INSERTED, self.function.made_by[value])
+            if part and int(part[5]) < len(known):
+                yield bare(part[4]), *known[int(part[5])]
+
+    def found_handed_back(self):
+        """By value where its address leads to, if the sources say that of an address which is returned."""
+        addresses = {it: self.printer.places.leads_to(kind) for it, _, kind in self.parts_returned() if kind[0] in "*&"}
+        return addresses | {bare(it): places for value, places in addresses.items() for it in self.cases.get(value, ())}
+
+    def found_fates(self):
+        """By value the one name of all fields in which it is stored or returned, and of all parameters that it is handed to."""
+        places, found = self.printer.places, defaultdict(set)
+        for value, name, _ in self.parts_returned():
+            found[f"%{value}"].add(name or None)
+        for line in (line for lines in self.function.blocks.values() for line in lines):
+            code = line.split(" = ", 1)[-1]
+            stored, called = STORED.match(code), CALL.match(code)
+            fields = filter(None, map(places.field, places.of(self.function, stored[2]) or ())) if stored else ()
+            found[stored[1] if stored else None] |= {it or "address" for it, _ in [*fields][:1]}
+            name = called[1].strip('"') if called else None
+            values = [it for _, it in places.functions[name].parameters] if name in places.functions else []
+            known = [places.parameters[name].get(it, (None, ()))[0] for it in values] or HEAP.get(name, [])
+            for given, it in zip(parted(called[2]), known) if called else ():
+                found[given.split()[-1]].add(it if it != "self" else None)
+        names = {bare(it): its - {None} for it, its in found.items() if it and it[0] == "%"}
+        return {it: its.pop() for it, its in names.items() if len(its) == 1}
+
+    def base_name(self, value, seen=()):
+        """What a value is called but for a number that tells it from others; None if nothing tells."""
+        if value in seen:
+            return None
+        if any(value == it for _, it in self.function.parameters):
+            return self.names[value]
+        seen = (*seen, value)
+        fate = self.fates.get(value)
+        found = self.place_name(value) or (fate if value in self.cases else None) or self.name_of_making(value, seen)
+        return found or fate or self.number_name(value, seen)
+
+    def name_of_making(self, value, seen):
+        """A name after the function that is called, or after what the value is one of."""
+        code = self.function.made_by.get(value, "")
+        called, both, is_none, one_of = CALL.match(code), BOTH.match(code), IS_NONE.match(code), ONE_OF.match(code)
+        if called:
+            name = called[1].strip('"')
+            return path_of(name)[-1] if "::" in name else HELPERS.get(name, ("", 0, None))[2]
+        if is_none and self.base_name(bare(is_none[1]), seen):
+            return f"{self.base_name(bare(is_none[1]), seen)}_is_{is_none[2]}"
+        parts = []
+        for one, other in (both.groups(), both.groups()[::-1]) if both else ():
+            less = LESS_ONE.match(self.function.made_by.get(bare(one), ""))
+            parts += [other] if less and less[1] == other else []
+        parts += [it for it in one_of.groups() if it] if one_of else self.cases.get(value, [])
+        names = {self.base_name(bare(it), seen) for it in parts if it[0] == "%"} - {None, "dangling"}
+        return names.pop() if len(names) == 1 else None
+
+    def plain_name(self, value):
+        """A name for what has none: the number that the module gave it, or what the optimiser did to make it."""
+        number = re.match(r"[ra]\d+(?=\.)", value)
+        word = "chosen" if self.function.made_by.get(value, "").startswith("select ") else "joined" if value in self.cases else "x"
+        return number[0] if number else word_of(value) if re.fullmatch(r"[ra]?\d+", value) else word
+
+    def number_name(self, value, seen):
+        """What a value is called by what is done with it: with a number that chooses one of many, or with a block."""
+        code, users = self.function.made_by.get(value, ""), [it for it, _ in self.function.uses.get(value, ()) if it]
+        following, uses = NEXT.match(code), [self.function.made_by.get(it, "") for it in users]
+        if following and bare(following[1]) in self.cases and self.base_name(bare(following[1]), seen):
+            return f"next_{self.base_name(bare(following[1]), seen)}"
+        if any(self.printer.places.stride_name(self.function, it) == "u64" for it in users):
+            return "word"
+        if any(it.startswith("lshr i64 ") and it.endswith(", 32") for it in uses):
+            return "link"
+        if re.match("mul|shl|and", code) and any(it.startswith("getelementptr ") for it in uses):
+            return "offset"
+        if code.startswith("getelementptr ") and self.printer.places.of(self.function, f"%{value}") == ((f"{ROW}u64", 0),):
+            return "word_at"
+        if code.startswith("inttoptr "):
+            return "address"
+        if value in self.returned and any(self.status(it) for it in self.cases.get(value, ())):
+            return "status"
+        return "place" if self.is_place(value) else None
+
+    def status(self, text):
+        return text.lstrip("-").isdigit() and self.printer.origins.statuses.get(int(text) % (1 << 32))
+
+    def is_place(self, value):
+        """Whether a number counts the nodes of a chain as a loop follows it."""
+        beside = next((every for every in self.function.joined.values() if any(it == value for it, _, _ in every)), ())
+        steps = [NEXT.match(self.function.made_by.get(bare(it), "")) for it in self.cases.get(value, ())]
+        is_counted = any(it and bare(it[1]) == value for it in steps)
+        return is_counted and any(self.place_name(it) in ("at", "link") for it, _, _ in beside)
 
     # Values.
 
     def variable(self, value):
         if value not in self.names:
-            self.names[value] = unique(self.place_name(value) or word_of(value), self.taken)
+            self.names[value] = unique(self.base_name(value) or self.plain_name(value), self.taken)
         return self.names[value]
 
     def assigned(self, value):
@@ -369,12 +492,16 @@ class FunctionInC:
         return self.field(base, by) or f"{self.operand(base, 'ptr')} {'-' if by < 0 else '+'} {abs(by)}"
 
     def field(self, base, by):
-        """The address of a field, by its name; None if nobody knows that."""
-        named = self.printer.places.field_name(self.function, base, by)
-        if not named:
-            return None
-        self.printer.laid_out[named[1]] = None
-        return f"{self.operand(base, 'ptr')} + {named[0]}"
+        """The address of a field, by its name, or of a byte inside it; None if nobody knows that."""
+        known = self.printer.places.of(self.function, base) or self.handed_back.get(bare(base), ())
+        for kind, at in known:
+            fields = self.printer.fields(kind) if at == 0 else {}
+            start = max((it for it in fields if it <= by), default=None)
+            if start is not None and by < self.printer.origins.layouts.size(kind):
+                self.printer.laid_out[kind] = None
+                inside = f" + {by - start}" if by > start else ""
+                return f"{self.operand(base, 'ptr')} + {field_name(kind, fields[start][0])}{inside}"
+        return None
 
     def place(self, address):
         """Where something is read or written."""
@@ -383,6 +510,7 @@ class FunctionInC:
 
     def compared(self, line, is_contrary):
         how, kind, one, other = groups_of(rf"icmp (?:samesign )?(\w+) ({TYPE}) ({VALUE}), ({VALUE})$", line)
+        how, other = self.with_named_bound(how, kind, other)
         left, right = self.operand(one, kind), self.operand(other, kind)
         sign = COMPARED[how[-2:]]
         sign = CONTRARY[sign] if is_contrary else sign
@@ -390,6 +518,12 @@ class FunctionInC:
             return known(WIDE_COMPARED, f"{how[0]}{sign}", line).format(left, right)
         cast = f"(int{bits(kind)}_t)" if how[0] == "s" else "(uintptr_t)" if kind == "ptr" and how[0] == "u" else ""
         return f"{cast}{left} {sign} {cast}{right}"
+
+    def with_named_bound(self, how, kind, number):
+        """A comparison of unsigned numbers with the next number, if that is the one which the sources name."""
+        following = {"ugt": "uge", "ule": "ult"}.get(how)
+        is_named = following and number.isdigit() and (kind, int(number) + 1) in self.printer.origins.constants
+        return (following, str(int(number) + 1)) if is_named else (how, number)
 
     def binary(self, value, word, line):
         kind, one, other = groups_of(rf"{word} (?:(?:nuw|nsw|exact|disjoint) )*({TYPE}) ({VALUE}), ({VALUE})$", line)
@@ -465,7 +599,7 @@ class FunctionInC:
             if given[0] != str(self.printer.origins.layouts.size(MAP)):
                 raise SystemExit(f"portable: a map has {given[0]} bytes, and in the sources another number")
             given[0] = self.printer.size(MAP)
-        helper, count = HELPERS.get(name, (None, len(given)))
+        helper, count, _ = HELPERS.get(name, (None, len(given), ""))
         text = f"{helper or (name if name in HEAP else self.printer.name(name))}({', '.join(given[:count])});"
         if name == "llvm.cttz.i64" and given[1] != "true":
             text = f"({given[0]}) != 0 ? {text[:-1]} : 64;"

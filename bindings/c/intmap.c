@@ -11,8 +11,10 @@
 //
 // Above each function of the module stands the first sentence of its comment in the sources, and where it
 // is. An enum for each struct has the places of its fields: a map is a block of INT_MAP_SIZE bytes. Maps,
-// slots, pairs, fields and indices have the names of the sources. A name such as r12 is the optimiser's. If
-// several things have one name, a number is added to the name of each but the first.
+// slots, pairs, fields and indices have the names of the sources. Other values are called as the function
+// that they come from, as the field that they are stored in or as the parameter that they become. A name
+// such as r12 is the optimiser's. If several things have one name, a number is added to the name of each
+// but the first.
 //
 // If this prints the SHA-256 that CHANGELOG.md of the repository has for this version, the file is as it
 // was released:
@@ -416,7 +418,6 @@ static inline void rattle_dealloc(char *block) {
 // Result<IntMap<u64, u64, Global>, Cause>
 enum {
     MADE_INT_MAP_HAS_FAILED = 0,
-    MADE_INT_MAP_CAUSE = 1,
     MADE_INT_MAP_MASK = 8,
     MADE_INT_MAP_WORDS = 16,
     MADE_INT_MAP_WORDS_LEN = 24,
@@ -432,6 +433,7 @@ enum {
     MADE_INT_MAP_LEN = 104,
     MADE_INT_MAP_THRESHOLD = 112,
     MADE_INT_MAP_FACTOR = 120,
+    MADE_INT_MAP_CAUSE = 1,
     MADE_INT_MAP_SIZE = 128
 };
 // A hash map from integer keys to values.
@@ -489,7 +491,7 @@ enum {
     SLOTS_SIZE = 96
 };
 // Slots, whose number is a power of two.
-// Table<u64, Kept<u64>, A>, in crates/intmap_table/src/table.rt
+// Table<u64, Kept<u64>, Global>, in crates/intmap_table/src/table.rt
 enum {
     TABLE_MASK = 0,
     TABLE_WORDS = 8,
@@ -523,6 +525,14 @@ enum {
     MADE_BITS_WORDS_ROOM = 24,
     MADE_BITS_SIZE = 32
 };
+// Result<Location<u64>, Refused<u64>>
+enum {
+    MADE_LOCATION_HAS_FAILED = 0,
+    MADE_LOCATION_KEY_OR_VALUE = 8,
+    MADE_LOCATION_SLOT_OR_CAUSE = 16,
+    MADE_LOCATION_PLACE = 24,
+    MADE_LOCATION_SIZE = 32
+};
 // One bit for each index: whether it is marked.
 // Bits<Global>, in crates/intmap_table/src/bits.rt
 enum {
@@ -538,6 +548,20 @@ enum {
     FOUND_PAIR_VALUE = 8,
     FOUND_PAIR_STATUS = 16,
     FOUND_PAIR_SIZE = 24
+};
+// Result<Option<u64>, Refused<u64>>
+enum {
+    MADE_OPTION_HAS_FAILED = 0,
+    MADE_OPTION_HAS_MADE_OR_VALUE = 8,
+    MADE_OPTION_MADE_OR_CAUSE = 16,
+    MADE_OPTION_SIZE = 24
+};
+// Result<usize, (Stored<u64>, Kept<u64>)>
+enum {
+    MADE_USIZE_HAS_FAILED = 0,
+    MADE_USIZE_MADE_OR_KEY = 8,
+    MADE_USIZE_VALUE = 16,
+    MADE_USIZE_SIZE = 24
 };
 // A place for a pair.
 // Node<(Stored<u64>, Kept<u64>)>, in crates/intmap_table/src/linked/node.rt
@@ -587,14 +611,15 @@ static ALWAYS_INLINE struct byte_address intmap_get_counted(char *map, uint64_t 
 static ALWAYS_INLINE struct word_word chain_last_in(char *pool, uint64_t from);
 static ALWAYS_INLINE uint64_t chain_seek(char *pool, uint64_t from, uint64_t place);
 static ALIGNED NOINLINE struct word_word removal_pop_front_of_several(char *slot, uint64_t link, char *pool);
-static ALWAYS_INLINE struct word_word pool_release(char *nodes_at, uint64_t at);
+static ALWAYS_INLINE struct word_word pool_release(char *pool, uint64_t at);
 static ALIGNED NOINLINE void slots_add_empty(char *slots, uint64_t count);
 static COLD bool vec_grow_amortized(char *vec, uint64_t a1);
 static ALIGNED NOINLINE struct byte_word removal_remove_of_several(char *slot, uint64_t link, char *pool, uint64_t key_number);
 static ALWAYS_INLINE void slots_clone(char *result, char *map);
-static ALWAYS_INLINE void bits_clone(char *result, char *words_at);
+static ALWAYS_INLINE void bits_clone(char *result, char *bits);
+static ALWAYS_INLINE void copy_drop_copy_bits(char *a0, char *a1, uint64_t a2);
 static ALIGNED NOINLINE struct byte_word clone_clone_chain(char *pool, uint64_t from, char *made);
-static ALWAYS_INLINE void pool_add_new(char *result, char *nodes_at, uint64_t link, uint64_t a3, uint64_t a4);
+static ALWAYS_INLINE void pool_add_new(char *result, char *pool, uint64_t link, uint64_t pair_key, uint64_t pair_value);
 static ALIGNED uint32_t make_keep(char *handle, char *made);
 static ALIGNED void intmap_of_slots(char *result, uint64_t slots);
 static ALIGNED NOINLINE struct byte_address handle_make_first(void);
@@ -603,11 +628,11 @@ static ALWAYS_INLINE struct byte_word load_wanted_capacity(uint64_t len, uint64_
 static ALIGNED uint8_t slots_enlarge(char *map, uint64_t capacity, uint64_t room);
 static ALWAYS_INLINE uint8_t vec_reserve_exact(char *vec, uint64_t a1);
 static ALWAYS_INLINE void vec_shrink_to_fit(char *slots_at);
-static ALWAYS_INLINE uint64_t refill_put_at(char *slots, char *bits, char *pool, uint64_t index, uint8_t a4, uint64_t a5, uint64_t a6);
-static ALIGNED NOINLINE void growth_put_before_first(char *node, char *nodes_at, uint64_t a2, uint64_t a3);
-static ALIGNED NOINLINE void growth_put_behind_first(char *node, char *nodes_at, uint64_t a2, uint64_t a3);
-static ALIGNED NOINLINE void insertion_push_further(char *result, char *slot, char *pool, uint64_t a3, uint64_t a4);
-static COLD uint64_t insertion_replace_first_of_several(char *slot, uint64_t link, char *pool, uint64_t a3, uint64_t a4);
+static ALWAYS_INLINE uint64_t refill_put_at(char *slots, char *bits, char *pool, uint64_t index, uint8_t order, uint64_t pair_key, uint64_t pair_value);
+static ALIGNED NOINLINE void growth_put_before_first(char *slot, char *pool, uint64_t pair_key, uint64_t pair_value);
+static ALIGNED NOINLINE void growth_put_behind_first(char *slot, char *pool, uint64_t pair_key, uint64_t pair_value);
+static ALIGNED NOINLINE void insertion_push_further(char *result, char *slot, char *pool, uint64_t pair_key, uint64_t pair_value);
+static COLD uint64_t insertion_replace_first_of_several(char *slot, uint64_t link, char *pool, uint64_t new_key, uint64_t new_value);
 static ALIGNED NOINLINE void intmap_insert_otherwise(char *result, char *map, uint64_t slot, uint64_t key_key, uint64_t key_number, uint64_t value);
 static ALWAYS_INLINE struct byte_byte intmap_fit(char *map, uint64_t pairs, uint64_t thousandths, uint64_t sharing);
 static ALWAYS_INLINE void do_intmap_place(char *word, uint64_t key, char *at);
@@ -713,20 +738,20 @@ static ALWAYS_INLINE struct word_word chain_last_in(char *pool, uint64_t from) {
         return made_word_word(NOWHERE, 0);
     }
     char *nodes = load_address(pool + POOL_NODES);
-    uint64_t r3_017 = 0;
-    uint64_t r2_016 = from;
+    uint64_t place = 0;
+    uint64_t at = from;
     for (;;) {
-        char *r11 = nodes + (r2_016 * 24);
-        if (load8(r11) != 1) {
+        char *node = nodes + (at * NODE_SIZE);
+        if (load8(node + NODE_HAS_PAIR) != 1) {
             abort(); // The proof excludes this.
         }
-        uint16_t r19 = load16(r11 + 2);
-        uint64_t r14 = r3_017 + 1;
-        if (r19 == NOWHERE_HIGH) {
-            return made_word_word(r2_016, r14);
+        uint16_t high = load16(node + NODE_HIGH);
+        uint64_t next_place = place + 1;
+        if (high == NOWHERE_HIGH) {
+            return made_word_word(at, next_place);
         }
-        r3_017 = r14;
-        r2_016 = link_of(r19, load32(r11 + 4));
+        place = next_place;
+        at = link_of(high, load32(node + NODE_LOW));
     }
 }
 
@@ -738,19 +763,19 @@ static ALWAYS_INLINE uint64_t chain_seek(char *pool, uint64_t from, uint64_t pla
     }
     char *nodes = load_address(pool + POOL_NODES);
     uint64_t at = from;
-    uint64_t r2_014 = 0;
+    uint64_t place_2 = 0;
     for (;;) {
         char *node = nodes + (at * NODE_SIZE);
         if (load8(node + NODE_HAS_PAIR) != 1) {
             abort(); // The proof excludes this.
         }
         uint64_t link = link_of(load16(node + NODE_HIGH), load32(node + NODE_LOW));
-        uint64_t r12 = r2_014 + 1;
-        if (r12 == place) {
+        uint64_t next_place = place_2 + 1;
+        if (next_place == place) {
             return link;
         }
         at = link;
-        r2_014 = r12;
+        place_2 = next_place;
     }
 }
 
@@ -763,7 +788,7 @@ static ALIGNED NOINLINE struct word_word removal_pop_front_of_several(char *slot
     }
     uint16_t high = load16(node + NODE_HIGH);
     uint32_t low = load32(node + NODE_LOW);
-    struct word_word r11 = pool_release(pool, link);
+    struct word_word release = pool_release(pool, link);
     if (load8(slot + NODE_HAS_PAIR) != 1) {
         abort(); // The proof excludes this.
     }
@@ -771,16 +796,16 @@ static ALIGNED NOINLINE struct word_word removal_pop_front_of_several(char *slot
     store32(slot + NODE_LOW, low);
     uint64_t key = load64(slot + NODE_KEY);
     uint64_t value = load64(slot + NODE_VALUE);
-    store64(slot + NODE_KEY, r11.first);
-    store64(slot + NODE_VALUE, r11.second);
+    store64(slot + NODE_KEY, release.first);
+    store64(slot + NODE_VALUE, release.second);
     return made_word_word(key, value);
 }
 
 // Removes the pair of a node, which is used again before any other one that is free.
 // intmap_table::linked::pool::Pool::release, in crates/intmap_table/src/linked/pool.rt
-static ALWAYS_INLINE struct word_word pool_release(char *nodes_at, uint64_t at) {
-    char *node = load_address(nodes_at + POOL_NODES) + (at * NODE_SIZE);
-    uint64_t free = load64(nodes_at + POOL_FREE);
+static ALWAYS_INLINE struct word_word pool_release(char *pool, uint64_t at) {
+    char *node = load_address(pool + POOL_NODES) + (at * NODE_SIZE);
+    uint64_t free = load64(pool + POOL_FREE);
     uint64_t key = load64(node + NODE_KEY);
     uint64_t value = load64(node + NODE_VALUE);
     uint8_t has_pair = load8(node + NODE_HAS_PAIR);
@@ -791,8 +816,8 @@ static ALWAYS_INLINE struct word_word pool_release(char *nodes_at, uint64_t at) 
     if (has_pair != 1) {
         abort(); // The proof excludes this.
     }
-    store64(nodes_at + POOL_FREE, at);
-    store64(nodes_at + POOL_SPARE, load64(nodes_at + POOL_SPARE) + 1);
+    store64(pool + POOL_FREE, at);
+    store64(pool + POOL_SPARE, load64(pool + POOL_SPARE) + 1);
     return made_word_word(key, value);
 }
 
@@ -810,8 +835,8 @@ static ALIGNED NOINLINE void slots_add_empty(char *slots, uint64_t count) {
     }
     uint64_t r30 = count - len;
     if (r30 > (load64(slots + VEC_ROOM) - len)) {
-        bool r24 = vec_grow_amortized(slots, r30);
-        if (!r24) {
+        bool grow_amortized = vec_grow_amortized(slots, r30);
+        if (!grow_amortized) {
             return;
         }
         len_2 = load64(slots + VEC_LEN);
@@ -821,47 +846,47 @@ static ALIGNED NOINLINE void slots_add_empty(char *slots, uint64_t count) {
     if (len_2 >= count) {
         return;
     }
-    uint64_t r2 = len_2;
+    uint64_t at = len_2;
     for (;;) {
-        uint64_t r41 = r2 + 1;
-        memset(load_address(slots + VEC_ADDRESS) + (r2 * 24), 0, 24);
-        store64(slots + VEC_LEN, r41);
-        if (r41 == count) {
+        uint64_t next_at = at + 1;
+        memset(load_address(slots + VEC_ADDRESS) + (at * NODE_SIZE), 0, NODE_SIZE);
+        store64(slots + VEC_LEN, next_at);
+        if (next_at == count) {
             return;
         }
-        r2 = r41;
+        at = next_at;
     }
 }
 
 // std_alloc::vec::Vec::grow_amortized, in Rattle's library std_alloc
 static COLD bool vec_grow_amortized(char *vec, uint64_t a1) {
-    struct word_word r0;
+    struct word_word block_2;
     uint64_t len = load64(vec + VEC_LEN);
     if (a1 > (~len)) {
         return false;
     }
     uint64_t room = load64(vec + VEC_ROOM);
-    uint64_t a2_a1 = greater(len + a1, 4);
-    uint64_t x0 = greater(a2_a1, room << 1);
-    uint64_t common_ret_op = (room < UINT64_C(4611686018427387904)) ? x0 : a2_a1;
-    if (common_ret_op >= TOO_MANY(24)) {
+    uint64_t most = greater(len + a1, 4);
+    uint64_t most_2 = greater(most, room << 1);
+    uint64_t most_3 = (room < UINT64_C(4611686018427387904)) ? most_2 : most;
+    if (most_3 >= TOO_MANY(24)) {
         return false;
     }
     if (room == 0) {
-        struct word_word block = rattle_alloc(x0 * 24, 8);
+        struct word_word block = rattle_alloc(most_2 * 24, 8);
         if ((block.first & 1) == 0) {
             return false;
         }
-        r0 = block;
+        block_2 = block;
     } else {
-        struct word_word block_2 = rattle_realloc(load_address(vec + VEC_ADDRESS), len * 24, common_ret_op * 24, 8);
-        if ((block_2.first & 1) == 0) {
+        struct word_word block_3 = rattle_realloc(load_address(vec + VEC_ADDRESS), len * 24, most_3 * 24, 8);
+        if ((block_3.first & 1) == 0) {
             return false;
         }
-        r0 = block_2;
+        block_2 = block_3;
     }
-    store_address(vec + VEC_ADDRESS, (char *)(uintptr_t)r0.second);
-    store64(vec + VEC_ROOM, common_ret_op);
+    store_address(vec + VEC_ADDRESS, (char *)(uintptr_t)block_2.second);
+    store64(vec + VEC_ROOM, most_3);
     return true;
 }
 
@@ -872,7 +897,7 @@ static ALIGNED NOINLINE struct byte_word removal_remove_of_several(char *slot, u
         abort(); // The proof excludes this.
     }
     if (load64(slot + NODE_KEY) == key_number) {
-        struct word_word r11_2, r11_4;
+        struct word_word release_2, release_4;
         uint32_t low_2;
         char *nodes = load_address(pool + POOL_NODES);
         char *node = nodes + (link * NODE_SIZE);
@@ -882,8 +907,8 @@ static ALIGNED NOINLINE struct byte_word removal_remove_of_several(char *slot, u
         uint16_t high = load16(node + NODE_HIGH);
         uint32_t low = load32(node + NODE_LOW);
         if (high == NOWHERE_HIGH) {
-            struct word_word r11 = pool_release(pool, link);
-            r11_2 = r11;
+            struct word_word release = pool_release(pool, link);
+            release_2 = release;
             low_2 = low;
         } else {
             uint64_t at = link_of(high, low);
@@ -896,9 +921,9 @@ static ALIGNED NOINLINE struct byte_word removal_remove_of_several(char *slot, u
                 uint16_t high_2 = load16(node_2 + NODE_HIGH);
                 uint32_t low_3 = load32(node_2 + NODE_LOW);
                 if (high_2 == NOWHERE_HIGH) {
-                    struct word_word r11_3 = pool_release(pool, at);
-                    if (at_2 > UINT64_C(281470681743359)) {
-                        r11_2 = r11_3;
+                    struct word_word release_3 = pool_release(pool, at);
+                    if (at_2 >= NODE_LIMIT) {
+                        release_2 = release_3;
                         low_2 = low_3;
                         break;
                     }
@@ -911,7 +936,7 @@ static ALIGNED NOINLINE struct byte_word removal_remove_of_several(char *slot, u
                     if (load8(slot + NODE_HAS_PAIR) != 1) {
                         abort(); // The proof excludes this.
                     }
-                    r11_4 = r11_3;
+                    release_4 = release_3;
                     goto after_removal_swap_remove_first;
                 }
                 at_2 = at;
@@ -923,11 +948,11 @@ static ALIGNED NOINLINE struct byte_word removal_remove_of_several(char *slot, u
         }
         store16(slot + NODE_HIGH, NOWHERE_HIGH);
         store32(slot + NODE_LOW, low_2);
-        r11_4 = r11_2;
+        release_4 = release_2;
     after_removal_swap_remove_first:;
         uint64_t value = load64(slot + NODE_VALUE);
-        store64(slot + NODE_KEY, r11_4.first);
-        store64(slot + NODE_VALUE, r11_4.second);
+        store64(slot + NODE_KEY, release_4.first);
+        store64(slot + NODE_VALUE, release_4.second);
         return made_byte_word(1, value);
     }
     uint64_t nodes_len = load64(pool + POOL_NODES_LEN);
@@ -938,15 +963,15 @@ static ALIGNED NOINLINE struct byte_word removal_remove_of_several(char *slot, u
     uint64_t at_3 = link;
     uint64_t at_4 = NOWHERE;
     for (;;) {
-        uint64_t r8 = at_3 * NODE_SIZE;
-        char *node_4 = nodes_2 + r8;
+        uint64_t offset = at_3 * NODE_SIZE;
+        char *node_4 = nodes_2 + offset;
         if (load8(node_4 + NODE_HAS_PAIR) != 1) {
             return made_byte_word(0, 0);
         }
         if (load64(node_4 + NODE_KEY) == key_number) {
             uint32_t low_5;
             uint64_t at_5, at_6;
-            struct word_word r40_1_merged;
+            struct word_word release_6;
             uint16_t high_3 = load16(node_4 + NODE_HIGH);
             uint32_t low_4 = load32(node_4 + NODE_LOW);
             if (high_3 == NOWHERE_HIGH) {
@@ -973,8 +998,8 @@ static ALIGNED NOINLINE struct byte_word removal_remove_of_several(char *slot, u
                     at_7 = link_of(high_4, low_6);
                 }
             }
-            struct word_word r11_5 = pool_release(pool, at_6);
-            if (at_5 > UINT64_C(281470681743359)) {
+            struct word_word release_5 = pool_release(pool, at_6);
+            if (at_5 >= NODE_LIMIT) {
                 if (load8(slot + NODE_HAS_PAIR) != 1) {
                     abort(); // The proof excludes this.
                 }
@@ -989,19 +1014,19 @@ static ALIGNED NOINLINE struct byte_word removal_remove_of_several(char *slot, u
                 store32(node_6 + NODE_LOW, low_5);
             }
             if (at_6 == at_3) {
-                r40_1_merged = r11_5;
+                release_6 = release_5;
             } else {
-                char *node_7 = load_address(pool + POOL_NODES) + r8;
+                char *node_7 = load_address(pool + POOL_NODES) + offset;
                 if (load8(node_7 + NODE_HAS_PAIR) != 1) {
                     abort(); // The proof excludes this.
                 }
                 uint64_t key = load64(node_7 + NODE_KEY);
                 uint64_t value_2 = load64(node_7 + NODE_VALUE);
-                store64(node_7 + NODE_KEY, r11_5.first);
-                store64(node_7 + NODE_VALUE, r11_5.second);
-                r40_1_merged = made_word_word(key, value_2);
+                store64(node_7 + NODE_KEY, release_5.first);
+                store64(node_7 + NODE_VALUE, release_5.second);
+                release_6 = made_word_word(key, value_2);
             }
-            return made_byte_word(1, r40_1_merged.second);
+            return made_byte_word(1, release_6.second);
         }
         uint64_t link_2 = link_of(load16(node_4 + NODE_HIGH), load32(node_4 + NODE_LOW));
         if (nodes_len <= link_2) {
@@ -1015,23 +1040,23 @@ static ALIGNED NOINLINE struct byte_word removal_remove_of_several(char *slot, u
 // The same keys in the same slots, with clones of their values.
 // intmap_table::table::slots::Slots::clone, in crates/intmap_table/src/table/slots/clone.rt
 static ALWAYS_INLINE void slots_clone(char *result, char *map) {
-    char *r15;
+    char *address;
     char *dangling = (char *)no_bytes;
     uint64_t vec_room[3];
     char *vec = (char *)vec_room;
-    uint64_t nodes_at_room[5];
-    char *nodes_at = (char *)nodes_at_room;
-    uint64_t has_failed_at_room[4];
-    char *has_failed_at = (char *)has_failed_at_room;
-    store64(nodes_at + POOL_SPARE, 0);
-    memset(has_failed_at, 0, MADE_BITS_SIZE);
+    uint64_t pool_room[5];
+    char *pool = (char *)pool_room;
+    uint64_t made_bits_room[4];
+    char *made_bits = (char *)made_bits_room;
+    store64(pool + POOL_SPARE, 0);
+    memset(made_bits, 0, MADE_BITS_SIZE);
     uint64_t slots_len = load64(map + INT_MAP_SLOTS_LEN);
-    bool r12 = slots_len == 0;
-    if (!r12) {
+    bool slots_len_is_0 = slots_len == 0;
+    if (!slots_len_is_0) {
         if (slots_len < TOO_MANY(24)) {
             struct word_word block = rattle_alloc(slots_len * 24, 8);
             if ((block.first & 1) != 0) {
-                r15 = (char *)(uintptr_t)block.second;
+                address = (char *)(uintptr_t)block.second;
                 goto arm_1;
             }
         }
@@ -1039,43 +1064,43 @@ static ALWAYS_INLINE void slots_clone(char *result, char *map) {
         memset(result + MADE_SLOTS_MASK, 0, SLOTS_SIZE);
         return;
     }
-    r15 = dangling;
+    address = dangling;
 arm_1:;
-    store_address(vec + VEC_ADDRESS, r15);
+    store_address(vec + VEC_ADDRESS, address);
     store64(vec + VEC_LEN, 0);
     store64(vec + VEC_ROOM, slots_len);
-    bits_clone(has_failed_at, map + INT_MAP_WORDS);
-    if (load8(has_failed_at + MADE_BITS_HAS_FAILED) != 0) {
-        if (!r12) {
-            rattle_dealloc(r15);
+    bits_clone(made_bits, map + INT_MAP_WORDS);
+    if (load8(made_bits + MADE_BITS_HAS_FAILED) != 0) {
+        if (!slots_len_is_0) {
+            rattle_dealloc(address);
         }
         store8(result + MADE_SLOTS_HAS_FAILED, 1);
         memset(result + MADE_SLOTS_MASK, 0, SLOTS_SIZE);
         return;
     }
-    char *words = load_address(has_failed_at + MADE_BITS_WORDS);
-    uint64_t words_len = load64(has_failed_at + MADE_BITS_WORDS_LEN);
-    uint64_t words_room = load64(has_failed_at + MADE_BITS_WORDS_ROOM);
+    char *words = load_address(made_bits + MADE_BITS_WORDS);
+    uint64_t words_len = load64(made_bits + MADE_BITS_WORDS_LEN);
+    uint64_t words_room = load64(made_bits + MADE_BITS_WORDS_ROOM);
     uint64_t nodes_len = load64(map + INT_MAP_NODES_LEN);
     uint64_t spare = load64(map + INT_MAP_SPARE);
-    uint64_t r10 = nodes_len - spare;
-    if (r10 <= NODE_LIMIT) {
-        char *r24;
+    uint64_t nodes_room = nodes_len - spare;
+    if (nodes_room <= NODE_LIMIT) {
+        char *nodes;
         uint64_t bits;
         if (nodes_len == spare) {
-            r24 = dangling;
+            nodes = dangling;
         } else {
-            struct word_word block_2 = rattle_alloc(r10 * 24, 8);
+            struct word_word block_2 = rattle_alloc(nodes_room * 24, 8);
             if ((block_2.first & 1) == 0) {
                 goto arm_9;
             }
-            r24 = (char *)(uintptr_t)block_2.second;
+            nodes = (char *)(uintptr_t)block_2.second;
         }
-        store_address(nodes_at + POOL_NODES, r24);
-        store64(nodes_at + POOL_NODES_LEN, 0);
-        store64(nodes_at + POOL_NODES_ROOM, r10);
-        store64(nodes_at + POOL_FREE, NOWHERE);
-        store64(nodes_at + POOL_SPARE, 0);
+        store_address(pool + POOL_NODES, nodes);
+        store64(pool + POOL_NODES_LEN, 0);
+        store64(pool + POOL_NODES_ROOM, nodes_room);
+        store64(pool + POOL_FREE, NOWHERE);
+        store64(pool + POOL_SPARE, 0);
         char *slots = load_address(map + INT_MAP_SLOTS);
         uint64_t slots_len_2 = load64(map + INT_MAP_SLOTS_LEN);
         if (load64(map + INT_MAP_WORDS_LEN) == 0) {
@@ -1083,18 +1108,18 @@ arm_1:;
         } else {
             bits = load64(load_address(map + INT_MAP_WORDS));
         }
-        uint64_t r4 = 0;
-        uint64_t r4_2 = bits;
+        uint64_t word = 0;
+        uint64_t bits_2 = bits;
         for (;;) {
-            uint64_t r4_4, r4_5;
-            uint16_t r19;
-            uint32_t r19_2;
-            if (r4_2 == 0) {
+            uint64_t word_4, bits_4;
+            uint16_t high_2;
+            uint32_t low;
+            if (bits_2 == 0) {
                 uint64_t words_len_2 = load64(map + INT_MAP_WORDS_LEN);
-                uint64_t r4_3 = r4;
+                uint64_t word_2 = word;
                 for (;;) {
-                    uint64_t r26 = r4_3 + 1;
-                    if (words_len_2 <= r26) {
+                    uint64_t word_3 = word_2 + 1;
+                    if (words_len_2 <= word_3) {
                         slots_add_empty(vec, slots_len_2);
                         uint64_t mask = load64(map + INT_MAP_MASK);
                         store8(result + MADE_SLOTS_HAS_FAILED, 0);
@@ -1103,30 +1128,30 @@ arm_1:;
                         store64(result + MADE_SLOTS_WORDS_LEN, words_len);
                         store64(result + MADE_SLOTS_WORDS_ROOM, words_room);
                         memcpy(result + MADE_SLOTS_SLOTS, vec, VEC_SIZE);
-                        memcpy(result + MADE_SLOTS_NODES, nodes_at, POOL_SIZE);
+                        memcpy(result + MADE_SLOTS_NODES, pool, POOL_SIZE);
                         return;
                     }
-                    uint64_t bits_2 = load64(load_address(map + INT_MAP_WORDS) + (r26 << 3));
-                    if (bits_2 != 0) {
-                        r4_4 = r26;
-                        r4_5 = bits_2;
+                    uint64_t bits_3 = load64(load_address(map + INT_MAP_WORDS) + (word_3 << 3));
+                    if (bits_3 != 0) {
+                        word_4 = word_3;
+                        bits_4 = bits_3;
                         break;
                     }
-                    r4_3 = r26;
+                    word_2 = word_3;
                 }
             } else {
-                r4_4 = r4;
-                r4_5 = r4_2;
+                word_4 = word;
+                bits_4 = bits_2;
             }
-            uint64_t r49 = place_of_lowest_1(r4_5);
-            uint64_t at = r49 | (r4_4 << 6);
-            uint64_t r64 = (r4_5 - 1) & r4_5;
+            uint64_t lowest = place_of_lowest_1(bits_4);
+            uint64_t at = lowest | (word_4 << 6);
+            uint64_t bits_5 = (bits_4 - 1) & bits_4;
             if (load64(vec + VEC_LEN) <= at) {
-                uint64_t a1_a0 = lesser(at + 64, slots_len_2);
-                slots_add_empty(vec, a1_a0);
+                uint64_t least = lesser(at + 64, slots_len_2);
+                slots_add_empty(vec, least);
             }
-            uint64_t r63 = at * NODE_SIZE;
-            char *node = slots + r63;
+            uint64_t offset = at * NODE_SIZE;
+            char *node = slots + offset;
             if (load8(node + NODE_HAS_PAIR) != 1) {
                 abort(); // The proof excludes this.
             }
@@ -1134,13 +1159,13 @@ arm_1:;
             uint64_t value = load64(node + NODE_VALUE);
             uint64_t key = load64(node + NODE_KEY);
             if (high == NOWHERE_HIGH) {
-                r19 = NOWHERE_HIGH;
-                r19_2 = NOWHERE_LOW;
+                high_2 = NOWHERE_HIGH;
+                low = NOWHERE_LOW;
             } else {
-                struct byte_word r72 = clone_clone_chain(map + INT_MAP_NODES, link_of(high, load32(node + NODE_LOW)), nodes_at);
-                if (r72.first != 0) {
-                    if (load64(nodes_at + POOL_NODES_ROOM) != 0) {
-                        rattle_dealloc(load_address(nodes_at + POOL_NODES));
+                struct byte_word clone_chain = clone_clone_chain(map + INT_MAP_NODES, link_of(high, load32(node + NODE_LOW)), pool);
+                if (clone_chain.first != 0) {
+                    if (load64(pool + POOL_NODES_ROOM) != 0) {
+                        rattle_dealloc(load_address(pool + POOL_NODES));
                     }
                     if (words_room != 0) {
                         rattle_dealloc(words);
@@ -1152,25 +1177,25 @@ arm_1:;
                     memset(result + MADE_SLOTS_MASK, 0, SLOTS_SIZE);
                     return;
                 }
-                r19 = (uint16_t)(r72.second >> 32);
-                r19_2 = (uint32_t)r72.second;
+                high_2 = (uint16_t)(clone_chain.second >> 32);
+                low = (uint32_t)clone_chain.second;
             }
-            char *r9 = load_address(vec + VEC_ADDRESS) + r63;
-            store16(r9, 1);
-            store16(r9 + 2, r19);
-            store32(r9 + 4, r19_2);
-            store64(r9 + 8, key);
-            store64(r9 + 16, value);
-            r4 = r4_4;
-            r4_2 = r64;
+            char *node_2 = load_address(vec + VEC_ADDRESS) + offset;
+            store16(node_2 + NODE_HAS_PAIR, 1);
+            store16(node_2 + NODE_HIGH, high_2);
+            store32(node_2 + NODE_LOW, low);
+            store64(node_2 + NODE_KEY, key);
+            store64(node_2 + NODE_VALUE, value);
+            word = word_4;
+            bits_2 = bits_5;
         }
     }
 arm_9:;
     if (words_room != 0) {
         rattle_dealloc(words);
     }
-    if (!r12) {
-        rattle_dealloc(r15);
+    if (!slots_len_is_0) {
+        rattle_dealloc(address);
     }
     store8(result + MADE_SLOTS_HAS_FAILED, 1);
     memset(result + MADE_SLOTS_MASK, 0, SLOTS_SIZE);
@@ -1178,58 +1203,60 @@ arm_9:;
 
 // A copy of the marks.
 // intmap_table::bits::Bits::clone, in crates/intmap_table/src/bits.rt
-static ALWAYS_INLINE void bits_clone(char *result, char *words_at) {
-    char *r9_45_0_ph34, *r5;
-    uint64_t r7_pre_phi33;
+static ALWAYS_INLINE void bits_clone(char *result, char *bits) {
+    char *words_2;
     char *dangling = (char *)no_bytes;
-    char *words = load_address(words_at + BITS_WORDS);
-    uint64_t words_len = load64(words_at + BITS_WORDS_LEN);
+    char *words = load_address(bits + BITS_WORDS);
+    uint64_t words_len = load64(bits + BITS_WORDS_LEN);
     if (words_len != 0) {
         if (words_len < TOO_MANY(8)) {
-            uint64_t r19 = words_len << 3;
-            struct word_word block = rattle_alloc(r19, 8);
+            struct word_word block = rattle_alloc(words_len << 3, 8);
             if ((block.first & 1) != 0) {
-                char *r8 = (char *)(uintptr_t)block.second;
-                if ((block.second - ((uint64_t)(uintptr_t)words)) >= r19) {
-                    r9_45_0_ph34 = r8;
-                    r7_pre_phi33 = r19;
-                    goto apart_2;
-                }
-                uint64_t r0_05 = 0;
-                for (;;) {
-                    uint64_t r18 = r0_05 << 3;
-                    store64(r8 + r18, load64(words + r18));
-                    uint64_t r30 = r0_05 + 1;
-                    if (r30 == words_len) {
-                        r5 = r8;
-                        goto arm_1_2;
-                    }
-                    r0_05 = r30;
-                }
+                words_2 = (char *)(uintptr_t)block.second;
+                goto arm_1;
             }
         }
         store8(result + MADE_BITS_HAS_FAILED, 1);
         memset(result + MADE_BITS_WORDS, 0, BITS_SIZE);
         return;
     }
-    r9_45_0_ph34 = dangling;
-    r7_pre_phi33 = 0;
-apart_2:;
-    memmove(r9_45_0_ph34, words, r7_pre_phi33);
-    r5 = r9_45_0_ph34;
-arm_1_2:;
+    words_2 = dangling;
+arm_1:;
+    copy_drop_copy_bits(words, words_2, words_len);
     store8(result + MADE_BITS_HAS_FAILED, 0);
-    store_address(result + MADE_BITS_WORDS, r5);
+    store_address(result + MADE_BITS_WORDS, words_2);
     store64(result + MADE_BITS_WORDS_LEN, words_len);
     store64(result + MADE_BITS_WORDS_ROOM, words_len);
+}
+
+// core::ptr::copy_drop::copy_bits, in Rattle's library core
+static ALWAYS_INLINE void copy_drop_copy_bits(char *a0, char *a1, uint64_t a2) {
+    uint64_t r7 = a2 << 3;
+    if ((((uint64_t)(uintptr_t)a1) - ((uint64_t)(uintptr_t)a0)) >= r7) {
+        memmove(a1, a0, r7);
+        return;
+    }
+    if (a2 == 0) {
+        return;
+    }
+    uint64_t word = 0;
+    for (;;) {
+        uint64_t offset = word << 3;
+        store64(a1 + offset, load64(a0 + offset));
+        uint64_t next_word = word + 1;
+        if (next_word == a2) {
+            return;
+        }
+        word = next_word;
+    }
 }
 
 // Puts clones of the pairs that a link leads through, of which there is at least one, into new nodes of `made`, in
 // their order, and returns the link to them.
 // intmap_table::table::slots::clone::clone_chain, in crates/intmap_table/src/table/slots/clone.rt
 static ALIGNED NOINLINE struct byte_word clone_clone_chain(char *pool, uint64_t from, char *made) {
-    uint64_t r13_room[3];
-    char *r13 = (char *)r13_room;
+    uint64_t made_usize_room[3];
+    char *made_usize = (char *)made_usize_room;
     uint64_t r10 = load64(made + POOL_NODES_LEN) - load64(made + POOL_SPARE);
     uint64_t at = from;
     for (;;) {
@@ -1243,8 +1270,8 @@ static ALIGNED NOINLINE struct byte_word clone_clone_chain(char *pool, uint64_t 
         }
         uint16_t high = load16(node + NODE_HIGH);
         uint64_t link = link_of(high, load32(node + NODE_LOW));
-        pool_add_new(r13, made, (high == NOWHERE_HIGH) ? NOWHERE : ((load64(made + POOL_NODES_LEN) + 1) - load64(made + POOL_SPARE)), load64(node + NODE_KEY), load64(node + NODE_VALUE));
-        if (load8(r13) != 0) {
+        pool_add_new(made_usize, made, (high == NOWHERE_HIGH) ? NOWHERE : ((load64(made + POOL_NODES_LEN) + 1) - load64(made + POOL_SPARE)), load64(node + NODE_KEY), load64(node + NODE_VALUE));
+        if (load8(made_usize + MADE_USIZE_HAS_FAILED) != 0) {
             return made_byte_word(1, 0);
         }
         at = link;
@@ -1253,35 +1280,35 @@ static ALIGNED NOINLINE struct byte_word clone_clone_chain(char *pool, uint64_t 
 
 // Puts a pair with a link into a new node behind the others, none of which may be free, and returns which.
 // intmap_table::linked::pool::Pool::add_new, in crates/intmap_table/src/linked/pool.rt
-static ALWAYS_INLINE void pool_add_new(char *result, char *nodes_at, uint64_t link, uint64_t a3, uint64_t a4) {
-    uint64_t nodes_len = load64(nodes_at + POOL_NODES_LEN);
+static ALWAYS_INLINE void pool_add_new(char *result, char *pool, uint64_t link, uint64_t pair_key, uint64_t pair_value) {
+    uint64_t nodes_len = load64(pool + POOL_NODES_LEN);
     if (nodes_len != NODE_LIMIT) {
-        uint64_t nodes_len_2;
-        if (load64(nodes_at + POOL_NODES_ROOM) == nodes_len) {
-            bool r24 = vec_grow_amortized(nodes_at, 1);
-            if (!r24) {
+        uint64_t at;
+        if (load64(pool + POOL_NODES_ROOM) == nodes_len) {
+            bool grow_amortized = vec_grow_amortized(pool, 1);
+            if (!grow_amortized) {
                 goto join_5;
             }
-            nodes_len_2 = load64(nodes_at + POOL_NODES_LEN);
+            at = load64(pool + POOL_NODES_LEN);
         } else {
-            nodes_len_2 = nodes_len;
+            at = nodes_len;
         }
-        char *r22 = load_address(nodes_at + POOL_NODES) + (nodes_len_2 * 24);
-        store16(r22, 1);
-        store16(r22 + 2, (uint16_t)(link >> 32));
-        store32(r22 + 4, (uint32_t)link);
-        store64(r22 + 8, a3);
-        store64(r22 + 16, a4);
-        store64(nodes_at + POOL_NODES_LEN, nodes_len_2 + 1);
-        store64(result, 0);
-        store64(result + 8, nodes_len);
-        store64(result + 16, 0);
+        char *node = load_address(pool + POOL_NODES) + (at * NODE_SIZE);
+        store16(node + NODE_HAS_PAIR, 1);
+        store16(node + NODE_HIGH, (uint16_t)(link >> 32));
+        store32(node + NODE_LOW, (uint32_t)link);
+        store64(node + NODE_KEY, pair_key);
+        store64(node + NODE_VALUE, pair_value);
+        store64(pool + POOL_NODES_LEN, at + 1);
+        store64(result + MADE_USIZE_HAS_FAILED, 0);
+        store64(result + MADE_USIZE_MADE_OR_KEY, nodes_len);
+        store64(result + MADE_USIZE_VALUE, 0);
         return;
     }
 join_5:;
-    store64(result, 1);
-    store64(result + 8, a3);
-    store64(result + 16, a4);
+    store64(result + MADE_USIZE_HAS_FAILED, 1);
+    store64(result + MADE_USIZE_MADE_OR_KEY, pair_key);
+    store64(result + MADE_USIZE_VALUE, pair_value);
 }
 
 // Puts a new map into the handle and returns `OK`.
@@ -1362,10 +1389,10 @@ static ALIGNED uint32_t make_keep(char *handle, char *made) {
 // An empty map of `slots` slots.
 // intmap::map::IntMap::of_slots, in crates/intmap/src/map/build.rt
 static ALIGNED void intmap_of_slots(char *result, uint64_t slots) {
-    char *r12_2, *r15, *r4_3, *dangling_2;
-    uint64_t r4_0, r15_2, r4_2, r4_4, r4_5, r4_6, r4_7, r4_8;
+    char *address, *address_2, *words, *nodes;
+    uint64_t r4_2, r15, mask, words_len, words_room, free, threshold, factor;
     u128 r17;
-    uint8_t r3_2;
+    uint8_t has_failed;
     char *dangling = (char *)no_bytes;
     uint64_t vec_room[3];
     char *vec = (char *)vec_room;
@@ -1377,9 +1404,9 @@ static ALIGNED void intmap_of_slots(char *result, uint64_t slots) {
     char *r4 = (char *)r4_room;
     memset(vec_3, 0, VEC_SIZE);
     memset(r4, 0, 16);
-    bool r12 = slots == 0;
-    if (r12) {
-        r12_2 = dangling;
+    bool slots_is_0 = slots == 0;
+    if (slots_is_0) {
+        address = dangling;
     } else {
         if (slots >= TOO_MANY(24)) {
             goto after_Table_new;
@@ -1388,73 +1415,73 @@ static ALIGNED void intmap_of_slots(char *result, uint64_t slots) {
         if ((block.first & 1) == 0) {
             goto after_Table_new;
         }
-        r12_2 = (char *)(uintptr_t)block.second;
+        address = (char *)(uintptr_t)block.second;
     }
-    store_address(vec + VEC_ADDRESS, r12_2);
+    store_address(vec + VEC_ADDRESS, address);
     store64(vec + VEC_LEN, 0);
     store64(vec + VEC_ROOM, slots);
-    r4_0 = (slots >> 6) + ((uint64_t)((slots & 63) != 0));
-    if (r12) {
-        r15 = dangling;
-        r15_2 = 0;
+    r4_2 = (slots >> 6) + ((uint64_t)((slots & 63) != 0));
+    if (slots_is_0) {
+        address_2 = dangling;
+        r15 = 0;
     } else {
         uint64_t r3;
-        uint64_t r19 = r4_0 << 3;
-        struct word_word block_2 = rattle_alloc(r19, 8);
+        uint64_t size = r4_2 << 3;
+        struct word_word block_2 = rattle_alloc(size, 8);
         if ((block_2.first & 1) == 0) {
-            rattle_dealloc(r12_2);
+            rattle_dealloc(address);
             goto after_Table_new;
         }
-        char *r8 = (char *)(uintptr_t)block_2.second;
-        if (r4_0 == 1) {
+        char *address_3 = (char *)(uintptr_t)block_2.second;
+        if (r4_2 == 1) {
             r3 = 0;
         } else {
-            memset(r8, 0, r19 - 8);
-            r3 = r4_0 - 1;
+            memset(address_3, 0, size - 8);
+            r3 = r4_2 - 1;
         }
-        store64(r8 + (r3 << 3), 0);
-        r15 = r8;
-        r15_2 = r3 + 1;
+        store64(address_3 + (r3 << 3), 0);
+        address_2 = address_3;
+        r15 = r3 + 1;
     }
     slots_add_empty(vec, slots);
     memcpy(vec_2, vec, VEC_SIZE);
     r17 = u128_less_one(u128_mul(u128_of(slots), u128_of(910u)));
     memcpy(vec_3, vec_2, VEC_SIZE);
     memset(r4, 0, 16);
-    r3_2 = 0;
-    r4_2 = slots - 1;
-    r4_3 = r15;
-    r4_4 = r15_2;
-    r4_5 = r4_0;
-    dangling_2 = dangling;
-    r4_6 = NOWHERE;
-    r4_7 = u128_above(r17, u128_two(999, UINT64_MAX)) ? UINT64_MAX : u128_low(u128_div(r17, u128_of(1000u)));
-    r4_8 = 909;
+    has_failed = 0;
+    mask = slots - 1;
+    words = address_2;
+    words_len = r15;
+    words_room = r4_2;
+    nodes = dangling;
+    free = NOWHERE;
+    threshold = u128_above(r17, u128_two(999, UINT64_MAX)) ? UINT64_MAX : u128_low(u128_div(r17, u128_of(1000u)));
+    factor = 909;
     goto join_4;
 after_Table_new:;
-    r3_2 = 1;
-    r4_2 = 0;
-    r4_3 = NULL;
-    r4_4 = 0;
-    r4_5 = 0;
-    dangling_2 = NULL;
-    r4_6 = 0;
-    r4_7 = 0;
-    r4_8 = 0;
+    has_failed = 1;
+    mask = 0;
+    words = NULL;
+    words_len = 0;
+    words_room = 0;
+    nodes = NULL;
+    free = 0;
+    threshold = 0;
+    factor = 0;
 join_4:;
-    store8(result + MADE_INT_MAP_HAS_FAILED, r3_2);
+    store8(result + MADE_INT_MAP_HAS_FAILED, has_failed);
     store8(result + MADE_INT_MAP_CAUSE, 0);
-    store64(result + MADE_INT_MAP_MASK, r4_2);
-    store_address(result + MADE_INT_MAP_WORDS, r4_3);
-    store64(result + MADE_INT_MAP_WORDS_LEN, r4_4);
-    store64(result + MADE_INT_MAP_WORDS_ROOM, r4_5);
+    store64(result + MADE_INT_MAP_MASK, mask);
+    store_address(result + MADE_INT_MAP_WORDS, words);
+    store64(result + MADE_INT_MAP_WORDS_LEN, words_len);
+    store64(result + MADE_INT_MAP_WORDS_ROOM, words_room);
     memcpy(result + MADE_INT_MAP_SLOTS, vec_3, VEC_SIZE);
-    store_address(result + MADE_INT_MAP_NODES, dangling_2);
+    store_address(result + MADE_INT_MAP_NODES, nodes);
     memcpy(result + MADE_INT_MAP_NODES_LEN, r4, 16);
-    store64(result + MADE_INT_MAP_FREE, r4_6);
+    store64(result + MADE_INT_MAP_FREE, free);
     memset(result + MADE_INT_MAP_SPARE, 0, 16);
-    store64(result + MADE_INT_MAP_THRESHOLD, r4_7);
-    store64(result + MADE_INT_MAP_FACTOR, r4_8);
+    store64(result + MADE_INT_MAP_THRESHOLD, threshold);
+    store64(result + MADE_INT_MAP_FACTOR, factor);
 }
 
 // Makes a new map, for which there may be no memory.
@@ -1465,44 +1492,44 @@ static ALIGNED NOINLINE struct byte_address handle_make_first(void) {
     char *vec = (char *)vec_room;
     struct word_word block = rattle_alloc(96, 8);
     if ((block.first & 1) != 0) {
-        char *r8 = (char *)(uintptr_t)block.second;
-        store_address(vec + VEC_ADDRESS, r8);
+        char *address = (char *)(uintptr_t)block.second;
+        store_address(vec + VEC_ADDRESS, address);
         store64(vec + VEC_LEN, 0);
         store64(vec + VEC_ROOM, 4);
         struct word_word block_2 = rattle_alloc(8, 8);
         if ((block_2.first & 1) != 0) {
-            char *r8_2 = (char *)(uintptr_t)block_2.second;
-            store64(r8_2, 0);
+            char *block_3 = (char *)(uintptr_t)block_2.second;
+            store64(block_3, 0);
             slots_add_empty(vec, 4);
-            char *address = load_address(vec + VEC_ADDRESS);
+            char *address_2 = load_address(vec + VEC_ADDRESS);
             uint64_t len = load64(vec + VEC_LEN);
             uint64_t room = load64(vec + VEC_ROOM);
-            struct word_word block_3 = rattle_alloc(120, 8);
-            if ((block_3.first & 1) == 0) {
-                rattle_dealloc(r8_2);
+            struct word_word block_4 = rattle_alloc(120, 8);
+            if ((block_4.first & 1) == 0) {
+                rattle_dealloc(block_3);
                 if (room == 0) {
                     return made_byte_address(0, NULL);
                 }
-                rattle_dealloc(address);
+                rattle_dealloc(address_2);
                 return made_byte_address(0, NULL);
             }
-            char *x0 = (char *)(uintptr_t)block_3.second;
-            store_address(x0, (char *)(uintptr_t)3);
-            store_address(x0 + 8, r8_2);
-            store64(x0 + 16, 1);
-            store64(x0 + 24, 1);
-            store_address(x0 + 32, address);
-            store64(x0 + 40, len);
-            store64(x0 + 48, room);
-            store_address(x0 + 56, dangling);
-            memset(x0 + 64, 0, 16);
-            store64(x0 + 80, NOWHERE);
-            memset(x0 + 88, 0, 16);
-            store64(x0 + 104, 3);
-            store64(x0 + 112, 909);
-            return made_byte_address(1, x0);
+            char *map = (char *)(uintptr_t)block_4.second;
+            store_address(map + INT_MAP_MASK, (char *)(uintptr_t)3);
+            store_address(map + INT_MAP_WORDS, block_3);
+            store64(map + INT_MAP_WORDS_LEN, 1);
+            store64(map + INT_MAP_WORDS_ROOM, 1);
+            store_address(map + INT_MAP_SLOTS, address_2);
+            store64(map + INT_MAP_SLOTS_LEN, len);
+            store64(map + INT_MAP_SLOTS_ROOM, room);
+            store_address(map + INT_MAP_NODES, dangling);
+            memset(map + INT_MAP_NODES_LEN, 0, 16);
+            store64(map + INT_MAP_FREE, NOWHERE);
+            memset(map + INT_MAP_SPARE, 0, 16);
+            store64(map + INT_MAP_THRESHOLD, 3);
+            store64(map + INT_MAP_FACTOR, 909);
+            return made_byte_address(1, map);
         }
-        rattle_dealloc(r8);
+        rattle_dealloc(address);
     }
     return made_byte_address(0, NULL);
 }
@@ -1510,31 +1537,31 @@ static ALIGNED NOINLINE struct byte_address handle_make_first(void) {
 // Adds the pair of an absent key, if the slots don't take one more, and returns where it is.
 // intmap::map::IntMap::add_growing, in crates/intmap/src/map/insert.rt
 static ALIGNED NOINLINE void intmap_add_growing(char *result, char *map, uint64_t slot, uint64_t key_key, uint64_t key_number, uint64_t value) {
-    uint64_t x3, r19_0_0_0_trunc38, a4_sink, r25, r25_3;
-    uint8_t r25_2;
+    uint64_t room, has_failed, key_or_value, r25, place;
+    uint8_t slot_or_cause;
     uint64_t len = load64(map + INT_MAP_LEN);
     if (len == UINT64_MAX) {
-        store64(result, 1);
-        store64(result + 8, value);
-        store8(result + 16, 1);
-        store_bytes(result + 17, 0, 7);
-        store64(result + 24, 0);
+        store64(result + MADE_LOCATION_HAS_FAILED, 1);
+        store64(result + MADE_LOCATION_KEY_OR_VALUE, value);
+        store8(result + MADE_LOCATION_SLOT_OR_CAUSE, 1);
+        store_bytes(result + MADE_LOCATION_SLOT_OR_CAUSE + 1, 0, 7);
+        store64(result + MADE_LOCATION_PLACE, 0);
         return;
     }
-    uint64_t r49 = len + 1;
+    uint64_t len_2 = len + 1;
     uint64_t factor = load64(map + INT_MAP_FACTOR);
-    struct byte_word r57 = load_wanted_capacity(r49, load64(map + INT_MAP_SLOTS_LEN), factor);
-    if (r57.first != 1) {
-        store64(result, 1);
-        store64(result + 8, value);
-        store8(result + 16, 1);
-        store_bytes(result + 17, 0, 7);
-        store64(result + 24, 0);
+    struct byte_word wanted_capacity = load_wanted_capacity(len_2, load64(map + INT_MAP_SLOTS_LEN), factor);
+    if (wanted_capacity.first != 1) {
+        store64(result + MADE_LOCATION_HAS_FAILED, 1);
+        store64(result + MADE_LOCATION_KEY_OR_VALUE, value);
+        store8(result + MADE_LOCATION_SLOT_OR_CAUSE, 1);
+        store_bytes(result + MADE_LOCATION_SLOT_OR_CAUSE + 1, 0, 7);
+        store64(result + MADE_LOCATION_PLACE, 0);
         return;
     }
-    u128 r17 = u128_less_one(u128_mul(u128_add(u128_of(factor), u128_of(1u)), u128_of(r57.second)));
-    uint64_t r8_0 = u128_above(r17, u128_two(999, UINT64_MAX)) ? UINT64_MAX : u128_low(u128_div(r17, u128_of(1000u)));
-    uint64_t r4 = r57.second - 1;
+    u128 r17 = u128_less_one(u128_mul(u128_add(u128_of(factor), u128_of(1u)), u128_of(wanted_capacity.second)));
+    uint64_t threshold = u128_above(r17, u128_two(999, UINT64_MAX)) ? UINT64_MAX : u128_low(u128_div(r17, u128_of(1000u)));
+    uint64_t r4 = wanted_capacity.second - 1;
     uint64_t index = r4 & (key_number * MULTIPLIER);
     uint64_t nodes_len = load64(map + INT_MAP_NODES_LEN);
     uint64_t r10 = nodes_len - load64(map + INT_MAP_SPARE);
@@ -1544,12 +1571,12 @@ static ALIGNED NOINLINE void intmap_add_growing(char *result, char *map, uint64_
             uint64_t at = link_of(load16(node + NODE_HIGH), load32(node + NODE_LOW));
             for (;;) {
                 if (nodes_len <= at) {
-                    x3 = r10;
+                    room = r10;
                     goto after_Slots_needed;
                 }
                 char *node_2 = load_address(map + INT_MAP_NODES) + (at * NODE_SIZE);
                 if (load8(node_2 + NODE_HAS_PAIR) != 1) {
-                    x3 = r10;
+                    room = r10;
                     goto after_Slots_needed;
                 }
                 if (((load64(node_2 + NODE_KEY) * MULTIPLIER) & r4) == index) {
@@ -1558,33 +1585,33 @@ static ALIGNED NOINLINE void intmap_add_growing(char *result, char *map, uint64_
                 at = link_of(load16(node_2 + NODE_HIGH), load32(node_2 + NODE_LOW));
             }
         }
-        x3 = r10 + 1;
+        room = r10 + 1;
     } else {
-        x3 = r10;
+        room = r10;
     }
 after_Slots_needed:;
-    uint8_t r18 = slots_enlarge(map, r57.second, x3);
-    if ((r18 & 1) != 0) {
-        r19_0_0_0_trunc38 = 1;
-        a4_sink = value;
+    uint8_t enlarge = slots_enlarge(map, wanted_capacity.second, room);
+    if ((enlarge & 1) != 0) {
+        has_failed = 1;
+        key_or_value = value;
         r25 = 0;
-        r25_2 = 0;
-        r25_3 = 0;
+        slot_or_cause = 0;
+        place = 0;
     } else {
-        uint64_t r20 = refill_put_at(map + INT_MAP_SLOTS, map + INT_MAP_WORDS, map + INT_MAP_NODES, index, 2, key_key, value);
-        store64(map + INT_MAP_LEN, r49);
-        store64(map + INT_MAP_THRESHOLD, r8_0);
-        r19_0_0_0_trunc38 = 0;
-        a4_sink = key_key;
+        uint64_t put_at = refill_put_at(map + INT_MAP_SLOTS, map + INT_MAP_WORDS, map + INT_MAP_NODES, index, 2, key_key, value);
+        store64(map + INT_MAP_LEN, len_2);
+        store64(map + INT_MAP_THRESHOLD, threshold);
+        has_failed = 0;
+        key_or_value = key_key;
         r25 = (uint64_t)((index >> 8) & UINT64_C(72057594037927935));
-        r25_2 = (uint8_t)index;
-        r25_3 = r20;
+        slot_or_cause = (uint8_t)index;
+        place = put_at;
     }
-    store64(result, r19_0_0_0_trunc38);
-    store64(result + 8, a4_sink);
-    store8(result + 16, r25_2);
-    store_bytes(result + 17, r25, 7);
-    store64(result + 24, r25_3);
+    store64(result + MADE_LOCATION_HAS_FAILED, has_failed);
+    store64(result + MADE_LOCATION_KEY_OR_VALUE, key_or_value);
+    store8(result + MADE_LOCATION_SLOT_OR_CAUSE, slot_or_cause);
+    store_bytes(result + MADE_LOCATION_SLOT_OR_CAUSE + 1, r25, 7);
+    store64(result + MADE_LOCATION_PLACE, place);
 }
 
 // The least capacity, among `capacity` and its doublings, in which `len` pairs meet the load factor `factor`, in
@@ -1596,16 +1623,16 @@ static ALWAYS_INLINE struct byte_word load_wanted_capacity(uint64_t len, uint64_
     if (u128_above(u128_mul(r13, u128_of(capacity)), r10)) {
         return made_byte_word(1, capacity);
     }
-    uint64_t r3_09 = capacity;
+    uint64_t capacity_2 = capacity;
     for (;;) {
-        if (r3_09 == GREATEST_CAPACITY) {
+        if (capacity_2 == GREATEST_CAPACITY) {
             return made_byte_word(0, 0);
         }
-        uint64_t r31 = r3_09 << 1;
+        uint64_t r31 = capacity_2 << 1;
         if (u128_above(u128_mul(r13, u128_of(r31)), r10)) {
             return made_byte_word(1, r31);
         }
-        r3_09 = r31;
+        capacity_2 = r31;
     }
 }
 
@@ -1613,112 +1640,112 @@ static ALWAYS_INLINE struct byte_word load_wanted_capacity(uint64_t len, uint64_
 // these.
 // intmap_table::table::slots::Slots::enlarge, in crates/intmap_table/src/table/slots/grow.rt
 static ALIGNED uint8_t slots_enlarge(char *map, uint64_t capacity, uint64_t room) {
-    char *r9;
-    uint64_t r9_2;
+    char *address;
+    uint64_t words_len;
     char *dangling = (char *)no_bytes;
-    uint64_t words_at_room[3];
-    char *words_at = (char *)words_at_room;
-    uint64_t nodes_at_room[5];
-    char *nodes_at = (char *)nodes_at_room;
-    uint8_t r44 = vec_reserve_exact(map + INT_MAP_SLOTS, capacity - load64(map + INT_MAP_SLOTS_LEN));
-    if ((r44 & 1) != 0) {
+    uint64_t bits_room[3];
+    char *bits = (char *)bits_room;
+    uint64_t pool_room[5];
+    char *pool = (char *)pool_room;
+    uint8_t reserve_exact = vec_reserve_exact(map + INT_MAP_SLOTS, capacity - load64(map + INT_MAP_SLOTS_LEN));
+    if ((reserve_exact & 1) != 0) {
         return 1;
     }
-    uint64_t r4_0 = (capacity >> 6) + ((uint64_t)((capacity & 63) != 0));
-    bool r12 = capacity == 0;
-    if (r12) {
-        r9 = dangling;
-        r9_2 = 0;
+    uint64_t words_room = (capacity >> 6) + ((uint64_t)((capacity & 63) != 0));
+    bool capacity_is_0 = capacity == 0;
+    if (capacity_is_0) {
+        address = dangling;
+        words_len = 0;
     } else {
         uint64_t r3;
-        uint64_t r19 = r4_0 << 3;
-        struct word_word block = rattle_alloc(r19, 8);
+        uint64_t size = words_room << 3;
+        struct word_word block = rattle_alloc(size, 8);
         if ((block.first & 1) == 0) {
             goto arm_7;
         }
-        char *r8 = (char *)(uintptr_t)block.second;
-        if (r4_0 == 1) {
+        char *address_2 = (char *)(uintptr_t)block.second;
+        if (words_room == 1) {
             r3 = 0;
         } else {
-            memset(r8, 0, r19 - 8);
-            r3 = r4_0 - 1;
+            memset(address_2, 0, size - 8);
+            r3 = words_room - 1;
         }
-        store64(r8 + (r3 << 3), 0);
-        r9 = r8;
-        r9_2 = r3 + 1;
+        store64(address_2 + (r3 << 3), 0);
+        address = address_2;
+        words_len = r3 + 1;
     }
     if (room <= NODE_LIMIT) {
-        char *r13;
-        uint64_t bits;
+        char *nodes;
+        uint64_t bits_2;
         if (room == 0) {
-            r13 = dangling;
+            nodes = dangling;
         } else {
             struct word_word block_2 = rattle_alloc(room * 24, 8);
             if ((block_2.first & 1) == 0) {
                 goto arm_6_2;
             }
-            r13 = (char *)(uintptr_t)block_2.second;
+            nodes = (char *)(uintptr_t)block_2.second;
         }
         slots_add_empty(map + INT_MAP_SLOTS, capacity);
-        store_address(words_at + BITS_WORDS, r9);
-        store64(words_at + BITS_WORDS_LEN, r9_2);
-        store64(words_at + BITS_WORDS_ROOM, r4_0);
-        store_address(nodes_at + POOL_NODES, r13);
-        store64(nodes_at + POOL_NODES_LEN, 0);
-        store64(nodes_at + POOL_NODES_ROOM, room);
-        store64(nodes_at + POOL_FREE, NOWHERE);
-        store64(nodes_at + POOL_SPARE, 0);
+        store_address(bits + BITS_WORDS, address);
+        store64(bits + BITS_WORDS_LEN, words_len);
+        store64(bits + BITS_WORDS_ROOM, words_room);
+        store_address(pool + POOL_NODES, nodes);
+        store64(pool + POOL_NODES_LEN, 0);
+        store64(pool + POOL_NODES_ROOM, room);
+        store64(pool + POOL_FREE, NOWHERE);
+        store64(pool + POOL_SPARE, 0);
         uint64_t mask = load64(map + INT_MAP_MASK);
-        uint64_t r69 = capacity - 1;
+        uint64_t mask_2 = capacity - 1;
         if (load64(map + INT_MAP_WORDS_LEN) == 0) {
-            bits = 0;
+            bits_2 = 0;
         } else {
-            bits = load64(load_address(map + INT_MAP_WORDS));
+            bits_2 = load64(load_address(map + INT_MAP_WORDS));
         }
         uint64_t a3 = ~mask;
-        uint64_t invariant_op7 = a3 & r69;
-        uint64_t invariant_op = a3 & r69;
-        uint64_t r0 = 0;
-        uint64_t r0_2 = bits;
+        uint64_t x = a3 & mask_2;
+        uint64_t x_2 = a3 & mask_2;
+        uint64_t word = 0;
+        uint64_t bits_3 = bits_2;
         for (;;) {
-            uint64_t r0_4, r0_5;
-            if (r0_2 == 0) {
-                uint64_t words_len = load64(map + INT_MAP_WORDS_LEN);
-                uint64_t r0_3 = r0;
+            uint64_t word_4, bits_5;
+            if (bits_3 == 0) {
+                uint64_t words_len_2 = load64(map + INT_MAP_WORDS_LEN);
+                uint64_t word_2 = word;
                 for (;;) {
-                    uint64_t r26 = r0_3 + 1;
-                    if (words_len <= r26) {
-                        store64(map + INT_MAP_MASK, r69);
+                    uint64_t word_3 = word_2 + 1;
+                    if (words_len_2 <= word_3) {
+                        store64(map + INT_MAP_MASK, mask_2);
                         char *words = load_address(map + INT_MAP_WORDS);
-                        uint64_t words_room = load64(map + INT_MAP_WORDS_ROOM);
-                        memcpy(map + INT_MAP_WORDS, words_at, BITS_SIZE);
-                        if (words_room != 0) {
+                        uint64_t words_room_2 = load64(map + INT_MAP_WORDS_ROOM);
+                        memcpy(map + INT_MAP_WORDS, bits, BITS_SIZE);
+                        if (words_room_2 != 0) {
                             rattle_dealloc(words);
                         }
-                        char *nodes = load_address(map + INT_MAP_NODES);
+                        char *nodes_2 = load_address(map + INT_MAP_NODES);
                         uint64_t nodes_room = load64(map + INT_MAP_NODES_ROOM);
-                        memcpy(map + INT_MAP_NODES, nodes_at, POOL_SIZE);
+                        memcpy(map + INT_MAP_NODES, pool, POOL_SIZE);
                         if (nodes_room == 0) {
                             return 0;
                         }
-                        rattle_dealloc(nodes);
+                        rattle_dealloc(nodes_2);
                         return 0;
                     }
-                    uint64_t bits_2 = load64(load_address(map + INT_MAP_WORDS) + (r26 << 3));
-                    if (bits_2 != 0) {
-                        r0_4 = r26;
-                        r0_5 = bits_2;
+                    uint64_t bits_4 = load64(load_address(map + INT_MAP_WORDS) + (word_3 << 3));
+                    if (bits_4 != 0) {
+                        word_4 = word_3;
+                        bits_5 = bits_4;
                         break;
                     }
-                    r0_3 = r26;
+                    word_2 = word_3;
                 }
             } else {
-                r0_4 = r0;
-                r0_5 = r0_2;
+                word_4 = word;
+                bits_5 = bits_3;
             }
-            uint64_t r49 = place_of_lowest_1(r0_5);
-            uint64_t at = r49 | (r0_4 << 6);
-            uint64_t r64 = (r0_5 - 1) & r0_5;
+            uint64_t lowest = place_of_lowest_1(bits_5);
+            uint64_t at = lowest | (word_4 << 6);
+            uint64_t bits_6 = (bits_5 - 1) & bits_5;
             char *node = load_address(map + INT_MAP_SLOTS) + (at * NODE_SIZE);
             if (load8(node + NODE_HAS_PAIR) != 1) {
                 abort(); // The proof excludes this.
@@ -1726,10 +1753,10 @@ static ALIGNED uint8_t slots_enlarge(char *map, uint64_t capacity, uint64_t room
             uint16_t high = load16(node + NODE_HIGH);
             uint32_t low = load32(node + NODE_LOW);
             uint64_t key = load_key(node + NODE_KEY);
-            uint64_t index = (key * MULTIPLIER) & invariant_op7;
+            uint64_t index = (key * MULTIPLIER) & x;
             uint64_t value = load64(node + NODE_VALUE);
             memset(node, 0, NODE_SIZE);
-            refill_put_at(map + INT_MAP_SLOTS, words_at, nodes_at, index + at, 0, key, value);
+            refill_put_at(map + INT_MAP_SLOTS, bits, pool, index + at, 0, key, value);
             if (high != NOWHERE_HIGH) {
                 uint64_t at_2 = NOWHERE;
                 uint64_t at_3 = link_of(high, low);
@@ -1752,11 +1779,11 @@ static ALIGNED uint8_t slots_enlarge(char *map, uint64_t capacity, uint64_t room
                             if (load8(node_3 + NODE_HAS_PAIR) != 1) {
                                 abort(); // The proof excludes this.
                             }
-                            uint64_t index_2 = (load64(node_3 + NODE_KEY) * MULTIPLIER) & invariant_op;
+                            uint64_t index_2 = (load64(node_3 + NODE_KEY) * MULTIPLIER) & x_2;
                             uint16_t high_3 = load16(node_3 + NODE_HIGH);
                             uint64_t link_2 = link_of(high_3, load32(node_3 + NODE_LOW));
-                            struct word_word r12_2 = pool_release(map + INT_MAP_NODES, at_4);
-                            refill_put_at(map + INT_MAP_SLOTS, words_at, nodes_at, index_2 + at, (uint8_t)(index == index_2), r12_2.first, r12_2.second);
+                            struct word_word release = pool_release(map + INT_MAP_NODES, at_4);
+                            refill_put_at(map + INT_MAP_SLOTS, bits, pool, index_2 + at, (uint8_t)(index == index_2), release.first, release.second);
                             if (high_3 == NOWHERE_HIGH) {
                                 goto loop_2_backedge;
                             }
@@ -1768,13 +1795,13 @@ static ALIGNED uint8_t slots_enlarge(char *map, uint64_t capacity, uint64_t room
                 }
             }
         loop_2_backedge:;
-            r0 = r0_4;
-            r0_2 = r64;
+            word = word_4;
+            bits_3 = bits_6;
         }
     }
 arm_6_2:;
-    if (!r12) {
-        rattle_dealloc(r9);
+    if (!capacity_is_0) {
+        rattle_dealloc(address);
     }
 arm_7:;
     vec_shrink_to_fit(map + INT_MAP_SLOTS);
@@ -1783,7 +1810,7 @@ arm_7:;
 
 // std_alloc::vec::Vec::reserve_exact, in Rattle's library std_alloc
 static ALWAYS_INLINE uint8_t vec_reserve_exact(char *vec, uint64_t a1) {
-    struct word_word r0;
+    struct word_word block_2;
     uint64_t len = load64(vec + VEC_LEN);
     uint64_t room = load64(vec + VEC_ROOM);
     if (a1 <= (room - len)) {
@@ -1792,25 +1819,25 @@ static ALWAYS_INLINE uint8_t vec_reserve_exact(char *vec, uint64_t a1) {
     if (a1 > (~len)) {
         return 1;
     }
-    uint64_t r33 = len + a1;
-    if (r33 >= TOO_MANY(24)) {
+    uint64_t room_2 = len + a1;
+    if (room_2 >= TOO_MANY(24)) {
         return 1;
     }
     if (room == 0) {
-        struct word_word block = rattle_alloc(r33 * 24, 8);
+        struct word_word block = rattle_alloc(room_2 * 24, 8);
         if ((block.first & 1) == 0) {
             return 1;
         }
-        r0 = block;
+        block_2 = block;
     } else {
-        struct word_word block_2 = rattle_realloc(load_address(vec + VEC_ADDRESS), len * 24, r33 * 24, 8);
-        if ((block_2.first & 1) == 0) {
+        struct word_word block_3 = rattle_realloc(load_address(vec + VEC_ADDRESS), len * 24, room_2 * 24, 8);
+        if ((block_3.first & 1) == 0) {
             return 1;
         }
-        r0 = block_2;
+        block_2 = block_3;
     }
-    store_address(vec + VEC_ADDRESS, (char *)(uintptr_t)r0.second);
-    store64(vec + VEC_ROOM, r33);
+    store_address(vec + VEC_ADDRESS, (char *)(uintptr_t)block_2.second);
+    store64(vec + VEC_ROOM, room_2);
     return 0;
 }
 
@@ -1827,8 +1854,8 @@ static ALWAYS_INLINE void vec_shrink_to_fit(char *slots_at) {
         memset(slots_at + VEC_LEN, 0, 16);
         return;
     }
-    uint64_t r12 = slots_len * NODE_SIZE;
-    struct word_word block = rattle_realloc(load_address(slots_at + VEC_ADDRESS), r12, r12, 8);
+    uint64_t size = slots_len * NODE_SIZE;
+    struct word_word block = rattle_realloc(load_address(slots_at + VEC_ADDRESS), size, size, 8);
     if ((block.first & 1) == 0) {
         return;
     }
@@ -1838,29 +1865,29 @@ static ALWAYS_INLINE void vec_shrink_to_fit(char *slots_at) {
 
 // Puts a pair into its slot, where `order` says, marks the slot, counts the pair, and returns its place.
 // intmap_table::table::slots::refill::put_at, in crates/intmap_table/src/table/slots/refill.rt
-static ALWAYS_INLINE uint64_t refill_put_at(char *slots, char *bits, char *pool, uint64_t index, uint8_t a4, uint64_t a5, uint64_t a6) {
-    uint64_t common_ret_op;
-    uint64_t r4_room[3];
-    char *r4 = (char *)r4_room;
+static ALWAYS_INLINE uint64_t refill_put_at(char *slots, char *bits, char *pool, uint64_t index, uint8_t order, uint64_t pair_key, uint64_t pair_value) {
+    uint64_t made_or_key;
+    uint64_t made_usize_room[3];
+    char *made_usize = (char *)made_usize_room;
     char *node = load_address(slots + VEC_ADDRESS) + (index * NODE_SIZE);
     uint8_t has_pair = load8(node + NODE_HAS_PAIR);
     if (has_pair == 1) {
-        switch (a4) {
+        switch (order) {
         case 0:
-            growth_put_before_first(node, pool, a5, a6);
-            common_ret_op = 0;
+            growth_put_before_first(node, pool, pair_key, pair_value);
+            made_or_key = 0;
             break;
         case 1:
-            growth_put_behind_first(node, pool, a5, a6);
-            common_ret_op = 1;
+            growth_put_behind_first(node, pool, pair_key, pair_value);
+            made_or_key = 1;
             break;
         case 2:
-            memset(r4, 0, 24);
-            insertion_push_further(r4, node, pool, a5, a6);
-            if (load8(r4) != 0) {
+            memset(made_usize, 0, MADE_USIZE_SIZE);
+            insertion_push_further(made_usize, node, pool, pair_key, pair_value);
+            if (load8(made_usize + MADE_USIZE_HAS_FAILED) != 0) {
                 abort(); // The proof excludes this.
             }
-            common_ret_op = load64(r4 + 8);
+            made_or_key = load64(made_usize + MADE_USIZE_MADE_OR_KEY);
             break;
         default:
             abort(); // The proof excludes this.
@@ -1869,173 +1896,173 @@ static ALWAYS_INLINE uint64_t refill_put_at(char *slots, char *bits, char *pool,
         store16(node + NODE_HAS_PAIR, 1);
         store16(node + NODE_HIGH, NOWHERE_HIGH);
         store32(node + NODE_LOW, NOWHERE_LOW);
-        store64(node + NODE_KEY, a5);
-        store64(node + NODE_VALUE, a6);
+        store64(node + NODE_KEY, pair_key);
+        store64(node + NODE_VALUE, pair_value);
         if (has_pair != 0) {
             abort(); // The proof excludes this.
         }
-        common_ret_op = 0;
+        made_or_key = 0;
     }
-    char *r11 = load_address(bits + BITS_WORDS) + ((index >> 3) & UINT64_C(0x1FFFFFFFFFFFFFF8));
-    store64(r11, load64(r11) | ((uint64_t)1 << (index & 63)));
-    return common_ret_op;
+    char *word_at = load_address(bits + BITS_WORDS) + ((index >> 3) & UINT64_C(0x1FFFFFFFFFFFFFF8));
+    store64(word_at, load64(word_at) | ((uint64_t)1 << (index & 63)));
+    return made_or_key;
 }
 
 // Puts a pair before the first one of a slot that holds some, and returns its place.
 // intmap_table::linked::row::growth::put_before_first, in crates/intmap_table/src/linked/row/growth.rt
-static ALIGNED NOINLINE void growth_put_before_first(char *node, char *nodes_at, uint64_t a2, uint64_t a3) {
-    uint64_t r10;
-    uint64_t r0_room[3];
-    char *r0 = (char *)r0_room;
-    if (load8(node + NODE_HAS_PAIR) != 1) {
+static ALIGNED NOINLINE void growth_put_before_first(char *slot, char *pool, uint64_t pair_key, uint64_t pair_value) {
+    uint64_t link;
+    uint64_t made_usize_room[3];
+    char *made_usize = (char *)made_usize_room;
+    if (load8(slot + NODE_HAS_PAIR) != 1) {
         abort(); // The proof excludes this.
     }
-    uint16_t high = load16(node + NODE_HIGH);
-    uint32_t low = load32(node + NODE_LOW);
-    uint64_t key = load64(node + NODE_KEY);
-    uint64_t value = load64(node + NODE_VALUE);
-    store64(node + NODE_KEY, a2);
-    store64(node + NODE_VALUE, a3);
-    uint64_t spare = load64(nodes_at + POOL_SPARE);
+    uint16_t high = load16(slot + NODE_HIGH);
+    uint32_t low = load32(slot + NODE_LOW);
+    uint64_t key = load64(slot + NODE_KEY);
+    uint64_t value = load64(slot + NODE_VALUE);
+    store64(slot + NODE_KEY, pair_key);
+    store64(slot + NODE_VALUE, pair_value);
+    uint64_t spare = load64(pool + POOL_SPARE);
     if (spare == 0) {
-        pool_add_new(r0, nodes_at, link_of(high, low), key, value);
-        if (load8(r0) != 0) {
+        pool_add_new(made_usize, pool, link_of(high, low), key, value);
+        if (load8(made_usize + MADE_USIZE_HAS_FAILED) != 0) {
             abort(); // The proof excludes this.
         }
-        r10 = load64(r0 + 8);
+        link = load64(made_usize + MADE_USIZE_MADE_OR_KEY);
     } else {
-        uint64_t free = load64(nodes_at + POOL_FREE);
-        char *r11 = load_address(nodes_at + POOL_NODES) + (free * 24);
-        if (load8(r11) != 0) {
+        uint64_t free = load64(pool + POOL_FREE);
+        char *node = load_address(pool + POOL_NODES) + (free * NODE_SIZE);
+        if (load8(node + NODE_HAS_PAIR) != 0) {
             abort(); // The proof excludes this.
         }
-        store64(nodes_at + POOL_FREE, link_of(load16(r11 + 2), load32(r11 + 4)));
-        store64(nodes_at + POOL_SPARE, spare - 1);
-        uint8_t r15 = load8(r11);
-        store16(r11, 1);
-        store16(r11 + 2, high);
-        store32(r11 + 4, low);
-        store64(r11 + 8, key);
-        store64(r11 + 16, value);
-        if (r15 != 0) {
+        store64(pool + POOL_FREE, link_of(load16(node + NODE_HIGH), load32(node + NODE_LOW)));
+        store64(pool + POOL_SPARE, spare - 1);
+        uint8_t has_pair = load8(node + NODE_HAS_PAIR);
+        store16(node + NODE_HAS_PAIR, 1);
+        store16(node + NODE_HIGH, high);
+        store32(node + NODE_LOW, low);
+        store64(node + NODE_KEY, key);
+        store64(node + NODE_VALUE, value);
+        if (has_pair != 0) {
             abort(); // The proof excludes this.
         }
-        r10 = free;
+        link = free;
     }
-    if (load8(node + NODE_HAS_PAIR) != 1) {
+    if (load8(slot + NODE_HAS_PAIR) != 1) {
         abort(); // The proof excludes this.
     }
-    store16(node + NODE_HIGH, (uint16_t)(r10 >> 32));
-    store32(node + NODE_LOW, (uint32_t)r10);
+    store16(slot + NODE_HIGH, (uint16_t)(link >> 32));
+    store32(slot + NODE_LOW, (uint32_t)link);
 }
 
 // Puts a pair behind the first one of a slot that holds some, and returns its place.
 // intmap_table::linked::row::growth::put_behind_first, in crates/intmap_table/src/linked/row/growth.rt
-static ALIGNED NOINLINE void growth_put_behind_first(char *node, char *nodes_at, uint64_t a2, uint64_t a3) {
-    uint64_t r7;
-    uint64_t r0_room[3];
-    char *r0 = (char *)r0_room;
-    if (load8(node + NODE_HAS_PAIR) != 1) {
+static ALIGNED NOINLINE void growth_put_behind_first(char *slot, char *pool, uint64_t pair_key, uint64_t pair_value) {
+    uint64_t link;
+    uint64_t made_usize_room[3];
+    char *made_usize = (char *)made_usize_room;
+    if (load8(slot + NODE_HAS_PAIR) != 1) {
         abort(); // The proof excludes this.
     }
-    uint16_t high = load16(node + NODE_HIGH);
-    uint32_t low = load32(node + NODE_LOW);
-    uint64_t spare = load64(nodes_at + POOL_SPARE);
+    uint16_t high = load16(slot + NODE_HIGH);
+    uint32_t low = load32(slot + NODE_LOW);
+    uint64_t spare = load64(pool + POOL_SPARE);
     if (spare == 0) {
-        pool_add_new(r0, nodes_at, link_of(high, low), a2, a3);
-        if (load8(r0) != 0) {
+        pool_add_new(made_usize, pool, link_of(high, low), pair_key, pair_value);
+        if (load8(made_usize + MADE_USIZE_HAS_FAILED) != 0) {
             abort(); // The proof excludes this.
         }
-        r7 = load64(r0 + 8);
+        link = load64(made_usize + MADE_USIZE_MADE_OR_KEY);
     } else {
-        uint64_t free = load64(nodes_at + POOL_FREE);
-        char *r11 = load_address(nodes_at + POOL_NODES) + (free * 24);
-        if (load8(r11) != 0) {
+        uint64_t free = load64(pool + POOL_FREE);
+        char *node = load_address(pool + POOL_NODES) + (free * NODE_SIZE);
+        if (load8(node + NODE_HAS_PAIR) != 0) {
             abort(); // The proof excludes this.
         }
-        store64(nodes_at + POOL_FREE, link_of(load16(r11 + 2), load32(r11 + 4)));
-        store64(nodes_at + POOL_SPARE, spare - 1);
-        uint8_t r15 = load8(r11);
-        store16(r11, 1);
-        store16(r11 + 2, high);
-        store32(r11 + 4, low);
-        store64(r11 + 8, a2);
-        store64(r11 + 16, a3);
-        if (r15 != 0) {
+        store64(pool + POOL_FREE, link_of(load16(node + NODE_HIGH), load32(node + NODE_LOW)));
+        store64(pool + POOL_SPARE, spare - 1);
+        uint8_t has_pair = load8(node + NODE_HAS_PAIR);
+        store16(node + NODE_HAS_PAIR, 1);
+        store16(node + NODE_HIGH, high);
+        store32(node + NODE_LOW, low);
+        store64(node + NODE_KEY, pair_key);
+        store64(node + NODE_VALUE, pair_value);
+        if (has_pair != 0) {
             abort(); // The proof excludes this.
         }
-        r7 = free;
+        link = free;
     }
-    if (load8(node + NODE_HAS_PAIR) != 1) {
+    if (load8(slot + NODE_HAS_PAIR) != 1) {
         abort(); // The proof excludes this.
     }
-    store16(node + NODE_HIGH, (uint16_t)(r7 >> 32));
-    store32(node + NODE_LOW, (uint32_t)r7);
+    store16(slot + NODE_HIGH, (uint16_t)(link >> 32));
+    store32(slot + NODE_LOW, (uint32_t)link);
 }
 
 // Puts a pair last, and returns its place.
 // intmap_table::linked::row::insertion::push_further, in crates/intmap_table/src/linked/row/insertion.rt
-static ALIGNED NOINLINE void insertion_push_further(char *result, char *slot, char *pool, uint64_t a3, uint64_t a4) {
-    uint64_t r7;
-    uint64_t r0_room[3];
-    char *r0 = (char *)r0_room;
+static ALIGNED NOINLINE void insertion_push_further(char *result, char *slot, char *pool, uint64_t pair_key, uint64_t pair_value) {
+    uint64_t link;
+    uint64_t made_usize_room[3];
+    char *made_usize = (char *)made_usize_room;
     if (load8(slot + NODE_HAS_PAIR) != 1) {
         abort(); // The proof excludes this.
     }
-    struct word_word r24 = chain_last_in(pool, link_of(load16(slot + NODE_HIGH), load32(slot + NODE_LOW)));
+    struct word_word at = chain_last_in(pool, link_of(load16(slot + NODE_HIGH), load32(slot + NODE_LOW)));
     uint64_t spare = load64(pool + POOL_SPARE);
     if (spare == 0) {
-        pool_add_new(r0, pool, NOWHERE, a3, a4);
-        uint64_t r7_6_8_copyload35 = load64(r0 + 8);
-        uint64_t r7_9_8_copyload36 = load64(r0 + 16);
-        if (load8(r0) != 0) {
-            store64(result, 1);
-            store64(result + 8, r7_6_8_copyload35);
-            store64(result + 16, r7_9_8_copyload36);
+        pool_add_new(made_usize, pool, NOWHERE, pair_key, pair_value);
+        uint64_t made_or_key = load64(made_usize + MADE_USIZE_MADE_OR_KEY);
+        uint64_t value = load64(made_usize + MADE_USIZE_VALUE);
+        if (load8(made_usize + MADE_USIZE_HAS_FAILED) != 0) {
+            store64(result + MADE_USIZE_HAS_FAILED, 1);
+            store64(result + MADE_USIZE_MADE_OR_KEY, made_or_key);
+            store64(result + MADE_USIZE_VALUE, value);
             return;
         }
-        r7 = r7_6_8_copyload35;
+        link = made_or_key;
     } else {
         uint64_t free = load64(pool + POOL_FREE);
-        char *r11 = load_address(pool + POOL_NODES) + (free * 24);
-        if (load8(r11) != 0) {
+        char *node = load_address(pool + POOL_NODES) + (free * NODE_SIZE);
+        if (load8(node + NODE_HAS_PAIR) != 0) {
             abort(); // The proof excludes this.
         }
-        store64(pool + POOL_FREE, link_of(load16(r11 + 2), load32(r11 + 4)));
+        store64(pool + POOL_FREE, link_of(load16(node + NODE_HIGH), load32(node + NODE_LOW)));
         store64(pool + POOL_SPARE, spare - 1);
-        uint8_t r15 = load8(r11);
-        store16(r11, 1);
-        store16(r11 + 2, NOWHERE_HIGH);
-        store32(r11 + 4, NOWHERE_LOW);
-        store64(r11 + 8, a3);
-        store64(r11 + 16, a4);
-        if (r15 != 0) {
+        uint8_t has_pair = load8(node + NODE_HAS_PAIR);
+        store16(node + NODE_HAS_PAIR, 1);
+        store16(node + NODE_HIGH, NOWHERE_HIGH);
+        store32(node + NODE_LOW, NOWHERE_LOW);
+        store64(node + NODE_KEY, pair_key);
+        store64(node + NODE_VALUE, pair_value);
+        if (has_pair != 0) {
             abort(); // The proof excludes this.
         }
-        r7 = free;
+        link = free;
     }
-    if (r24.first > UINT64_C(281470681743359)) {
+    if (at.first >= NODE_LIMIT) {
         if (load8(slot + NODE_HAS_PAIR) != 1) {
             abort(); // The proof excludes this.
         }
-        store16(slot + NODE_HIGH, (uint16_t)(r7 >> 32));
-        store32(slot + NODE_LOW, (uint32_t)r7);
+        store16(slot + NODE_HIGH, (uint16_t)(link >> 32));
+        store32(slot + NODE_LOW, (uint32_t)link);
     } else {
-        char *r9 = load_address(pool + POOL_NODES) + (r24.first * 24);
-        if (load8(r9) != 1) {
+        char *node_2 = load_address(pool + POOL_NODES) + (at.first * NODE_SIZE);
+        if (load8(node_2 + NODE_HAS_PAIR) != 1) {
             abort(); // The proof excludes this.
         }
-        store16(r9 + 2, (uint16_t)(r7 >> 32));
-        store32(r9 + 4, (uint32_t)r7);
+        store16(node_2 + NODE_HIGH, (uint16_t)(link >> 32));
+        store32(node_2 + NODE_LOW, (uint32_t)link);
     }
-    store64(result, 0);
-    store64(result + 8, r24.second + 1);
-    store64(result + 16, 0);
+    store64(result + MADE_USIZE_HAS_FAILED, 0);
+    store64(result + MADE_USIZE_MADE_OR_KEY, at.second + 1);
+    store64(result + MADE_USIZE_VALUE, 0);
 }
 
 // Removes the first pair of a slot with this link that holds others.
 // intmap_table::linked::row::insertion::replace_first_of_several, in crates/intmap_table/src/linked/row/insertion.rt
-static COLD uint64_t insertion_replace_first_of_several(char *slot, uint64_t link, char *pool, uint64_t a3, uint64_t a4) {
+static COLD uint64_t insertion_replace_first_of_several(char *slot, uint64_t link, char *pool, uint64_t new_key, uint64_t new_value) {
     struct word_word at = chain_last_in(pool, link);
     char *node = load_address(pool + POOL_NODES) + (at.first * NODE_SIZE);
     if (load8(node + NODE_HAS_PAIR) != 1) {
@@ -2043,8 +2070,8 @@ static COLD uint64_t insertion_replace_first_of_several(char *slot, uint64_t lin
     }
     uint64_t key = load64(node + NODE_KEY);
     uint64_t value = load64(node + NODE_VALUE);
-    store64(node + NODE_KEY, a3);
-    store64(node + NODE_VALUE, a4);
+    store64(node + NODE_KEY, new_key);
+    store64(node + NODE_VALUE, new_value);
     if (load8(slot + NODE_HAS_PAIR) != 1) {
         abort(); // The proof excludes this.
     }
@@ -2058,45 +2085,45 @@ static COLD uint64_t insertion_replace_first_of_several(char *slot, uint64_t lin
 // intmap::map::IntMap::insert_otherwise, in crates/intmap/src/map/insert.rt
 static ALIGNED NOINLINE void intmap_insert_otherwise(char *result, char *map, uint64_t slot, uint64_t key_key, uint64_t key_number, uint64_t value) {
     char *node_2;
-    bool r1_0_in, x11;
-    uint64_t r10_4_0_ph236, link, nodes_len, r18, r18_2, r18_3, at_2;
-    uint8_t r103;
-    uint64_t r0_room[3];
-    char *r0 = (char *)r0_room;
-    uint64_t r30_room[4];
-    char *r30 = (char *)r30_room;
-    memset(r30, 0, 32);
+    bool r1, has_failed_is_0;
+    uint64_t value_2, link, nodes_len, has_failed, has_made_or_value, made_or_cause, at_2;
+    uint8_t has_failed_2;
+    uint64_t made_usize_room[3];
+    char *made_usize = (char *)made_usize_room;
+    uint64_t made_location_room[4];
+    char *made_location = (char *)made_location_room;
+    memset(made_location, 0, MADE_LOCATION_SIZE);
     uint64_t len = load64(map + INT_MAP_LEN);
     if (len < load64(map + INT_MAP_THRESHOLD)) {
         char *node = load_address(map + INT_MAP_SLOTS) + (slot * NODE_SIZE);
         if (load8(node + NODE_HAS_PAIR) != 1) {
-            r10_4_0_ph236 = value;
+            value_2 = value;
             goto then_8;
         }
         node_2 = node;
-        r1_0_in = true;
+        r1 = true;
     } else {
-        bool r2_0_in = (len != UINT64_MAX) ? (((len + 1) & 4) == 0) : false;
+        bool r2 = (len != UINT64_MAX) ? (((len + 1) & 4) == 0) : false;
         char *node_3 = load_address(map + INT_MAP_SLOTS) + (slot * NODE_SIZE);
         if (load8(node_3 + NODE_HAS_PAIR) != 1) {
-            if (!r2_0_in) {
+            if (!r2) {
                 goto join_10;
             }
-            r10_4_0_ph236 = value;
+            value_2 = value;
             goto then_8;
         }
         node_2 = node_3;
-        r1_0_in = r2_0_in;
+        r1 = r2;
     }
     link = link_of(load16(node_2 + NODE_HIGH), load32(node_2 + NODE_LOW));
     nodes_len = load64(map + INT_MAP_NODES_LEN);
     if (nodes_len > link) {
         char *nodes = load_address(map + INT_MAP_NODES);
-        uint64_t r8 = link * NODE_SIZE;
-        char *node_4 = nodes + r8;
+        uint64_t offset = link * NODE_SIZE;
+        char *node_4 = nodes + offset;
         if (load8(node_4 + NODE_HAS_PAIR) == 1) {
             char *node_5 = node_4;
-            uint64_t r8_2 = r8;
+            uint64_t offset_2 = offset;
             uint64_t link_2 = link;
             for (;;) {
                 if (load64(node_5 + NODE_KEY) == key_number) {
@@ -2106,25 +2133,25 @@ static ALIGNED NOINLINE void intmap_insert_otherwise(char *result, char *map, ui
                         abort(); // The proof excludes this.
                     }
                     uint64_t key = load64(node_6 + NODE_KEY);
-                    uint64_t value_2 = load64(node_6 + NODE_VALUE);
+                    uint64_t value_3 = load64(node_6 + NODE_VALUE);
                     store64(node_6 + NODE_KEY, key_key);
                     store64(node_6 + NODE_VALUE, value);
                     if (at.first == link_2) {
-                        r18 = 0;
-                        r18_2 = 1;
-                        r18_3 = value_2;
+                        has_failed = 0;
+                        has_made_or_value = 1;
+                        made_or_cause = value_3;
                         goto join_4;
                     }
-                    char *node_7 = load_address(map + INT_MAP_NODES) + r8_2;
+                    char *node_7 = load_address(map + INT_MAP_NODES) + offset_2;
                     if (load8(node_7 + NODE_HAS_PAIR) != 1) {
                         abort(); // The proof excludes this.
                     }
-                    uint64_t value_3 = load64(node_7 + NODE_VALUE);
+                    uint64_t value_4 = load64(node_7 + NODE_VALUE);
                     store64(node_7 + NODE_KEY, key);
-                    store64(node_7 + NODE_VALUE, value_2);
-                    r18 = 0;
-                    r18_2 = 1;
-                    r18_3 = value_3;
+                    store64(node_7 + NODE_VALUE, value_3);
+                    has_failed = 0;
+                    has_made_or_value = 1;
+                    made_or_cause = value_4;
                     goto join_4;
                 }
                 uint64_t link_3 = link_of(load16(node_5 + NODE_HIGH), load32(node_5 + NODE_LOW));
@@ -2132,14 +2159,14 @@ static ALIGNED NOINLINE void intmap_insert_otherwise(char *result, char *map, ui
                     at_2 = link_2;
                     break;
                 }
-                uint64_t r8_3 = link_3 * NODE_SIZE;
-                char *node_8 = nodes + r8_3;
+                uint64_t offset_3 = link_3 * NODE_SIZE;
+                char *node_8 = nodes + offset_3;
                 if (load8(node_8 + NODE_HAS_PAIR) != 1) {
                     at_2 = link_2;
                     break;
                 }
                 node_5 = node_8;
-                r8_2 = r8_3;
+                offset_2 = offset_3;
                 link_2 = link_3;
             }
         } else {
@@ -2148,16 +2175,16 @@ static ALIGNED NOINLINE void intmap_insert_otherwise(char *result, char *map, ui
     } else {
         at_2 = NOWHERE;
     }
-    if (r1_0_in) {
-        uint64_t r7;
+    if (r1) {
+        uint64_t link_4;
         uint64_t spare = load64(map + INT_MAP_SPARE);
         if (spare == 0) {
-            pool_add_new(r0, map + INT_MAP_NODES, NOWHERE, key_key, value);
-            if (load8(r0) != 0) {
-                r10_4_0_ph236 = load64(r0 + 16);
+            pool_add_new(made_usize, map + INT_MAP_NODES, NOWHERE, key_key, value);
+            if (load8(made_usize + MADE_USIZE_HAS_FAILED) != 0) {
+                value_2 = load64(made_usize + MADE_USIZE_VALUE);
                 goto then_8;
             }
-            r7 = load64(r0 + 8);
+            link_4 = load64(made_usize + MADE_USIZE_MADE_OR_KEY);
         } else {
             uint64_t free = load64(map + INT_MAP_FREE);
             char *node_9 = load_address(map + INT_MAP_NODES) + (free * NODE_SIZE);
@@ -2175,45 +2202,45 @@ static ALIGNED NOINLINE void intmap_insert_otherwise(char *result, char *map, ui
             if (has_pair != 0) {
                 abort(); // The proof excludes this.
             }
-            r7 = free;
+            link_4 = free;
         }
-        if (at_2 > UINT64_C(281470681743359)) {
+        if (at_2 >= NODE_LIMIT) {
             if (load8(node_2 + NODE_HAS_PAIR) != 1) {
                 abort(); // The proof excludes this.
             }
-            store16(node_2 + NODE_HIGH, (uint16_t)(r7 >> 32));
-            store32(node_2 + NODE_LOW, (uint32_t)r7);
+            store16(node_2 + NODE_HIGH, (uint16_t)(link_4 >> 32));
+            store32(node_2 + NODE_LOW, (uint32_t)link_4);
         } else {
             char *node_10 = load_address(map + INT_MAP_NODES) + (at_2 * NODE_SIZE);
             if (load8(node_10 + NODE_HAS_PAIR) != 1) {
                 abort(); // The proof excludes this.
             }
-            store16(node_10 + NODE_HIGH, (uint16_t)(r7 >> 32));
-            store32(node_10 + NODE_LOW, (uint32_t)r7);
+            store16(node_10 + NODE_HIGH, (uint16_t)(link_4 >> 32));
+            store32(node_10 + NODE_LOW, (uint32_t)link_4);
         }
         store64(map + INT_MAP_LEN, load64(map + INT_MAP_LEN) + 1);
-        r18 = 0;
-        r18_2 = 0;
-        r18_3 = 0;
+        has_failed = 0;
+        has_made_or_value = 0;
+        made_or_cause = 0;
         goto join_4;
     }
 join_10:;
-    intmap_add_growing(r30, map, slot, key_key, key_number, value);
-    r103 = load8(r30);
-    x11 = r103 == 0;
-    r18 = (uint64_t)r103;
-    r18_2 = x11 ? 0 : load64(r30 + 8);
-    r18_3 = x11 ? 0 : load64(r30 + 16);
+    intmap_add_growing(made_location, map, slot, key_key, key_number, value);
+    has_failed_2 = load8(made_location + MADE_LOCATION_HAS_FAILED);
+    has_failed_is_0 = has_failed_2 == 0;
+    has_failed = (uint64_t)has_failed_2;
+    has_made_or_value = has_failed_is_0 ? 0 : load64(made_location + MADE_LOCATION_KEY_OR_VALUE);
+    made_or_cause = has_failed_is_0 ? 0 : load64(made_location + MADE_LOCATION_SLOT_OR_CAUSE);
     goto join_4;
 then_8:;
-    store64(result, 1);
-    store64(result + 8, r10_4_0_ph236);
-    store64(result + 16, 0);
+    store64(result + MADE_OPTION_HAS_FAILED, 1);
+    store64(result + MADE_OPTION_HAS_MADE_OR_VALUE, value_2);
+    store64(result + MADE_OPTION_MADE_OR_CAUSE, 0);
     return;
 join_4:;
-    store64(result, r18);
-    store64(result + 8, r18_2);
-    store64(result + 16, r18_3);
+    store64(result + MADE_OPTION_HAS_FAILED, has_failed);
+    store64(result + MADE_OPTION_HAS_MADE_OR_VALUE, has_made_or_value);
+    store64(result + MADE_OPTION_MADE_OR_CAUSE, made_or_cause);
 }
 
 // Makes the slots in which `pairs` pairs meet this load factor, and sets it.
@@ -2221,35 +2248,35 @@ join_4:;
 static ALWAYS_INLINE struct byte_byte intmap_fit(char *map, uint64_t pairs, uint64_t thousandths, uint64_t sharing) {
     uint8_t r0;
     uint64_t slots_len = load64(map + INT_MAP_SLOTS_LEN);
-    struct byte_word r19 = load_wanted_capacity(pairs, slots_len, thousandths);
-    if (r19.first != 1) {
+    struct byte_word wanted_capacity = load_wanted_capacity(pairs, slots_len, thousandths);
+    if (wanted_capacity.first != 1) {
         return made_byte_byte(1, 1);
     }
-    if (r19.second == slots_len) {
+    if (wanted_capacity.second == slots_len) {
         uint64_t spare = load64(map + INT_MAP_SPARE);
         if (sharing <= spare) {
             goto join_8;
         }
-        uint64_t r19_2 = sharing - spare;
-        if ((NODE_LIMIT - load64(map + INT_MAP_NODES_LEN)) < r19_2) {
+        uint64_t r19 = sharing - spare;
+        if ((NODE_LIMIT - load64(map + INT_MAP_NODES_LEN)) < r19) {
             return made_byte_byte(1, 0);
         }
-        uint8_t r33 = vec_reserve_exact(map + INT_MAP_NODES, r19_2);
-        r0 = r33;
+        uint8_t reserve_exact = vec_reserve_exact(map + INT_MAP_NODES, r19);
+        r0 = reserve_exact;
     } else {
         uint64_t r10 = load64(map + INT_MAP_NODES_LEN) - load64(map + INT_MAP_SPARE);
         if (r10 > (~sharing)) {
             return made_byte_byte(1, 0);
         }
-        uint8_t r23 = slots_enlarge(map, r19.second, r10 + sharing);
-        r0 = r23;
+        uint8_t enlarge = slots_enlarge(map, wanted_capacity.second, r10 + sharing);
+        r0 = enlarge;
     }
     if ((r0 & 1) != 0) {
         return made_byte_byte(1, 0);
     }
 join_8:;
     store64(map + INT_MAP_FACTOR, thousandths);
-    u128 r17 = u128_less_one(u128_mul(u128_add(u128_of(thousandths), u128_of(1u)), u128_of(r19.second)));
+    u128 r17 = u128_less_one(u128_mul(u128_add(u128_of(thousandths), u128_of(1u)), u128_of(wanted_capacity.second)));
     store64(map + INT_MAP_THRESHOLD, u128_above(r17, u128_two(999, UINT64_MAX)) ? UINT64_MAX : u128_low(u128_div(r17, u128_of(1000u))));
     return made_byte_byte(0, 0);
 }
@@ -2262,11 +2289,11 @@ static ALWAYS_INLINE void do_intmap_place(char *word, uint64_t key, char *at) {
     if (map == NULL) {
         return;
     }
-    struct byte_address r3 = intmap_get_mut(map, key);
-    if (r3.first != 1) {
+    struct byte_address get_mut = intmap_get_mut(map, key);
+    if (get_mut.first != 1) {
         return;
     }
-    store_address(at, r3.second);
+    store_address(at, get_mut.second);
 }
 
 // The version of the code, which is 1.1.0: 10000 times the first number, 100 times the second, and the third.
@@ -2292,26 +2319,26 @@ static ALWAYS_INLINE bool do_intmap_contains_key(char *word, uint64_t key) {
     if (map == NULL) {
         return false;
     }
-    struct byte_address r8 = intmap_get_counted(map, key);
-    return (r8.first & 1) != 0;
+    struct byte_address get_counted = intmap_get_counted(map, key);
+    return (get_counted.first & 1) != 0;
 }
 
 // Whether the same keys have the same values in both maps.
 // intmap_equal, in crates/intmap_c/src/read.rt
 static ALWAYS_INLINE bool do_intmap_equal(char *word, char *other) {
-    uint64_t bits, r6_2;
-    char *r6;
+    uint64_t bits, r6;
+    char *word_at;
     char *map = load_address(word);
     char *map_2 = load_address(other);
-    bool r12 = map_2 == NULL;
+    bool map_is_null = map_2 == NULL;
     if (map == NULL) {
-        if (r12) {
+        if (map_is_null) {
             return true;
         }
         return load64(map_2 + INT_MAP_LEN) == 0;
     }
     uint64_t len = load64(map + INT_MAP_LEN);
-    if (r12) {
+    if (map_is_null) {
         return len == 0;
     }
     if (len != load64(map_2 + INT_MAP_LEN)) {
@@ -2320,88 +2347,88 @@ static ALWAYS_INLINE bool do_intmap_equal(char *word, char *other) {
     uint64_t words_len = load64(map + INT_MAP_WORDS_LEN);
     if (words_len == 0) {
         bits = 0;
-        r6 = (char *)no_bytes;
-        r6_2 = 0;
+        word_at = (char *)no_bytes;
+        r6 = 0;
     } else {
         char *words = load_address(map + INT_MAP_WORDS);
         bits = load64(words);
-        r6 = words + 8;
-        r6_2 = words_len - 1;
+        word_at = words + 8;
+        r6 = words_len - 1;
     }
     char *slots = load_address(map + INT_MAP_SLOTS);
     uint64_t nodes_len = load64(map + INT_MAP_NODES_LEN);
     uint64_t at = NOWHERE;
-    uint64_t r1 = bits;
-    uint64_t r1_2 = 0;
-    char *r1_3 = r6;
-    uint64_t r1_4 = r6_2;
+    uint64_t bits_2 = bits;
+    uint64_t r1 = 0;
+    char *word_at_2 = word_at;
+    uint64_t r1_2 = r6;
     for (;;) {
-        uint64_t r1_5, r1_6, r1_8, link, r1_12, r1_14, r17, r27;
-        char *r1_7, *node_2, *r1_13, *node_3;
+        uint64_t bits_3, r1_3, r1_4, link, r1_7, r1_8, bits_5, lowest;
+        char *word_at_3, *node_2, *word_at_5, *node_3;
         if (nodes_len > at) {
             char *node = load_address(map + INT_MAP_NODES) + (at * NODE_SIZE);
             if (load8(node + NODE_HAS_PAIR) == 1) {
-                r1_5 = r1;
-                r1_6 = r1_2;
-                r1_7 = r1_3;
-                r1_8 = r1_4;
+                bits_3 = bits_2;
+                r1_3 = r1;
+                word_at_3 = word_at_2;
+                r1_4 = r1_2;
                 link = link_of(load16(node + NODE_HIGH), load32(node + NODE_LOW));
                 node_2 = node;
                 goto arm_6_2;
             }
         }
-        if (r1 == 0) {
-            uint64_t r1_9 = r1_2;
-            char *r1_10 = r1_3;
-            uint64_t r1_11 = r1_4;
+        if (bits_2 == 0) {
+            uint64_t r1_5 = r1;
+            char *word_at_4 = word_at_2;
+            uint64_t r1_6 = r1_2;
             for (;;) {
-                if (r1_11 == 0) {
+                if (r1_6 == 0) {
                     return true;
                 }
-                uint64_t r33 = r1_11 - 1;
-                uint64_t bits_2 = load64(r1_10);
-                uint64_t r60 = r1_9 + 64;
-                if (bits_2 != 0) {
-                    r1_12 = r60;
-                    r1_13 = r1_10 + 8;
-                    r1_14 = r33;
-                    r17 = bits_2;
+                uint64_t r33 = r1_6 - 1;
+                uint64_t bits_4 = load64(word_at_4);
+                uint64_t r60 = r1_5 + 64;
+                if (bits_4 != 0) {
+                    r1_7 = r60;
+                    word_at_5 = word_at_4 + 8;
+                    r1_8 = r33;
+                    bits_5 = bits_4;
                     break;
                 }
-                r1_9 = r60;
-                r1_10 = r1_10 + 8;
-                r1_11 = r33;
+                r1_5 = r60;
+                word_at_4 = word_at_4 + 8;
+                r1_6 = r33;
             }
         } else {
-            r1_12 = r1_2;
-            r1_13 = r1_3;
-            r1_14 = r1_4;
-            r17 = r1;
+            r1_7 = r1;
+            word_at_5 = word_at_2;
+            r1_8 = r1_2;
+            bits_5 = bits_2;
         }
-        r27 = place_of_lowest_1(r17);
-        node_3 = slots + ((r27 + r1_12) * NODE_SIZE);
+        lowest = place_of_lowest_1(bits_5);
+        node_3 = slots + ((lowest + r1_7) * NODE_SIZE);
         if (load8(node_3 + NODE_HAS_PAIR) != 1) {
             abort(); // The proof excludes this.
         }
-        r1_5 = (r17 - 1) & r17;
-        r1_6 = r1_12;
-        r1_7 = r1_13;
-        r1_8 = r1_14;
+        bits_3 = (bits_5 - 1) & bits_5;
+        r1_3 = r1_7;
+        word_at_3 = word_at_5;
+        r1_4 = r1_8;
         link = link_of(load16(node_3 + NODE_HIGH), load32(node_3 + NODE_LOW));
         node_2 = node_3;
     arm_6_2:;
-        struct byte_address r5 = intmap_get_counted(map_2, load64(node_2 + NODE_KEY));
-        if (r5.first != 1) {
+        struct byte_address get_counted = intmap_get_counted(map_2, load64(node_2 + NODE_KEY));
+        if (get_counted.first != 1) {
             return false;
         }
-        if (load64(node_2 + NODE_VALUE) != load64(r5.second)) {
+        if (load64(node_2 + NODE_VALUE) != load64(get_counted.second)) {
             return false;
         }
         at = link;
-        r1 = r1_5;
-        r1_2 = r1_6;
-        r1_3 = r1_7;
-        r1_4 = r1_8;
+        bits_2 = bits_3;
+        r1 = r1_3;
+        word_at_2 = word_at_3;
+        r1_2 = r1_4;
     }
 }
 
@@ -2417,17 +2444,17 @@ static ALWAYS_INLINE uint64_t do_intmap_filled_slots(char *word) {
     if (words_len == 0) {
         return 0;
     }
-    uint64_t r1_06 = 0;
-    uint64_t r3_05 = 0;
+    uint64_t r1 = 0;
+    uint64_t word_2 = 0;
     for (;;) {
-        uint64_t r38 = ones_in(load64(words + (r3_05 << 3)));
-        uint64_t r44 = r38 + r1_06;
-        uint64_t r46 = r3_05 + 1;
-        if (r46 == words_len) {
+        uint64_t ones = ones_in(load64(words + (word_2 << 3)));
+        uint64_t r44 = ones + r1;
+        uint64_t next_word = word_2 + 1;
+        if (next_word == words_len) {
             return r44;
         }
-        r1_06 = r44;
-        r3_05 = r46;
+        r1 = r44;
+        word_2 = next_word;
     }
 }
 
@@ -2460,42 +2487,42 @@ static ALWAYS_INLINE struct word_word do_intmap_get(char *word, uint64_t key) {
         r18 = empty_word_half();
     } else {
         uint64_t value;
-        struct byte_address r5 = intmap_get_counted(map, key);
-        if ((r5.first & 1) != 0) {
-            value = load64(r5.second);
+        struct byte_address get_counted = intmap_get_counted(map, key);
+        if ((get_counted.first & 1) != 0) {
+            value = load64(get_counted.second);
         } else {
             value = 0;
         }
-        uint32_t spec_select1 = (uint32_t)r5.first;
-        r18 = made_word_half(value, spec_select1);
+        uint32_t x = (uint32_t)get_counted.first;
+        r18 = made_word_half(value, x);
     }
-    uint64_t r0_2_8_ext = (uint64_t)r18.second;
-    return made_word_word(r18.first, r0_2_8_ext);
+    uint64_t _status = (uint64_t)r18.second;
+    return made_word_word(r18.first, _status);
 }
 
 // The first pair of the walk from the cursor on, behind which the cursor moves.
 // intmap_step, in crates/intmap_c/src/read.rt
 static ALWAYS_INLINE char *do_intmap_step(char *result, char *word, char *at) {
     uint64_t key, value;
-    uint32_t r6;
+    uint32_t status;
     char *map = load_address(word);
     if (map == NULL) {
         key = 0;
         value = 0;
-        r6 = 0;
+        status = 0;
     } else {
         char *node_3, *node_4, *node_7;
-        uint64_t r3_0, r115, words_len, r1, r1_2, r1_3, r49, at_4;
+        uint64_t sum, word_2, words_len, r1, bits, word_3, lowest, at_4;
         uint64_t slot = load64(at + CURSOR_SLOT);
         uint64_t place = load64(at + CURSOR_PLACE);
         if (slot <= load64(map + INT_MAP_MASK)) {
-            uint64_t r8 = slot * NODE_SIZE;
-            char *node = load_address(map + INT_MAP_SLOTS) + r8;
+            uint64_t offset = slot * NODE_SIZE;
+            char *node = load_address(map + INT_MAP_SLOTS) + offset;
             if (load8(node + NODE_HAS_PAIR) == 1) {
-                struct word_word r9 = chain_last_in(map + INT_MAP_NODES, link_of(load16(node + NODE_HIGH), load32(node + NODE_LOW)));
-                if (place < (r9.second + 1)) {
+                struct word_word last_in = chain_last_in(map + INT_MAP_NODES, link_of(load16(node + NODE_HIGH), load32(node + NODE_LOW)));
+                if (place < (last_in.second + 1)) {
                     store64(at + CURSOR_PLACE, place + 1);
-                    char *node_2 = load_address(map + INT_MAP_SLOTS) + r8;
+                    char *node_2 = load_address(map + INT_MAP_SLOTS) + offset;
                     if (load8(node_2 + NODE_HAS_PAIR) != 1) {
                         goto arm_2_4;
                     }
@@ -2505,14 +2532,14 @@ static ALWAYS_INLINE char *do_intmap_step(char *result, char *word, char *at) {
                         goto arm_5;
                     }
                     uint64_t link = link_of(load16(node_2 + NODE_HIGH), load32(node_2 + NODE_LOW));
-                    uint64_t r19 = place - 1;
-                    uint64_t at_2 = chain_seek(map + INT_MAP_NODES, link, r19);
+                    uint64_t place_2 = place - 1;
+                    uint64_t at_2 = chain_seek(map + INT_MAP_NODES, link, place_2);
                     char *nodes = load_address(map + INT_MAP_NODES);
                     char *node_5 = nodes + (at_2 * NODE_SIZE);
                     if (load8(node_5 + NODE_HAS_PAIR) != 1) {
                         abort(); // The proof excludes this.
                     }
-                    uint64_t at_3 = chain_seek(map + INT_MAP_NODES, link, r19);
+                    uint64_t at_3 = chain_seek(map + INT_MAP_NODES, link, place_2);
                     char *node_6 = nodes + (at_3 * NODE_SIZE);
                     if (load8(node_6 + NODE_HAS_PAIR) != 1) {
                         abort(); // The proof excludes this.
@@ -2523,37 +2550,37 @@ static ALWAYS_INLINE char *do_intmap_step(char *result, char *word, char *at) {
                 }
             }
         }
-        r3_0 = sum_or_most(slot, 1);
-        r115 = r3_0 >> 6;
+        sum = sum_or_most(slot, 1);
+        word_2 = sum >> 6;
         words_len = load64(map + INT_MAP_WORDS_LEN);
-        if (words_len > r115) {
-            uint64_t r33 = load64(load_address(map + INT_MAP_WORDS) + (r115 << 3)) & (UINT64_MAX << (r3_0 & 63));
+        if (words_len > word_2) {
+            uint64_t r33 = load64(load_address(map + INT_MAP_WORDS) + (word_2 << 3)) & (UINT64_MAX << (sum & 63));
             if (r33 != 0) {
-                r1 = r115;
-                r1_2 = r33;
+                r1 = word_2;
+                bits = r33;
                 goto join_3_thread;
             }
         }
-        r1_3 = r115;
+        word_3 = word_2;
         for (;;) {
-            uint64_t r26 = r1_3 + 1;
-            if (words_len <= r26) {
+            uint64_t next_word = word_3 + 1;
+            if (words_len <= next_word) {
                 key = 0;
                 value = 0;
-                r6 = 0;
+                status = 0;
                 goto after_read_intmap_step;
             }
-            uint64_t bits = load64(load_address(map + INT_MAP_WORDS) + (r26 << 3));
-            if (bits != 0) {
-                r1 = r26;
-                r1_2 = bits;
+            uint64_t bits_2 = load64(load_address(map + INT_MAP_WORDS) + (next_word << 3));
+            if (bits_2 != 0) {
+                r1 = next_word;
+                bits = bits_2;
                 break;
             }
-            r1_3 = r26;
+            word_3 = next_word;
         }
     join_3_thread:;
-        r49 = place_of_lowest_1(r1_2);
-        at_4 = r49 | (r1 << 6);
+        lowest = place_of_lowest_1(bits);
+        at_4 = lowest | (r1 << 6);
         store64(at + CURSOR_SLOT, at_4);
         store64(at + CURSOR_PLACE, 1);
         node_7 = load_address(map + INT_MAP_SLOTS) + (at_4 * NODE_SIZE);
@@ -2567,13 +2594,13 @@ static ALWAYS_INLINE char *do_intmap_step(char *result, char *word, char *at) {
     arm_5:;
         key = load64(node_3 + NODE_KEY);
         value = load64(node_4 + NODE_VALUE);
-        r6 = 1;
+        status = 1;
     }
 after_read_intmap_step:;
     store64(result + FOUND_PAIR_KEY, key);
     store64(result + FOUND_PAIR_VALUE, value);
-    store32(result + FOUND_PAIR_STATUS, r6);
-    store32(result + 20, 0);
+    store32(result + FOUND_PAIR_STATUS, status);
+    store32(result + FOUND_PAIR_STATUS + 4, 0);
     return result;
 }
 
@@ -2587,10 +2614,10 @@ static ALWAYS_INLINE struct word_word do_intmap_add_present(char *handle, uint64
         r23 = empty_word_half();
     } else {
         struct word_half r29;
-        struct byte_address r10 = intmap_get_mut((char *)(uintptr_t)map_address, key);
-        if (r10.first == 1) {
-            uint64_t value = load64(r10.second);
-            store64(r10.second, value + more);
+        struct byte_address get_mut = intmap_get_mut((char *)(uintptr_t)map_address, key);
+        if (get_mut.first == 1) {
+            uint64_t value = load64(get_mut.second);
+            store64(get_mut.second, value + more);
             r29 = made_word_half(value, 1);
         } else {
             r29 = empty_word_half();
@@ -2598,15 +2625,15 @@ static ALWAYS_INLINE struct word_word do_intmap_add_present(char *handle, uint64
         store64(handle, map_address);
         r23 = r29;
     }
-    uint64_t r0_2_8_ext = (uint64_t)r23.second;
-    return made_word_word(r23.first, r0_2_8_ext);
+    uint64_t _status = (uint64_t)r23.second;
+    return made_word_word(r23.first, _status);
 }
 
 // Removes all pairs.
 // intmap_clear, in crates/intmap_c/src/walk.rt
 static ALWAYS_INLINE void do_intmap_clear(char *handle) {
-    uint64_t bits, r1_2;
-    char *r1;
+    uint64_t bits, r1;
+    char *word_at;
     uint64_t map_address = load64(handle);
     store64(handle, 0);
     char *map = (char *)(uintptr_t)map_address;
@@ -2616,63 +2643,63 @@ static ALWAYS_INLINE void do_intmap_clear(char *handle) {
     uint64_t words_len = load64(map + INT_MAP_WORDS_LEN);
     if (words_len == 0) {
         bits = 0;
-        r1 = (char *)no_bytes;
-        r1_2 = 0;
+        word_at = (char *)no_bytes;
+        r1 = 0;
     } else {
         char *words = load_address(map + INT_MAP_WORDS);
         bits = load64(words);
-        r1 = words + 8;
-        r1_2 = words_len - 1;
+        word_at = words + 8;
+        r1 = words_len - 1;
     }
-    uint64_t r1_3 = bits;
-    uint64_t r1_4 = 0;
-    char *r1_5 = r1;
-    uint64_t r1_6 = r1_2;
+    uint64_t bits_2 = bits;
+    uint64_t r1_2 = 0;
+    char *word_at_2 = word_at;
+    uint64_t r1_3 = r1;
     for (;;) {
-        uint64_t r1_10, r1_11, r1_13;
-        char *r1_12;
-        if (r1_3 == 0) {
-            uint64_t r1_7 = r1_6;
-            char *r1_8 = r1_5;
-            uint64_t r1_9 = r1_4;
+        uint64_t bits_4, r1_6, r1_7;
+        char *word_at_4;
+        if (bits_2 == 0) {
+            uint64_t r1_4 = r1_3;
+            char *word_at_3 = word_at_2;
+            uint64_t r1_5 = r1_2;
             for (;;) {
-                if (r1_7 == 0) {
+                if (r1_4 == 0) {
                     char *words_2 = load_address(map + INT_MAP_WORDS);
                     uint64_t words_len_2 = load64(map + INT_MAP_WORDS_LEN);
                     if (words_len_2 != 0) {
-                        uint64_t r28 = words_len_2 - 1;
-                        if (r28 != 0) {
+                        uint64_t word = words_len_2 - 1;
+                        if (word != 0) {
                             memset(words_2, 0, (words_len_2 << 3) - 8);
                         }
-                        store64(words_2 + (r28 << 3), 0);
+                        store64(words_2 + (word << 3), 0);
                     }
                     store64(map + INT_MAP_LEN, 0);
                     store64(handle, map_address);
                     return;
                 }
-                uint64_t r33 = r1_7 - 1;
-                uint64_t bits_2 = load64(r1_8);
-                uint64_t r60 = r1_9 + 64;
-                if (bits_2 != 0) {
-                    r1_10 = bits_2;
-                    r1_11 = r60;
-                    r1_12 = r1_8 + 8;
-                    r1_13 = r33;
+                uint64_t r33 = r1_4 - 1;
+                uint64_t bits_3 = load64(word_at_3);
+                uint64_t r60 = r1_5 + 64;
+                if (bits_3 != 0) {
+                    bits_4 = bits_3;
+                    r1_6 = r60;
+                    word_at_4 = word_at_3 + 8;
+                    r1_7 = r33;
                     break;
                 }
-                r1_7 = r33;
-                r1_8 = r1_8 + 8;
-                r1_9 = r60;
+                r1_4 = r33;
+                word_at_3 = word_at_3 + 8;
+                r1_5 = r60;
             }
         } else {
-            r1_10 = r1_3;
-            r1_11 = r1_4;
-            r1_12 = r1_5;
-            r1_13 = r1_6;
+            bits_4 = bits_2;
+            r1_6 = r1_2;
+            word_at_4 = word_at_2;
+            r1_7 = r1_3;
         }
-        uint64_t r27 = place_of_lowest_1(r1_10);
-        uint64_t r40 = (r1_10 - 1) & r1_10;
-        char *node = load_address(map + INT_MAP_SLOTS) + ((r1_11 + r27) * NODE_SIZE);
+        uint64_t lowest = place_of_lowest_1(bits_4);
+        uint64_t bits_5 = (bits_4 - 1) & bits_4;
+        char *node = load_address(map + INT_MAP_SLOTS) + ((r1_6 + lowest) * NODE_SIZE);
         if (load8(node + NODE_HAS_PAIR) == 1) {
             for (;;) {
                 uint16_t high = load16(node + NODE_HIGH);
@@ -2686,30 +2713,30 @@ static ALWAYS_INLINE void do_intmap_clear(char *handle) {
                 }
             }
         }
-        r1_3 = r40;
-        r1_4 = r1_11;
-        r1_5 = r1_12;
-        r1_6 = r1_13;
+        bits_2 = bits_5;
+        r1_2 = r1_6;
+        word_at_2 = word_at_4;
+        r1_3 = r1_7;
     }
 }
 
 // Removes the first pair of the walk from the cursor on and returns it.
 // intmap_cut, in crates/intmap_c/src/walk.rt
 static ALWAYS_INLINE char *do_intmap_cut(char *result, char *handle, char *at) {
-    uint64_t r6, r6_2;
-    uint32_t r6_3;
+    uint64_t key, value;
+    uint32_t status;
     uint64_t map_address = load64(handle);
     store64(handle, 0);
     char *map = (char *)(uintptr_t)map_address;
     if (map_address == 0) {
-        r6 = 0;
-        r6_2 = 0;
-        r6_3 = 0;
+        key = 0;
+        value = 0;
+        status = 0;
     } else {
-        uint64_t link_2, r307091, r307090, r3_0, r115, words_len, r1, r1_2, r1_3, x12, x13, r49, at_5, r307089;
+        uint64_t link_2, r307091, slot_2, sum, word, words_len, r1, bits, word_2, x12, x13, lowest, at_5, slot_3;
         uint16_t high_2, high_4;
-        char *node_2, *nodes_at, *node_6, *node_7, *r11_2;
-        struct word_word r25, r25_2, r25_3, r14;
+        char *node_2, *pool, *node_6, *node_7, *word_at;
+        struct word_word release_2, r25, r25_2, pop_front_of_several;
         uint32_t r8;
         uint64_t slot = load64(at + CURSOR_SLOT);
         uint64_t place = load64(at + CURSOR_PLACE);
@@ -2718,8 +2745,8 @@ static ALWAYS_INLINE char *do_intmap_cut(char *result, char *handle, char *at) {
             if (load8(node + NODE_HAS_PAIR) == 1) {
                 uint16_t high = load16(node + NODE_HIGH);
                 uint64_t link = link_of(high, load32(node + NODE_LOW));
-                struct word_word r9 = chain_last_in(map + INT_MAP_NODES, link);
-                if (place < (r9.second + 1)) {
+                struct word_word last_in = chain_last_in(map + INT_MAP_NODES, link);
+                if (place < (last_in.second + 1)) {
                     char *nodes, *nodes_2, *node_3;
                     uint64_t at_2, at_3, at_4;
                     switch (place) {
@@ -2728,7 +2755,7 @@ static ALWAYS_INLINE char *do_intmap_cut(char *result, char *handle, char *at) {
                         high_2 = high;
                         r307091 = slot;
                         node_2 = node;
-                        nodes_at = map + INT_MAP_NODES;
+                        pool = map + INT_MAP_NODES;
                         goto then_6;
                     case 1:
                         nodes = load_address(map + INT_MAP_NODES);
@@ -2753,14 +2780,14 @@ static ALWAYS_INLINE char *do_intmap_cut(char *result, char *handle, char *at) {
                     }
                     uint16_t high_3 = load16(node_4 + NODE_HIGH);
                     uint32_t low = load32(node_4 + NODE_LOW);
-                    struct word_word r11 = pool_release(map + INT_MAP_NODES, at_2);
-                    if (at_3 > UINT64_C(281470681743359)) {
+                    struct word_word release = pool_release(map + INT_MAP_NODES, at_2);
+                    if (at_3 >= NODE_LIMIT) {
                         if (load8(node + NODE_HAS_PAIR) != 1) {
                             abort(); // The proof excludes this.
                         }
                         store16(node + NODE_HIGH, high_3);
                         store32(node + NODE_LOW, low);
-                        r25 = r11;
+                        release_2 = release;
                         goto x11;
                     }
                     char *node_5 = load_address(map + INT_MAP_NODES) + (at_3 * NODE_SIZE);
@@ -2769,44 +2796,44 @@ static ALWAYS_INLINE char *do_intmap_cut(char *result, char *handle, char *at) {
                     }
                     store16(node_5 + NODE_HIGH, high_3);
                     store32(node_5 + NODE_LOW, low);
-                    r307090 = slot;
+                    slot_2 = slot;
                     node_6 = node;
-                    r25_2 = r11;
+                    r25 = release;
                     goto after_removal_remove_2;
                 }
             }
         }
-        r3_0 = sum_or_most(slot, 1);
-        r115 = r3_0 >> 6;
+        sum = sum_or_most(slot, 1);
+        word = sum >> 6;
         words_len = load64(map + INT_MAP_WORDS_LEN);
-        if (words_len > r115) {
-            uint64_t r33 = load64(load_address(map + INT_MAP_WORDS) + (r115 << 3)) & (UINT64_MAX << (r3_0 & 63));
+        if (words_len > word) {
+            uint64_t r33 = load64(load_address(map + INT_MAP_WORDS) + (word << 3)) & (UINT64_MAX << (sum & 63));
             if (r33 != 0) {
-                r1 = r115;
-                r1_2 = r33;
+                r1 = word;
+                bits = r33;
                 goto join_3_4;
             }
         }
-        r1_3 = r115;
+        word_2 = word;
         for (;;) {
-            uint64_t r26 = r1_3 + 1;
-            if (words_len <= r26) {
+            uint64_t next_word = word_2 + 1;
+            if (words_len <= next_word) {
                 x12 = 0;
                 r8 = 0;
                 x13 = 0;
                 goto after_walk_cut;
             }
-            uint64_t bits = load64(load_address(map + INT_MAP_WORDS) + (r26 << 3));
-            if (bits != 0) {
-                r1 = r26;
-                r1_2 = bits;
+            uint64_t bits_2 = load64(load_address(map + INT_MAP_WORDS) + (next_word << 3));
+            if (bits_2 != 0) {
+                r1 = next_word;
+                bits = bits_2;
                 break;
             }
-            r1_3 = r26;
+            word_2 = next_word;
         }
     join_3_4:;
-        r49 = place_of_lowest_1(r1_2);
-        at_5 = r49 | (r1 << 6);
+        lowest = place_of_lowest_1(bits);
+        at_5 = lowest | (r1 << 6);
         store64(at + CURSOR_SLOT, at_5);
         store64(at + CURSOR_PLACE, 0);
         node_7 = load_address(map + INT_MAP_SLOTS) + (at_5 * NODE_SIZE);
@@ -2818,46 +2845,46 @@ static ALWAYS_INLINE char *do_intmap_cut(char *result, char *handle, char *at) {
         high_2 = high_4;
         r307091 = at_5;
         node_2 = node_7;
-        nodes_at = map + INT_MAP_NODES;
+        pool = map + INT_MAP_NODES;
     then_6:;
         if (high_2 == NOWHERE_HIGH) {
-            uint64_t key = load64(node_2 + NODE_KEY);
-            uint64_t value = load64(node_2 + NODE_VALUE);
+            uint64_t key_2 = load64(node_2 + NODE_KEY);
+            uint64_t value_2 = load64(node_2 + NODE_VALUE);
             memset(node_2, 0, NODE_SIZE);
-            r307089 = r307091;
-            r25_3 = made_word_word(key, value);
+            slot_3 = r307091;
+            r25_2 = made_word_word(key_2, value_2);
             goto then_1_3;
         }
-        r14 = removal_pop_front_of_several(node_2, link_2, nodes_at);
-        r307090 = r307091;
+        pop_front_of_several = removal_pop_front_of_several(node_2, link_2, pool);
+        slot_2 = r307091;
         node_6 = node_2;
-        r25_2 = r14;
+        r25 = pop_front_of_several;
     after_removal_remove_2:;
         if (load8(node_6 + NODE_HAS_PAIR) != 0) {
-            r25 = r25_2;
+            release_2 = r25;
             goto x11;
         }
-        r307089 = r307090;
-        r25_3 = r25_2;
+        slot_3 = slot_2;
+        r25_2 = r25;
     then_1_3:;
-        r11_2 = load_address(map + INT_MAP_WORDS) + ((r307089 >> 3) & UINT64_C(0x1FFFFFFFFFFFFFF8));
-        store64(r11_2, load64(r11_2) & (~((uint64_t)1 << (r307089 & 63))));
-        r25 = r25_3;
+        word_at = load_address(map + INT_MAP_WORDS) + ((slot_3 >> 3) & UINT64_C(0x1FFFFFFFFFFFFFF8));
+        store64(word_at, load64(word_at) & (~((uint64_t)1 << (slot_3 & 63))));
+        release_2 = r25_2;
     x11:;
         store64(map + INT_MAP_LEN, load64(map + INT_MAP_LEN) - 1);
-        x12 = r25.first;
+        x12 = release_2.first;
         r8 = 1;
-        x13 = r25.second;
+        x13 = release_2.second;
     after_walk_cut:;
         store64(handle, map_address);
-        r6 = x12;
-        r6_2 = x13;
-        r6_3 = r8;
+        key = x12;
+        value = x13;
+        status = r8;
     }
-    store64(result + FOUND_PAIR_KEY, r6);
-    store64(result + FOUND_PAIR_VALUE, r6_2);
-    store32(result + FOUND_PAIR_STATUS, r6_3);
-    store32(result + 20, 0);
+    store64(result + FOUND_PAIR_KEY, key);
+    store64(result + FOUND_PAIR_VALUE, value);
+    store32(result + FOUND_PAIR_STATUS, status);
+    store32(result + FOUND_PAIR_STATUS + 4, 0);
     return result;
 }
 
@@ -2899,47 +2926,47 @@ static ALWAYS_INLINE struct word_word do_intmap_remove(char *handle, uint64_t ke
     if (map_address == 0) {
         r23 = empty_word_half();
     } else {
-        uint32_t spec_select1;
-        uint64_t x5;
+        uint32_t joined;
+        uint64_t value_3;
         uint64_t index = load64(map + INT_MAP_MASK) & (key * MULTIPLIER);
         char *node = load_address(map + INT_MAP_SLOTS) + (index * NODE_SIZE);
         if (load8(node + NODE_HAS_PAIR) == 1) {
-            uint64_t r0;
+            uint64_t value_2;
             uint16_t high = load16(node + NODE_HIGH);
             if (high == NOWHERE_HIGH) {
                 if (load64(node + NODE_KEY) != key) {
-                    spec_select1 = 0;
-                    x5 = 0;
+                    joined = 0;
+                    value_3 = 0;
                     goto after_pairs_remove;
                 }
-                uint64_t r8 = (index >> 3) & UINT64_C(0x1FFFFFFFFFFFFFF8);
-                uint64_t bits = load64(load_address(map + INT_MAP_WORDS) + r8);
+                uint64_t offset = (index >> 3) & UINT64_C(0x1FFFFFFFFFFFFFF8);
+                uint64_t bits = load64(load_address(map + INT_MAP_WORDS) + offset);
                 uint64_t value = load64(node + NODE_VALUE);
                 memset(node, 0, NODE_SIZE);
-                store64(load_address(map + INT_MAP_WORDS) + r8, bits & (~((uint64_t)1 << (index & 63))));
-                r0 = value;
+                store64(load_address(map + INT_MAP_WORDS) + offset, bits & (~((uint64_t)1 << (index & 63))));
+                value_2 = value;
             } else {
-                struct byte_word r51 = removal_remove_of_several(node, link_of(high, load32(node + NODE_LOW)), map + INT_MAP_NODES, key);
-                if (r51.first != 1) {
-                    spec_select1 = 0;
-                    x5 = 0;
+                struct byte_word remove_of_several = removal_remove_of_several(node, link_of(high, load32(node + NODE_LOW)), map + INT_MAP_NODES, key);
+                if (remove_of_several.first != 1) {
+                    joined = 0;
+                    value_3 = 0;
                     goto after_pairs_remove;
                 }
-                r0 = r51.second;
+                value_2 = remove_of_several.second;
             }
             store64(map + INT_MAP_LEN, load64(map + INT_MAP_LEN) - 1);
-            spec_select1 = 1;
-            x5 = r0;
+            joined = 1;
+            value_3 = value_2;
         } else {
-            spec_select1 = 0;
-            x5 = 0;
+            joined = 0;
+            value_3 = 0;
         }
     after_pairs_remove:;
         store64(handle, map_address);
-        r23 = made_word_half(x5, spec_select1);
+        r23 = made_word_half(value_3, joined);
     }
-    uint64_t r0_2_8_ext = (uint64_t)r23.second;
-    return made_word_word(r23.first, r0_2_8_ext);
+    uint64_t _status = (uint64_t)r23.second;
+    return made_word_word(r23.first, _status);
 }
 
 // Replaces the value of a present key, whose pair keeps its place, and returns the value before.
@@ -2952,10 +2979,10 @@ static ALWAYS_INLINE struct word_word do_intmap_replace(char *handle, uint64_t k
         r23 = empty_word_half();
     } else {
         struct word_half r26;
-        struct byte_address r10 = intmap_get_mut((char *)(uintptr_t)map_address, key);
-        if (r10.first == 1) {
-            uint64_t value_2 = load64(r10.second);
-            store64(r10.second, value);
+        struct byte_address get_mut = intmap_get_mut((char *)(uintptr_t)map_address, key);
+        if (get_mut.first == 1) {
+            uint64_t value_2 = load64(get_mut.second);
+            store64(get_mut.second, value);
             r26 = made_word_half(value_2, 1);
         } else {
             r26 = empty_word_half();
@@ -2963,28 +2990,28 @@ static ALWAYS_INLINE struct word_word do_intmap_replace(char *handle, uint64_t k
         store64(handle, map_address);
         r23 = r26;
     }
-    uint64_t r0_2_8_ext = (uint64_t)r23.second;
-    return made_word_word(r23.first, r0_2_8_ext);
+    uint64_t _status = (uint64_t)r23.second;
+    return made_word_word(r23.first, _status);
 }
 
 // Makes a map in `to` with the same pairs in the same order, as many slots and the same load factor, and returns
 // `OK`.
 // intmap_clone, in crates/intmap_c/src/read.rt
 static ALWAYS_INLINE uint32_t do_intmap_clone(char *word, char *to) {
-    uint32_t r5_0;
-    uint64_t has_failed_at_room[13];
-    char *has_failed_at = (char *)has_failed_at_room;
-    uint64_t r2_3_room[13];
-    char *r2_3 = (char *)r2_3_room;
-    uint64_t has_failed_at_2_room[16];
-    char *has_failed_at_2 = (char *)has_failed_at_2_room;
+    uint32_t keep;
+    uint64_t made_slots_room[13];
+    char *made_slots = (char *)made_slots_room;
+    uint64_t r2_room[13];
+    char *r2 = (char *)r2_room;
+    uint64_t made_int_map_room[16];
+    char *made_int_map = (char *)made_int_map_room;
     char *map = load_address(word);
-    memset(has_failed_at_2, 0, 104);
+    memset(made_int_map, 0, 104);
     if (map == NULL) {
         uint64_t map_address = load64(to);
         store64(to, 0);
         if (map_address == 0) {
-            r5_0 = 0;
+            keep = 0;
         } else {
             char *map_2 = (char *)(uintptr_t)map_address;
             char *words = load_address(map_2 + INT_MAP_WORDS);
@@ -3001,92 +3028,92 @@ static ALWAYS_INLINE uint32_t do_intmap_clone(char *word, char *to) {
                 rattle_dealloc(slots);
             }
             if (nodes_room == 0) {
-                r5_0 = 0;
+                keep = 0;
             } else {
                 rattle_dealloc(nodes);
-                r5_0 = 0;
+                keep = 0;
             }
         }
     } else {
-        uint8_t sink15;
+        uint8_t has_failed;
         uint64_t len_2, threshold_2, factor_2;
-        memset(has_failed_at, 0, MADE_SLOTS_SIZE);
-        slots_clone(has_failed_at, map);
-        if (load8(has_failed_at + MADE_SLOTS_HAS_FAILED) == 0) {
-            memcpy(r2_3 + 7, has_failed_at + MADE_SLOTS_MASK, 96);
+        memset(made_slots, 0, MADE_SLOTS_SIZE);
+        slots_clone(made_slots, map);
+        if (load8(made_slots + MADE_SLOTS_HAS_FAILED) == 0) {
+            memcpy(r2 + 7, made_slots + MADE_SLOTS_MASK, 96);
             uint64_t len = load64(map + INT_MAP_LEN);
             uint64_t threshold = load64(map + INT_MAP_THRESHOLD);
             uint64_t factor = load64(map + INT_MAP_FACTOR);
-            memcpy(has_failed_at_2 + MADE_INT_MAP_MASK, r2_3 + 7, TABLE_SIZE);
-            sink15 = 0;
+            memcpy(made_int_map + MADE_INT_MAP_MASK, r2 + 7, TABLE_SIZE);
+            has_failed = 0;
             len_2 = len;
             threshold_2 = threshold;
             factor_2 = factor;
         } else {
-            memset(has_failed_at_2 + MADE_INT_MAP_MASK, 0, TABLE_SIZE);
-            sink15 = 1;
+            memset(made_int_map + MADE_INT_MAP_MASK, 0, TABLE_SIZE);
+            has_failed = 1;
             len_2 = 0;
             threshold_2 = 0;
             factor_2 = 0;
         }
-        store8(has_failed_at_2 + MADE_INT_MAP_HAS_FAILED, sink15);
-        store8(has_failed_at_2 + MADE_INT_MAP_CAUSE, 0);
-        store64(has_failed_at_2 + MADE_INT_MAP_LEN, len_2);
-        store64(has_failed_at_2 + MADE_INT_MAP_THRESHOLD, threshold_2);
-        store64(has_failed_at_2 + MADE_INT_MAP_FACTOR, factor_2);
-        uint32_t r30 = make_keep(to, has_failed_at_2);
-        r5_0 = r30;
+        store8(made_int_map + MADE_INT_MAP_HAS_FAILED, has_failed);
+        store8(made_int_map + MADE_INT_MAP_CAUSE, 0);
+        store64(made_int_map + MADE_INT_MAP_LEN, len_2);
+        store64(made_int_map + MADE_INT_MAP_THRESHOLD, threshold_2);
+        store64(made_int_map + MADE_INT_MAP_FACTOR, factor_2);
+        uint32_t keep_2 = make_keep(to, made_int_map);
+        keep = keep_2;
     }
-    return r5_0;
+    return keep;
 }
 
 // Makes an empty map, with a load factor of 909 thousandths, and returns `OK`.
 // intmap_with_slots, in crates/intmap_c/src/make.rt
 static ALWAYS_INLINE uint32_t do_intmap_with_slots(char *handle, uint64_t slots) {
     uint8_t has_failed, cause;
-    uint64_t has_failed_at_room[16];
-    char *has_failed_at = (char *)has_failed_at_room;
-    uint64_t has_failed_at_2_room[16];
-    char *has_failed_at_2 = (char *)has_failed_at_2_room;
-    memset(has_failed_at_2, 0, MADE_INT_MAP_SIZE);
-    memset(has_failed_at, 0, MADE_INT_MAP_SIZE);
+    uint64_t made_int_map_room[16];
+    char *made_int_map = (char *)made_int_map_room;
+    uint64_t made_int_map_2_room[16];
+    char *made_int_map_2 = (char *)made_int_map_2_room;
+    memset(made_int_map_2, 0, MADE_INT_MAP_SIZE);
+    memset(made_int_map, 0, MADE_INT_MAP_SIZE);
     if (slots > GREATEST_CAPACITY) {
-        memset(has_failed_at_2 + MADE_INT_MAP_MASK, 0, INT_MAP_SIZE);
+        memset(made_int_map_2 + MADE_INT_MAP_MASK, 0, INT_MAP_SIZE);
         has_failed = 1;
         cause = 1;
     } else {
-        uint64_t a0_a1 = greater(slots, 2);
-        uint64_t r13 = high_zeros(a0_a1 - 1);
-        intmap_of_slots(has_failed_at, (uint64_t)1 << ((uint64_t)64 - r13));
-        uint8_t has_failed_2 = load8(has_failed_at + MADE_INT_MAP_HAS_FAILED);
-        uint8_t cause_2 = load8(has_failed_at + MADE_INT_MAP_CAUSE);
-        memcpy(has_failed_at_2 + MADE_INT_MAP_MASK, has_failed_at + MADE_INT_MAP_MASK, INT_MAP_SIZE);
+        uint64_t most = greater(slots, 2);
+        uint64_t zeros = high_zeros(most - 1);
+        intmap_of_slots(made_int_map, (uint64_t)1 << ((uint64_t)64 - zeros));
+        uint8_t has_failed_2 = load8(made_int_map + MADE_INT_MAP_HAS_FAILED);
+        uint8_t cause_2 = load8(made_int_map + MADE_INT_MAP_CAUSE);
+        memcpy(made_int_map_2 + MADE_INT_MAP_MASK, made_int_map + MADE_INT_MAP_MASK, INT_MAP_SIZE);
         has_failed = has_failed_2;
         cause = cause_2;
     }
-    store8(has_failed_at_2 + MADE_INT_MAP_HAS_FAILED, has_failed);
-    store8(has_failed_at_2 + MADE_INT_MAP_CAUSE, cause);
-    uint32_t r5 = make_keep(handle, has_failed_at_2);
-    return r5;
+    store8(made_int_map_2 + MADE_INT_MAP_HAS_FAILED, has_failed);
+    store8(made_int_map_2 + MADE_INT_MAP_CAUSE, cause);
+    uint32_t keep = make_keep(handle, made_int_map_2);
+    return keep;
 }
 
 // Adds to the value of a present key as `intmap_add_present` does, or inserts an absent key with `more`.
 // intmap_add_or_insert, in crates/intmap_c/src/pairs.rt
 static ALWAYS_INLINE struct word_word do_intmap_add_or_insert(char *handle, uint64_t key, uint64_t more) {
     char *map;
-    uint64_t r40, value_3, len;
-    uint64_t r11_room[3];
-    char *r11 = (char *)r11_room;
-    uint64_t r10_room[4];
-    char *r10 = (char *)r10_room;
+    uint64_t status, value_3, len;
+    uint64_t made_usize_room[3];
+    char *made_usize = (char *)made_usize_room;
+    uint64_t made_location_room[4];
+    char *made_location = (char *)made_location_room;
     uint64_t map_address = load64(handle);
     store64(handle, 0);
     if (map_address == 0) {
-        struct byte_address r15 = handle_make_first();
-        if (r15.first == 0) {
+        struct byte_address make_first = handle_make_first();
+        if (make_first.first == 0) {
             return made_word_word(0, NO_MEMORY);
         }
-        map = r15.second;
+        map = make_first.second;
     } else {
         map = (char *)(uintptr_t)map_address;
     }
@@ -3104,7 +3131,7 @@ static ALWAYS_INLINE struct word_word do_intmap_add_or_insert(char *handle, uint
                 goto arm_2_2;
             }
             char *nodes = load_address(map + INT_MAP_NODES);
-            uint64_t r3_0 = 0;
+            uint64_t place = 0;
             uint64_t at = link;
             for (;;) {
                 char *node_2 = nodes + (at * NODE_SIZE);
@@ -3112,16 +3139,16 @@ static ALWAYS_INLINE struct word_word do_intmap_add_or_insert(char *handle, uint
                     goto arm_2_2;
                 }
                 if (load64(node_2 + NODE_KEY) == key) {
-                    if (r3_0 == UINT64_MAX) {
+                    if (place == UINT64_MAX) {
                         break;
                     }
-                    uint64_t at_2 = chain_seek(map + INT_MAP_NODES, link, r3_0);
+                    uint64_t at_2 = chain_seek(map + INT_MAP_NODES, link, place);
                     char *node_3 = nodes + (at_2 * NODE_SIZE);
                     if (load8(node_3 + NODE_HAS_PAIR) != 1) {
                         abort(); // The proof excludes this.
                     }
                     uint64_t value = load64(node_3 + NODE_VALUE);
-                    uint64_t at_3 = chain_seek(map + INT_MAP_NODES, link, r3_0);
+                    uint64_t at_3 = chain_seek(map + INT_MAP_NODES, link, place);
                     char *node_4 = nodes + (at_3 * NODE_SIZE);
                     if (load8(node_4 + NODE_HAS_PAIR) != 1) {
                         abort(); // The proof excludes this.
@@ -3134,7 +3161,7 @@ static ALWAYS_INLINE struct word_word do_intmap_add_or_insert(char *handle, uint
                 if (nodes_len <= link_2) {
                     goto arm_2_2;
                 }
-                r3_0 = r3_0 + 1;
+                place = place + 1;
                 at = link_2;
             }
         }
@@ -3142,70 +3169,70 @@ static ALWAYS_INLINE struct word_word do_intmap_add_or_insert(char *handle, uint
         node_5 = node;
     after_OccupiedEntry_insert:;
         store64(node_5 + NODE_VALUE, value_2 + more);
-        r40 = 1;
+        status = 1;
         value_3 = value_2;
         goto after_pairs_add_or_insert;
     }
 arm_2_2:;
-    memset(r10, 0, 32);
+    memset(made_location, 0, MADE_LOCATION_SIZE);
     len = load64(map + INT_MAP_LEN);
     if (len >= load64(map + INT_MAP_THRESHOLD)) {
         if (!((len != UINT64_MAX) ? (((len + 1) & 4) == 0) : false)) {
-            intmap_add_growing(r10, map, index, key, key, more);
-            if (load8(r10) == 0) {
-                r40 = 0;
+            intmap_add_growing(made_location, map, index, key, key, more);
+            if (load8(made_location + MADE_LOCATION_HAS_FAILED) == 0) {
+                status = 0;
                 value_3 = 0;
                 goto after_pairs_add_or_insert;
             }
-            r40 = (load8(r10 + 16) == 0) ? NO_MEMORY : TOO_LARGE;
+            status = (load8(made_location + MADE_LOCATION_SLOT_OR_CAUSE) == 0) ? NO_MEMORY : TOO_LARGE;
             value_3 = 0;
             goto after_pairs_add_or_insert;
         }
     }
-    memset(r11, 0, 24);
+    memset(made_usize, 0, MADE_USIZE_SIZE);
     if (has_pair == 0) {
-        uint64_t r8 = (index >> 3) & UINT64_C(0x1FFFFFFFFFFFFFF8);
-        uint64_t bits = load64(load_address(map + INT_MAP_WORDS) + r8);
+        uint64_t offset = (index >> 3) & UINT64_C(0x1FFFFFFFFFFFFFF8);
+        uint64_t bits = load64(load_address(map + INT_MAP_WORDS) + offset);
         store16(node + NODE_HAS_PAIR, 1);
         store16(node + NODE_HIGH, NOWHERE_HIGH);
         store32(node + NODE_LOW, NOWHERE_LOW);
         store64(node + NODE_KEY, key);
         store64(node + NODE_VALUE, more);
-        store64(load_address(map + INT_MAP_WORDS) + r8, bits | ((uint64_t)1 << (index & 63)));
+        store64(load_address(map + INT_MAP_WORDS) + offset, bits | ((uint64_t)1 << (index & 63)));
     } else {
-        insertion_push_further(r11, node, map + INT_MAP_NODES, key, more);
-        if (load8(r11) != 0) {
-            r40 = NO_MEMORY;
+        insertion_push_further(made_usize, node, map + INT_MAP_NODES, key, more);
+        if (load8(made_usize + MADE_USIZE_HAS_FAILED) != 0) {
+            status = NO_MEMORY;
             value_3 = 0;
             goto after_pairs_add_or_insert;
         }
     }
     store64(map + INT_MAP_LEN, load64(map + INT_MAP_LEN) + 1);
-    r40 = 0;
+    status = 0;
     value_3 = 0;
 after_pairs_add_or_insert:;
     store64(handle, map_address_2);
-    return made_word_word(value_3, r40);
+    return made_word_word(value_3, status);
 }
 
 // Finds the key, or inserts the pair if the key is absent, and returns whether the key was present.
 // intmap_find_or_insert, in crates/intmap_c/src/pairs.rt
 static ALWAYS_INLINE uint32_t do_intmap_find_or_insert(char *handle, uint64_t key, uint64_t value) {
     char *map;
-    uint32_t r4_0;
+    uint32_t status;
     uint64_t len;
-    uint64_t r11_room[3];
-    char *r11 = (char *)r11_room;
-    uint64_t r10_room[4];
-    char *r10 = (char *)r10_room;
+    uint64_t made_usize_room[3];
+    char *made_usize = (char *)made_usize_room;
+    uint64_t made_location_room[4];
+    char *made_location = (char *)made_location_room;
     uint64_t map_address = load64(handle);
     store64(handle, 0);
     if (map_address == 0) {
-        struct byte_address r15 = handle_make_first();
-        if (r15.first == 0) {
+        struct byte_address make_first = handle_make_first();
+        if (make_first.first == 0) {
             return NO_MEMORY;
         }
-        map = r15.second;
+        map = make_first.second;
     } else {
         map = (char *)(uintptr_t)map_address;
     }
@@ -3216,7 +3243,7 @@ static ALWAYS_INLINE uint32_t do_intmap_find_or_insert(char *handle, uint64_t ke
     if (has_pair == 1) {
         uint64_t link = link_of(load16(node + NODE_HIGH), load32(node + NODE_LOW));
         if (load64(node + NODE_KEY) == key) {
-            r4_0 = 1;
+            status = 1;
             goto after_pairs_find_or_insert;
         }
         uint64_t nodes_len = load64(map + INT_MAP_NODES_LEN);
@@ -3229,7 +3256,7 @@ static ALWAYS_INLINE uint32_t do_intmap_find_or_insert(char *handle, uint64_t ke
                     break;
                 }
                 if (load64(node_2 + NODE_KEY) == key) {
-                    r4_0 = 1;
+                    status = 1;
                     goto after_pairs_find_or_insert;
                 }
                 uint64_t link_2 = link_of(load16(node_2 + NODE_HIGH), load32(node_2 + NODE_LOW));
@@ -3240,70 +3267,70 @@ static ALWAYS_INLINE uint32_t do_intmap_find_or_insert(char *handle, uint64_t ke
             }
         }
     }
-    memset(r10, 0, 32);
+    memset(made_location, 0, MADE_LOCATION_SIZE);
     len = load64(map + INT_MAP_LEN);
     if (len >= load64(map + INT_MAP_THRESHOLD)) {
         if (!((len != UINT64_MAX) ? (((len + 1) & 4) == 0) : false)) {
-            intmap_add_growing(r10, map, index, key, key, value);
-            if (load8(r10) == 0) {
-                r4_0 = 0;
+            intmap_add_growing(made_location, map, index, key, key, value);
+            if (load8(made_location + MADE_LOCATION_HAS_FAILED) == 0) {
+                status = 0;
                 goto after_pairs_find_or_insert;
             }
-            if (load8(r10 + 16) == 0) {
+            if (load8(made_location + MADE_LOCATION_SLOT_OR_CAUSE) == 0) {
                 goto x11;
             }
-            r4_0 = TOO_LARGE;
+            status = TOO_LARGE;
             goto after_pairs_find_or_insert;
         }
     }
-    memset(r11, 0, 24);
+    memset(made_usize, 0, MADE_USIZE_SIZE);
     if (has_pair == 0) {
-        uint64_t r8 = (index >> 3) & UINT64_C(0x1FFFFFFFFFFFFFF8);
-        uint64_t bits = load64(load_address(map + INT_MAP_WORDS) + r8);
+        uint64_t offset = (index >> 3) & UINT64_C(0x1FFFFFFFFFFFFFF8);
+        uint64_t bits = load64(load_address(map + INT_MAP_WORDS) + offset);
         store16(node + NODE_HAS_PAIR, 1);
         store16(node + NODE_HIGH, NOWHERE_HIGH);
         store32(node + NODE_LOW, NOWHERE_LOW);
         store64(node + NODE_KEY, key);
         store64(node + NODE_VALUE, value);
-        store64(load_address(map + INT_MAP_WORDS) + r8, bits | ((uint64_t)1 << (index & 63)));
+        store64(load_address(map + INT_MAP_WORDS) + offset, bits | ((uint64_t)1 << (index & 63)));
     } else {
-        insertion_push_further(r11, node, map + INT_MAP_NODES, key, value);
-        if (load8(r11) != 0) {
+        insertion_push_further(made_usize, node, map + INT_MAP_NODES, key, value);
+        if (load8(made_usize + MADE_USIZE_HAS_FAILED) != 0) {
             goto x11;
         }
     }
     store64(map + INT_MAP_LEN, load64(map + INT_MAP_LEN) + 1);
-    r4_0 = 0;
+    status = 0;
     goto after_pairs_find_or_insert;
 x11:;
-    r4_0 = NO_MEMORY;
+    status = NO_MEMORY;
 after_pairs_find_or_insert:;
     store64(handle, map_address_2);
-    return r4_0;
+    return status;
 }
 
 // Inserts the pair of the key and the value at the end of its slot, and returns the value before.
 // intmap_insert, in crates/intmap_c/src/pairs.rt
 static ALWAYS_INLINE struct word_word do_intmap_insert(char *handle, uint64_t key, uint64_t value) {
     char *map;
-    uint64_t len, r8, bits, r0, r0_3_6_0_copyload105, r0_3, r5, spec_select1;
-    bool r0_2, r0_3_0_0_copyload106;
+    uint64_t len, offset, bits, r0, made_or_cause, made_or_cause_2, made_or_cause_3, joined;
+    bool r0_2, r0_3;
     uint16_t high;
-    uint64_t r9_room[3];
-    char *r9 = (char *)r9_room;
+    uint64_t made_option_room[3];
+    char *made_option = (char *)made_option_room;
     uint64_t map_address = load64(handle);
     store64(handle, 0);
     if (map_address == 0) {
-        struct byte_address r15 = handle_make_first();
-        if (r15.first == 0) {
+        struct byte_address make_first = handle_make_first();
+        if (make_first.first == 0) {
             return made_word_word(0, NO_MEMORY);
         }
-        map = r15.second;
+        map = make_first.second;
     } else {
         map = (char *)(uintptr_t)map_address;
     }
     uint64_t map_address_2 = (uint64_t)(uintptr_t)map;
-    memset(r9, 0, 24);
+    memset(made_option, 0, MADE_OPTION_SIZE);
     uint64_t index = load64(map + INT_MAP_MASK) & (key * MULTIPLIER);
     char *node = load_address(map + INT_MAP_SLOTS) + (index * NODE_SIZE);
     switch (load8(node + NODE_HAS_PAIR)) {
@@ -3314,14 +3341,14 @@ static ALWAYS_INLINE struct word_word do_intmap_insert(char *handle, uint64_t ke
                 goto after_IntMap_insert_2;
             }
         }
-        r8 = (index >> 3) & UINT64_C(0x1FFFFFFFFFFFFFF8);
-        bits = load64(load_address(map + INT_MAP_WORDS) + r8);
+        offset = (index >> 3) & UINT64_C(0x1FFFFFFFFFFFFFF8);
+        bits = load64(load_address(map + INT_MAP_WORDS) + offset);
         store16(node + NODE_HAS_PAIR, 1);
         store16(node + NODE_HIGH, NOWHERE_HIGH);
         store32(node + NODE_LOW, NOWHERE_LOW);
         store64(node + NODE_KEY, key);
         store64(node + NODE_VALUE, value);
-        store64(load_address(map + INT_MAP_WORDS) + r8, bits | ((uint64_t)1 << (index & 63)));
+        store64(load_address(map + INT_MAP_WORDS) + offset, bits | ((uint64_t)1 << (index & 63)));
         store64(map + INT_MAP_LEN, load64(map + INT_MAP_LEN) + 1);
         r0 = 0;
         r0_2 = false;
@@ -3338,144 +3365,144 @@ static ALWAYS_INLINE struct word_word do_intmap_insert(char *handle, uint64_t ke
             r0 = value_2;
             r0_2 = true;
         } else {
-            uint64_t r35 = insertion_replace_first_of_several(node, link_of(high, load32(node + NODE_LOW)), map + INT_MAP_NODES, key, value);
-            r0 = r35;
+            uint64_t replace_first_of_several = insertion_replace_first_of_several(node, link_of(high, load32(node + NODE_LOW)), map + INT_MAP_NODES, key, value);
+            r0 = replace_first_of_several;
             r0_2 = true;
         }
         break;
     default:
         goto after_IntMap_insert_2;
     }
-    r0_3_0_0_copyload106 = r0_2;
-    r0_3_6_0_copyload105 = r0;
+    r0_3 = r0_2;
+    made_or_cause = r0;
     goto arm_1_2;
 after_IntMap_insert_2:;
-    intmap_insert_otherwise(r9, map, index, key, key, value);
-    r0_3 = load64(r9 + 16);
-    if (load8(r9) != 0) {
-        r5 = 0;
-        spec_select1 = ((r0_3 & 255) == 0) ? NO_MEMORY : TOO_LARGE;
+    intmap_insert_otherwise(made_option, map, index, key, key, value);
+    made_or_cause_2 = load64(made_option + MADE_OPTION_MADE_OR_CAUSE);
+    if (load8(made_option + MADE_OPTION_HAS_FAILED) != 0) {
+        made_or_cause_3 = 0;
+        joined = ((made_or_cause_2 & 255) == 0) ? NO_MEMORY : TOO_LARGE;
         goto after_pairs_insert;
     }
-    r0_3_0_0_copyload106 = load8(r9 + 8) == 1;
-    r0_3_6_0_copyload105 = r0_3;
+    r0_3 = load8(made_option + MADE_OPTION_HAS_MADE_OR_VALUE) == 1;
+    made_or_cause = made_or_cause_2;
 arm_1_2:;
-    r5 = r0_3_0_0_copyload106 ? r0_3_6_0_copyload105 : 0;
-    spec_select1 = (uint64_t)r0_3_0_0_copyload106;
+    made_or_cause_3 = r0_3 ? made_or_cause : 0;
+    joined = (uint64_t)r0_3;
 after_pairs_insert:;
     store64(handle, map_address_2);
-    return made_word_word(r5, spec_select1);
+    return made_word_word(made_or_cause_3, joined);
 }
 
 // Doubles the slots until their number meets the load factor with `more` pairs more, and returns `OK`.
 // intmap_reserve, in crates/intmap_c/src/figures.rt
 static ALWAYS_INLINE uint32_t do_intmap_reserve(char *handle, uint64_t more) {
     char *map;
-    uint32_t r4_0;
+    uint32_t status;
     uint64_t map_address = load64(handle);
     store64(handle, 0);
     if (map_address == 0) {
-        struct byte_address r15 = handle_make_first();
-        if (r15.first == 0) {
+        struct byte_address make_first = handle_make_first();
+        if (make_first.first == 0) {
             return (more > MOST_FIRST_PAIRS) ? TOO_LARGE : NO_MEMORY;
         }
-        map = r15.second;
+        map = make_first.second;
     } else {
         map = (char *)(uintptr_t)map_address;
     }
     uint64_t map_address_2 = (uint64_t)(uintptr_t)map;
     uint64_t len = load64(map + INT_MAP_LEN);
     if (len > (~more)) {
-        r4_0 = TOO_LARGE;
+        status = TOO_LARGE;
     } else {
-        struct byte_byte r23 = intmap_fit(map, len + more, load64(map + INT_MAP_FACTOR), 0);
-        if (r23.first == 0) {
-            r4_0 = 0;
+        struct byte_byte fit = intmap_fit(map, len + more, load64(map + INT_MAP_FACTOR), 0);
+        if (fit.first == 0) {
+            status = 0;
         } else {
-            r4_0 = (r23.second == 0) ? NO_MEMORY : TOO_LARGE;
+            status = (fit.second == 0) ? NO_MEMORY : TOO_LARGE;
         }
     }
     store64(handle, map_address_2);
-    return r4_0;
+    return status;
 }
 
 // Does what `intmap_reserve` does, and allocates memory for `more` pairs that share a slot with another.
 // intmap_reserve_insertions, in crates/intmap_c/src/figures.rt
 static ALWAYS_INLINE uint32_t do_intmap_reserve_insertions(char *handle, uint64_t more) {
     char *map;
-    uint32_t r4_0;
+    uint32_t status;
     uint64_t map_address = load64(handle);
     store64(handle, 0);
     if (map_address == 0) {
-        struct byte_address r15 = handle_make_first();
-        if (r15.first == 0) {
+        struct byte_address make_first = handle_make_first();
+        if (make_first.first == 0) {
             return (more > MOST_FIRST_PAIRS) ? TOO_LARGE : NO_MEMORY;
         }
-        map = r15.second;
+        map = make_first.second;
     } else {
         map = (char *)(uintptr_t)map_address;
     }
     uint64_t map_address_2 = (uint64_t)(uintptr_t)map;
     uint64_t len = load64(map + INT_MAP_LEN);
     if (len > (~more)) {
-        r4_0 = TOO_LARGE;
+        status = TOO_LARGE;
     } else {
-        struct byte_byte r23 = intmap_fit(map, len + more, load64(map + INT_MAP_FACTOR), more);
-        if (r23.first == 0) {
-            r4_0 = 0;
+        struct byte_byte fit = intmap_fit(map, len + more, load64(map + INT_MAP_FACTOR), more);
+        if (fit.first == 0) {
+            status = 0;
         } else {
-            r4_0 = (r23.second == 0) ? NO_MEMORY : TOO_LARGE;
+            status = (fit.second == 0) ? NO_MEMORY : TOO_LARGE;
         }
     }
     store64(handle, map_address_2);
-    return r4_0;
+    return status;
 }
 
 // Makes slots, and returns `OK`.
 // intmap_reserve_slots, in crates/intmap_c/src/figures.rt
 static ALWAYS_INLINE uint32_t do_intmap_reserve_slots(char *handle, uint64_t additional) {
     char *map;
-    uint32_t r4_0;
+    uint32_t status;
     uint64_t map_address = load64(handle);
     store64(handle, 0);
     if (map_address == 0) {
-        struct byte_address r15 = handle_make_first();
-        if (r15.first == 0) {
+        struct byte_address make_first = handle_make_first();
+        if (make_first.first == 0) {
             return (additional > GREATEST_CAPACITY) ? TOO_LARGE : NO_MEMORY;
         }
-        map = r15.second;
+        map = make_first.second;
     } else {
         map = (char *)(uintptr_t)map_address;
     }
     uint64_t map_address_2 = (uint64_t)(uintptr_t)map;
     uint64_t len = load64(map + INT_MAP_LEN);
     if ((len > GREATEST_CAPACITY) ? true : ((GREATEST_CAPACITY - len) < additional)) {
-        r4_0 = TOO_LARGE;
+        status = TOO_LARGE;
     } else {
-        uint64_t r2_0;
+        uint64_t r2;
         uint64_t r42 = len + additional;
         if (r42 < 2) {
-            r2_0 = 1;
+            r2 = 1;
         } else {
-            uint64_t r13 = high_zeros(r42 - 1);
-            r2_0 = (uint64_t)1 << ((uint64_t)64 - r13);
+            uint64_t zeros = high_zeros(r42 - 1);
+            r2 = (uint64_t)1 << ((uint64_t)64 - zeros);
         }
         uint64_t slots_len = load64(map + INT_MAP_SLOTS_LEN);
-        uint64_t a0_a1 = greater(slots_len, r2_0);
-        if (slots_len < r2_0) {
-            uint8_t r23 = slots_enlarge(map, a0_a1, load64(map + INT_MAP_NODES_LEN) - load64(map + INT_MAP_SPARE));
-            if ((r23 & 1) != 0) {
-                r4_0 = NO_MEMORY;
+        uint64_t most = greater(slots_len, r2);
+        if (slots_len < r2) {
+            uint8_t enlarge = slots_enlarge(map, most, load64(map + INT_MAP_NODES_LEN) - load64(map + INT_MAP_SPARE));
+            if ((enlarge & 1) != 0) {
+                status = NO_MEMORY;
                 goto after_figures_reserve_slots;
             }
         }
-        u128 r17 = u128_less_one(u128_mul(u128_add(u128_of(load64(map + INT_MAP_FACTOR)), u128_of(1u)), u128_of(a0_a1)));
+        u128 r17 = u128_less_one(u128_mul(u128_add(u128_of(load64(map + INT_MAP_FACTOR)), u128_of(1u)), u128_of(most)));
         store64(map + INT_MAP_THRESHOLD, u128_above(r17, u128_two(999, UINT64_MAX)) ? UINT64_MAX : u128_low(u128_div(r17, u128_of(1000u))));
-        r4_0 = 0;
+        status = 0;
     }
 after_figures_reserve_slots:;
     store64(handle, map_address_2);
-    return r4_0;
+    return status;
 }
 
 // Sets the load factor in thousandths, doubles the slots until their number meets it, and returns `OK`.
@@ -3485,17 +3512,17 @@ static ALWAYS_INLINE uint32_t do_intmap_set_load_factor(char *handle, uint64_t t
     uint64_t map_address = load64(handle);
     store64(handle, 0);
     if (map_address == 0) {
-        struct byte_address r15 = handle_make_first();
-        if (r15.first == 0) {
+        struct byte_address make_first = handle_make_first();
+        if (make_first.first == 0) {
             return NO_MEMORY;
         }
-        map = r15.second;
+        map = make_first.second;
     } else {
         map = (char *)(uintptr_t)map_address;
     }
-    struct byte_byte r7 = intmap_fit(map, load64(map + INT_MAP_LEN), thousandths, 0);
+    struct byte_byte fit = intmap_fit(map, load64(map + INT_MAP_LEN), thousandths, 0);
     store64(handle, (uint64_t)(uintptr_t)map);
-    return (r7.first == 0) ? 0 : ((r7.second == 0) ? NO_MEMORY : TOO_LARGE);
+    return (fit.first == 0) ? 0 : ((fit.second == 0) ? NO_MEMORY : TOO_LARGE);
 }
 
 // The calls of intmap.h, by value and by address as this compiler passes them.
