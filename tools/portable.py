@@ -63,8 +63,6 @@ MOVES = {"llvm.memset": "memset", "llvm.memcpy": "memcpy", "llvm.memmove": "memm
 NO_CODE = ("llvm.lifetime", "llvm.assume")
 # requests for memory, with the names of their parameters
 HEAP = {"rattle_alloc": ["size"], "rattle_realloc": ["block", "size", "size"], "rattle_dealloc": ["block"]}
-# a product by this is a key's hash
-FACTOR = "-7046029254386353067"
 ADDRESS_AND_NUMBER = rf"getelementptr (?:(?:inbounds|nuw|nusw) )*i8, ptr ({VALUE}), i64 (-?\d+)$"
 # numbers of things of 8 and of 24 bytes for which no block of memory has room
 TOO_MANY = {((1 << 63) - 1) // size + 1: size for size in (8, 24)}
@@ -473,12 +471,8 @@ class FunctionInC:
     def loaded(self, value, line):
         kind, address = groups_of(rf"load ({TYPE}), ptr ({VALUE})(?:, align \d+)?$", line)
         address = self.place(address)
-        users = [self.function.made_by[it] for it, _ in self.function.uses[value] if it]
-        is_hashed = any(it.startswith("mul i64 ") and it.endswith(FACTOR) for it in users)
         if is_odd(kind):
             return kind, f"({c_type(kind)})load_bytes({address}, {bits(kind) // 8})"
-        if is_hashed and len(self.function.uses[value]) > 1:
-            return kind, f"load_key({address})"
         if kind == "i1":
             return kind, f"(load8({address}) & 1) != 0"
         return kind, f"load_address({address})" if kind == "ptr" else f"load{bits(kind)}({address})"

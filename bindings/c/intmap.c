@@ -10,8 +10,15 @@
 // hand, and isn't proved.
 //
 // Above each function of the module stands the first sentence of its comment in the sources, and where it
-// is. An enum for each struct has the places of its fields: a map is a block of INT_MAP_SIZE bytes. Maps,
-// slots, pairs, fields and indices have the names of the sources. Other values are called as the function
+// is. Functions of Rattle's own library have no such sentence, since its sources aren't in the repository. A
+// function returns no result that nobody uses, whatever the sentence says.
+//
+// An enum for each type has the places of its fields: a map is a block of INT_MAP_SIZE bytes. Fields have the
+// names of the sources. Those of a vector, an option and a result have none there: they are called ADDRESS,
+// LEN and ROOM, HAS, and HAS_FAILED and MADE. If a result has a value where it may have a failure, the place
+// has the names of both.
+//
+// Maps, slots, pairs and indices have the names of the sources too. Other values are called as the function
 // that they come from, as the field that they are stored in or as the parameter that they become. A name
 // such as r12 is the optimiser's. If several things have one name, a number is added to the name of each
 // but the first.
@@ -118,16 +125,6 @@ static inline uint64_t load64(const char *at) {
     uint64_t x;
     memcpy(&x, at, 8);
     return LOW_FIRST_64(x);
-}
-
-// A key that is hashed. clang would load it with its value as one vector, which makes an insertion
-// a fifth slower.
-static inline uint64_t load_key(const char *at) {
-    uint64_t x = load64(at);
-#if HAS_ADDITIONS && defined(__clang__)
-    __asm__("" : "+r"(x));
-#endif
-    return x;
 }
 
 static inline void store8(char *at, uint8_t x) {
@@ -326,9 +323,9 @@ static inline u128 u128_div(u128 x, u128 by) {
 }
 #endif
 
-// Where things without bytes lie. It has the bytes of a slot, since gcc warns of stores to it in
-// branches that are never taken.
-static uint64_t no_bytes[6];
+// Where things without bytes lie. It has the bytes of a slot, since branches that are never taken store
+// one there.
+static uint64_t no_bytes[3];
 
 // What functions return. The fields have no names in the module.
 
@@ -1752,7 +1749,7 @@ static ALIGNED uint8_t slots_enlarge(char *map, uint64_t capacity, uint64_t room
             }
             uint16_t high = load16(node + NODE_HIGH);
             uint32_t low = load32(node + NODE_LOW);
-            uint64_t key = load_key(node + NODE_KEY);
+            uint64_t key = load64(node + NODE_KEY);
             uint64_t index = (key * MULTIPLIER) & x;
             uint64_t value = load64(node + NODE_VALUE);
             memset(node, 0, NODE_SIZE);

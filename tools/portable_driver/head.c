@@ -70,16 +70,6 @@ static inline uint64_t load64(const char *at) {
     return LOW_FIRST_64(x);
 }
 
-// A key that is hashed. clang would load it with its value as one vector, which makes an insertion
-// a fifth slower.
-static inline uint64_t load_key(const char *at) {
-    uint64_t x = load64(at);
-#if HAS_ADDITIONS && defined(__clang__)
-    __asm__("" : "+r"(x));
-#endif
-    return x;
-}
-
 static inline void store8(char *at, uint8_t x) {
     *at = (char)x;
 }
@@ -283,8 +273,8 @@ static inline u128 u128_div(u128 x, u128 by) {
 }
 #endif
 
-// Where things without bytes lie. It has the bytes of a slot, since gcc warns of stores to it in
-// branches that are never taken.
-static uint64_t no_bytes[6];
+// Where things without bytes lie. It has the bytes of a slot, since branches that are never taken store
+// one there.
+static uint64_t no_bytes[3];
 
 // What functions return. The fields have no names in the module.
