@@ -8,6 +8,7 @@ import textwrap
 from collections import defaultdict, namedtuple
 
 from crates import text_of
+from layout import parted_types
 from llvm_module import NAME, NUMBERED, TYPE, VALUE, bare, functions_of, groups_of, parted, result_type
 from places import CALL, MAP, NEXT, ROW, STORED, Places, title
 from origins import WIDTH, Origins, path_of
@@ -151,9 +152,12 @@ def nothing(kind):
     return {"ptr": "NULL", "i128": "u128_of(0)", "i1": "false"}.get(kind, "0")
 
 
-def field_name(kind, field):
-    """Where a field of a type lies, by its name."""
-    return f"{title(kind)}_{field or 'address'}".upper()
+def type_name(kind):
+    """What a type is called: a result as what it is of, and a tuple as its parts, if it has no name of its own."""
+    if kind.startswith("Result<"):
+        return f"made_{type_name(parted_types(kind.partition('<')[2][:-1])[0])}"
+    name = title(kind)
+    return name if name[0] != "(" else "_and_".join(map(type_name, parted_types(kind[1:-1]))) or "nothing"
 
 
 def is_whole(text):
@@ -201,7 +205,7 @@ class Printer:
         # no function of Rattle gets the name of a call
         self.names, self.taken, self.structs = {}, {it.name for it in functions if "::" not in it.name}, {}
         # types whose fields have names, and numbers that have
-        self.laid_out, self.defined = {}, {}
+        self.laid_out, self.forms, self.defined = {}, {}, {}
 
     def name(self, name):
         """A function's name in C. One that C calls has the same name, with a word before it."""
@@ -233,20 +237,31 @@ class Printer:
         fields = layouts.fields(kind) if kind[0] != ROW and layouts.is_known(kind) else {}
         return fields if len(fields) > 1 else {}
 
+    def field_name(self, kind, field):
+        """The name of a type's field, or of its size. Types have one name if their fields lie alike."""
+        self.laid_out.setdefault(kind, set()).add(field)
+        fields = {at: name for at, (name, _) in self.origins.layouts.fields(kind).items()}
+        form, name, number = (fields, self.origins.layouts.size(kind)), type_name(kind), 2
+        while self.forms.setdefault(name, form) != form:
+            name, number = f"{type_name(kind)}_{number}", number + 1
+        return f"{name}_{field or 'address'}".upper()
+
     def size(self, kind):
         """The name of a type's size."""
-        self.laid_out[kind] = None
-        return f"{title(kind)}_size".upper()
+        return self.field_name(kind, "size")
 
     def layouts(self):
         """The enums that say where fields lie, of the types whose fields have names."""
         layouts = self.origins.layouts
-        laid_out = {title(it): it for it in self.laid_out}
+        # of some types only the size counts
+        whole = {it for it, used in self.laid_out.items() if used != {"size"}}
+        laid_out = {self.size(it): it for it in [*self.laid_out]}
         if laid_out:
             yield "// Where the fields of structs lie, by the names of the sources, and how many bytes a struct has.\n"
         for name, kind in sorted(laid_out.items(), key=lambda it: (-layouts.size(it[1]), it)):
-            places = {field or "address": at for at, (field, _) in layouts.fields(kind).items()} | {"size": layouts.size(kind)}
-            words = ",\n".join(f"{STEP}{field_name(kind, it)} = {at}" for it, at in places.items())
+            fields = layouts.fields(kind) if kind in whole else {}
+            places = {field or "address": at for at, (field, _) in fields.items()} | {"size": layouts.size(kind)}
+            words = ",\n".join(f"{STEP}{self.field_name(kind, it)} = {at}" for it, at in places.items())
             yield from [*self.origins.about(kind), "enum {", words, "};"]
         if self.defined:
             yield "// Numbers that the sources name. Statuses are those of intmap.h, without a sign.\n"
@@ -289,7 +304,7 @@ class FunctionInC:
         # an address of the first field is one of the whole
         wholes = [kind for kind, at in places or () if at == 0 and self.printer.fields(kind) and title(kind) != "vec"]
         if wholes and str(name).endswith("_at"):
-            name = title(wholes[0])
+            name = type_name(wholes[0])
         # of several addresses not all dangle
         name = None if name == "dangling" and value in self.cases else name
         return f"{name}_" if name in TAKEN else name
@@ -492,9 +507,8 @@ class FunctionInC:
             fields = self.printer.fields(kind) if at == 0 else {}
             start = max((it for it in fields if it <= by), default=None)
             if start is not None and by < self.printer.origins.layouts.size(kind):
-                self.printer.laid_out[kind] = None
                 inside = f" + {by - start}" if by > start else ""
-                return f"{self.operand(base, 'ptr')} + {field_name(kind, fields[start][0])}{inside}"
+                return f"{self.operand(base, 'ptr')} + {self.printer.field_name(kind, fields[start][0])}{inside}"
         return None
 
     def place(self, address):

@@ -473,35 +473,11 @@ enum {
 // Slots, the nodes of their further pairs, and one bit for each slot, which says whether it holds a pair.
 // Slots<u64, Kept<u64>, Global>, in crates/intmap_table/src/table/slots.rt
 enum {
-    SLOTS_MASK = 0,
-    SLOTS_WORDS = 8,
-    SLOTS_WORDS_LEN = 16,
-    SLOTS_WORDS_ROOM = 24,
-    SLOTS_SLOTS = 32,
-    SLOTS_SLOTS_LEN = 40,
-    SLOTS_SLOTS_ROOM = 48,
-    SLOTS_NODES = 56,
-    SLOTS_NODES_LEN = 64,
-    SLOTS_NODES_ROOM = 72,
-    SLOTS_FREE = 80,
-    SLOTS_SPARE = 88,
     SLOTS_SIZE = 96
 };
 // Slots, whose number is a power of two.
 // Table<u64, Kept<u64>, Global>, in crates/intmap_table/src/table.rt
 enum {
-    TABLE_MASK = 0,
-    TABLE_WORDS = 8,
-    TABLE_WORDS_LEN = 16,
-    TABLE_WORDS_ROOM = 24,
-    TABLE_SLOTS = 32,
-    TABLE_SLOTS_LEN = 40,
-    TABLE_SLOTS_ROOM = 48,
-    TABLE_NODES = 56,
-    TABLE_NODES_LEN = 64,
-    TABLE_NODES_ROOM = 72,
-    TABLE_FREE = 80,
-    TABLE_SPARE = 88,
     TABLE_SIZE = 96
 };
 // Nodes, and a list of those without a pair.
@@ -587,8 +563,6 @@ enum {
 };
 // (Stored<u64>, Kept<u64>)
 enum {
-    PAIR_KEY = 0,
-    PAIR_VALUE = 8,
     PAIR_SIZE = 16
 };
 // Numbers that the sources name. Statuses are those of intmap.h, without a sign.

@@ -1,7 +1,7 @@
 // Functions that have nothing to do with maps, to try what prints C: the kit's clang makes a module of
 // them, tools/portable.py makes C of that, and both are called with the same numbers. They have what
-// the printer knows and the library needn't have: a circle of assignments, a `switch`, and a loop
-// that goes on early.
+// the printer knows and the library needn't have: a circle of assignments, a `switch`, a loop that
+// goes on early, and ways that meet where a struct is returned.
 //
 // With PRINTED this is the program, behind the printed functions. Without it, it is the functions.
 #ifdef PRINTED
@@ -39,6 +39,15 @@ two pair_of(uint64_t a, uint64_t b) {
     return (two){a > b ? a : b, a ^ b};
 }
 
+two stored(char *bytes, uint64_t a, uint64_t b) {
+    if (a > b) {
+        __builtin_memcpy(bytes + 8, &a, 8);
+    } else {
+        bytes[6] = (char)b;
+    }
+    return (two){a, b};
+}
+
 uint64_t cases(char *bytes, uint64_t which) {
     switch (which) {
     case 1: bytes[0] = 3; return 5;
@@ -72,7 +81,7 @@ uint64_t nested(const char *words, uint64_t count) {
 }
 #else
 uint64_t fibonacci(uint64_t), cases(char *, uint64_t), nested(const char *, uint64_t);
-two pair_of(uint64_t, uint64_t);
+two pair_of(uint64_t, uint64_t), stored(char *, uint64_t, uint64_t);
 
 enum { ROUNDS = 100000, WORDS = 64 };
 
@@ -97,6 +106,7 @@ static int differing(void) {
     found += pair_of(count, which).first != do_pair_of(count, which).first;
     found += nested(one, count) != do_nested(one, count);
     found += cases(one, which) != do_cases(other, which);
+    found += stored(one, count, which).second != do_stored(other, count, which).second;
     return found + (memcmp(words, same, sizeof words) != 0);
 }
 
