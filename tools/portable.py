@@ -18,7 +18,8 @@ PARTS = "tools/portable_driver"
 # Functions that stay functions, so that no other becomes too long to read. The compiler of the C inlines them in LLVM's place.
 APART = (
     *("IntMap::get_counted", "IntMap::get_mut", "IntMap::fit", "load::wanted_capacity"),
-    *("Slots::clone", "Bits::clone", "copy_drop::copy_bits", "refill::put_at", "Pool::add_new", "Pool::release"),
+    *("IntMap::takes_one_more", "insertion::put", "refill::put_at", "Pool::add_new", "Pool::release"),
+    *("Slots::clone", "Bits::clone", "copy_drop::copy_bits"),
     *("chain::last_in", "chain::seek", "Vec::reserve_exact", "Vec::shrink_to_fit"),
 )
 # How clang prints a module, with names: as it is given, and behind the optimiser. Vectors have no form in C, and unrolled
@@ -937,18 +938,33 @@ def without_unused(text):
         text = HELPER.sub(lambda it: "" if it[1] in unused else it[0], text)
 
 
+def behind_called(functions, calls):
+    """The functions, each behind those that it calls, so that none has to be declared. `calls` has the callers of each."""
+    found = {}
+
+    def visit(it, above):
+        for other in functions:
+            if it.name in (caller for caller, _ in calls[other.name]):
+                if other.name in above:
+                    raise SystemExit(f"portable: {other.name} calls itself")
+                visit(other, (*above, other.name))
+        found.setdefault(it.name, it)
+
+    for it in functions:
+        visit(it, (it.name,))
+    return list(found.values())
+
+
 def c_of_module(module, head, sources, last=f"{PARTS}/calls.c"):
     """The whole text: `head` comes first, and the file `last` last. `sources` has the texts of Rattle's sources by path."""
     functions = functions_of(module)
     printer = Printer(functions, sources)
     for it in functions:
         printer.name(it.name)
-    printed = [FunctionInC(printer, it) for it in functions]
-    bodies = "\n\n".join(it.text() for it in printed)
+    bodies = "\n\n".join(FunctionInC(printer, it).text() for it in behind_called(functions, printer.places.calls))
     for it in functions:
         if it.result[0] == "{":
             printer.struct(it.result)
     structs = "\n".join(struct_in_c(it, bodies) for it in printer.structs.values())
-    heads = "\n".join(f"{it.head()};" for it in printed)
-    parts = [head + text_of(f"{PARTS}/head.c"), structs, text_of(f"{PARTS}/heap.c"), *printer.layouts(), heads, "", bodies, "", text_of(last)]
+    parts = [head + text_of(f"{PARTS}/head.c"), structs, text_of(f"{PARTS}/heap.c"), *printer.layouts(), bodies, "", text_of(last)]
     return without_unused("\n".join(parts))

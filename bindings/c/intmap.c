@@ -11,7 +11,8 @@
 //
 // Above each function of the module stands the first sentence of its comment in the sources, and where it
 // is. Functions of Rattle's own library have no such sentence, since its sources aren't in the repository. A
-// function returns no result that nobody uses, whatever the sentence says.
+// function returns no result that nobody uses, whatever the sentence says. It stands behind those that it
+// calls.
 //
 // An enum for each type has the places of its fields: a map is a block of INT_MAP_SIZE bytes. Fields have the
 // names of the sources. Those of a vector, an option and a result have none there: they are called ADDRESS,
@@ -524,9 +525,16 @@ enum {
 };
 // Result<Option<u64>, Refused<u64>>
 enum {
+    MADE_OPTION_2_HAS_FAILED = 0,
+    MADE_OPTION_2_HAS_MADE_OR_VALUE = 8,
+    MADE_OPTION_2_MADE_OR_CAUSE = 16,
+    MADE_OPTION_2_SIZE = 24
+};
+// Result<Option<Kept<u64>>, Kept<u64>>
+enum {
     MADE_OPTION_HAS_FAILED = 0,
     MADE_OPTION_HAS_MADE_OR_VALUE = 8,
-    MADE_OPTION_MADE_OR_CAUSE = 16,
+    MADE_OPTION_VALUE = 16,
     MADE_OPTION_SIZE = 24
 };
 // Result<usize, (Stored<u64>, Kept<u64>)>
@@ -576,61 +584,6 @@ enum {
 #define TOO_LARGE 4294967294u
 #define GREATEST_CAPACITY UINT64_C(9223372036854775808)
 #define MOST_FIRST_PAIRS UINT64_C(8393268553537845985)
-
-static ALWAYS_INLINE struct byte_address intmap_get_mut(char *map, uint64_t key);
-static ALWAYS_INLINE struct byte_address intmap_get_counted(char *map, uint64_t key);
-static ALWAYS_INLINE struct word_word chain_last_in(char *pool, uint64_t from);
-static ALWAYS_INLINE uint64_t chain_seek(char *pool, uint64_t from, uint64_t place);
-static ALIGNED NOINLINE struct word_word removal_pop_front_of_several(char *slot, uint64_t link, char *pool);
-static ALWAYS_INLINE struct word_word pool_release(char *pool, uint64_t at);
-static ALIGNED NOINLINE void slots_add_empty(char *slots, uint64_t count);
-static COLD bool vec_grow_amortized(char *vec, uint64_t a1);
-static ALIGNED NOINLINE struct byte_word removal_remove_of_several(char *slot, uint64_t link, char *pool, uint64_t key_number);
-static ALWAYS_INLINE void slots_clone(char *result, char *map);
-static ALWAYS_INLINE void bits_clone(char *result, char *bits);
-static ALWAYS_INLINE void copy_drop_copy_bits(char *a0, char *a1, uint64_t a2);
-static ALIGNED NOINLINE struct byte_word clone_clone_chain(char *pool, uint64_t from, char *made);
-static ALWAYS_INLINE void pool_add_new(char *result, char *pool, uint64_t link, uint64_t pair_key, uint64_t pair_value);
-static ALIGNED uint32_t make_keep(char *handle, char *made);
-static ALIGNED void intmap_of_slots(char *result, uint64_t slots);
-static ALIGNED NOINLINE struct byte_address handle_make_first(void);
-static ALIGNED NOINLINE void intmap_add_growing(char *result, char *map, uint64_t slot, uint64_t key_key, uint64_t key_number, uint64_t value);
-static ALWAYS_INLINE struct byte_word load_wanted_capacity(uint64_t len, uint64_t capacity, uint64_t factor);
-static ALIGNED uint8_t slots_enlarge(char *map, uint64_t capacity, uint64_t room);
-static ALWAYS_INLINE uint8_t vec_reserve_exact(char *vec, uint64_t a1);
-static ALWAYS_INLINE void vec_shrink_to_fit(char *slots_at);
-static ALWAYS_INLINE uint64_t refill_put_at(char *slots, char *bits, char *pool, uint64_t index, uint8_t order, uint64_t pair_key, uint64_t pair_value);
-static ALIGNED NOINLINE void growth_put_before_first(char *slot, char *pool, uint64_t pair_key, uint64_t pair_value);
-static ALIGNED NOINLINE void growth_put_behind_first(char *slot, char *pool, uint64_t pair_key, uint64_t pair_value);
-static ALIGNED NOINLINE void insertion_push_further(char *result, char *slot, char *pool, uint64_t pair_key, uint64_t pair_value);
-static COLD uint64_t insertion_replace_first_of_several(char *slot, uint64_t link, char *pool, uint64_t new_key, uint64_t new_value);
-static ALIGNED NOINLINE void intmap_insert_otherwise(char *result, char *map, uint64_t slot, uint64_t key_key, uint64_t key_number, uint64_t value);
-static ALWAYS_INLINE struct byte_byte intmap_fit(char *map, uint64_t pairs, uint64_t thousandths, uint64_t sharing);
-static ALWAYS_INLINE void do_intmap_place(char *word, uint64_t key, char *at);
-static ALWAYS_INLINE uint32_t do_intmap_version(void);
-static ALWAYS_INLINE uint64_t do_intmap_capacity(char *word);
-static ALWAYS_INLINE bool do_intmap_contains_key(char *word, uint64_t key);
-static ALWAYS_INLINE bool do_intmap_equal(char *word, char *other);
-static ALWAYS_INLINE uint64_t do_intmap_filled_slots(char *word);
-static ALWAYS_INLINE uint64_t do_intmap_len(char *word);
-static ALWAYS_INLINE uint64_t do_intmap_load_factor(char *word);
-static ALWAYS_INLINE struct word_word do_intmap_get(char *word, uint64_t key);
-static ALWAYS_INLINE char *do_intmap_step(char *result, char *word, char *at);
-static ALWAYS_INLINE struct word_word do_intmap_add_present(char *handle, uint64_t key, uint64_t more);
-static ALWAYS_INLINE void do_intmap_clear(char *handle);
-static ALWAYS_INLINE char *do_intmap_cut(char *result, char *handle, char *at);
-static ALWAYS_INLINE void do_intmap_free(char *handle);
-static ALWAYS_INLINE struct word_word do_intmap_remove(char *handle, uint64_t key);
-static ALWAYS_INLINE struct word_word do_intmap_replace(char *handle, uint64_t key, uint64_t value);
-static ALWAYS_INLINE uint32_t do_intmap_clone(char *word, char *to);
-static ALWAYS_INLINE uint32_t do_intmap_with_slots(char *handle, uint64_t slots);
-static ALWAYS_INLINE struct word_word do_intmap_add_or_insert(char *handle, uint64_t key, uint64_t more);
-static ALWAYS_INLINE uint32_t do_intmap_find_or_insert(char *handle, uint64_t key, uint64_t value);
-static ALWAYS_INLINE struct word_word do_intmap_insert(char *handle, uint64_t key, uint64_t value);
-static ALWAYS_INLINE uint32_t do_intmap_reserve(char *handle, uint64_t more);
-static ALWAYS_INLINE uint32_t do_intmap_reserve_insertions(char *handle, uint64_t more);
-static ALWAYS_INLINE uint32_t do_intmap_reserve_slots(char *handle, uint64_t additional);
-static ALWAYS_INLINE uint32_t do_intmap_set_load_factor(char *handle, uint64_t thousandths);
 
 // A mutable reference to the value of the key, or `None` if the key is absent.
 // intmap::map::IntMap::get_mut, in crates/intmap/src/map/get.rt
@@ -750,6 +703,26 @@ static ALWAYS_INLINE uint64_t chain_seek(char *pool, uint64_t from, uint64_t pla
     }
 }
 
+// Removes the pair of a node, which is used again before any other one that is free.
+// intmap_table::linked::pool::Pool::release, in crates/intmap_table/src/linked/pool.rt
+static ALWAYS_INLINE struct word_word pool_release(char *pool, uint64_t at) {
+    char *node = load_address(pool + POOL_NODES) + (at * NODE_SIZE);
+    uint64_t free = load64(pool + POOL_FREE);
+    uint64_t key = load64(node + NODE_KEY);
+    uint64_t value = load64(node + NODE_VALUE);
+    uint8_t has_pair = load8(node + NODE_HAS_PAIR);
+    store16(node + NODE_HAS_PAIR, 0);
+    store16(node + NODE_HIGH, (uint16_t)(free >> 32));
+    store32(node + NODE_LOW, (uint32_t)free);
+    memset(node + NODE_KEY, 0, PAIR_SIZE);
+    if (has_pair != 1) {
+        abort(); // The proof excludes this.
+    }
+    store64(pool + POOL_FREE, at);
+    store64(pool + POOL_SPARE, load64(pool + POOL_SPARE) + 1);
+    return made_word_word(key, value);
+}
+
 // Removes the first pair of a slot that holds others, which move up by one place.
 // intmap_table::linked::row::removal::pop_front_of_several, in crates/intmap_table/src/linked/row/removal.rt
 static ALIGNED NOINLINE struct word_word removal_pop_front_of_several(char *slot, uint64_t link, char *pool) {
@@ -772,24 +745,36 @@ static ALIGNED NOINLINE struct word_word removal_pop_front_of_several(char *slot
     return made_word_word(key, value);
 }
 
-// Removes the pair of a node, which is used again before any other one that is free.
-// intmap_table::linked::pool::Pool::release, in crates/intmap_table/src/linked/pool.rt
-static ALWAYS_INLINE struct word_word pool_release(char *pool, uint64_t at) {
-    char *node = load_address(pool + POOL_NODES) + (at * NODE_SIZE);
-    uint64_t free = load64(pool + POOL_FREE);
-    uint64_t key = load64(node + NODE_KEY);
-    uint64_t value = load64(node + NODE_VALUE);
-    uint8_t has_pair = load8(node + NODE_HAS_PAIR);
-    store16(node + NODE_HAS_PAIR, 0);
-    store16(node + NODE_HIGH, (uint16_t)(free >> 32));
-    store32(node + NODE_LOW, (uint32_t)free);
-    memset(node + NODE_KEY, 0, PAIR_SIZE);
-    if (has_pair != 1) {
-        abort(); // The proof excludes this.
+// std_alloc::vec::Vec::grow_amortized, in Rattle's library std_alloc
+static COLD bool vec_grow_amortized(char *vec, uint64_t a1) {
+    struct word_word block_2;
+    uint64_t len = load64(vec + VEC_LEN);
+    if (a1 > (~len)) {
+        return false;
     }
-    store64(pool + POOL_FREE, at);
-    store64(pool + POOL_SPARE, load64(pool + POOL_SPARE) + 1);
-    return made_word_word(key, value);
+    uint64_t room = load64(vec + VEC_ROOM);
+    uint64_t most = greater(len + a1, 4);
+    uint64_t most_2 = greater(most, room << 1);
+    uint64_t most_3 = (room < UINT64_C(4611686018427387904)) ? most_2 : most;
+    if (most_3 >= TOO_MANY(24)) {
+        return false;
+    }
+    if (room == 0) {
+        struct word_word block = rattle_alloc(most_2 * 24, 8);
+        if ((block.first & 1) == 0) {
+            return false;
+        }
+        block_2 = block;
+    } else {
+        struct word_word block_3 = rattle_realloc(load_address(vec + VEC_ADDRESS), len * 24, most_3 * 24, 8);
+        if ((block_3.first & 1) == 0) {
+            return false;
+        }
+        block_2 = block_3;
+    }
+    store_address(vec + VEC_ADDRESS, (char *)(uintptr_t)block_2.second);
+    store64(vec + VEC_ROOM, most_3);
+    return true;
 }
 
 // Adds slots without a pair, so that there are `count`.
@@ -827,38 +812,6 @@ static ALIGNED NOINLINE void slots_add_empty(char *slots, uint64_t count) {
         }
         at = next_at;
     }
-}
-
-// std_alloc::vec::Vec::grow_amortized, in Rattle's library std_alloc
-static COLD bool vec_grow_amortized(char *vec, uint64_t a1) {
-    struct word_word block_2;
-    uint64_t len = load64(vec + VEC_LEN);
-    if (a1 > (~len)) {
-        return false;
-    }
-    uint64_t room = load64(vec + VEC_ROOM);
-    uint64_t most = greater(len + a1, 4);
-    uint64_t most_2 = greater(most, room << 1);
-    uint64_t most_3 = (room < UINT64_C(4611686018427387904)) ? most_2 : most;
-    if (most_3 >= TOO_MANY(24)) {
-        return false;
-    }
-    if (room == 0) {
-        struct word_word block = rattle_alloc(most_2 * 24, 8);
-        if ((block.first & 1) == 0) {
-            return false;
-        }
-        block_2 = block;
-    } else {
-        struct word_word block_3 = rattle_realloc(load_address(vec + VEC_ADDRESS), len * 24, most_3 * 24, 8);
-        if ((block_3.first & 1) == 0) {
-            return false;
-        }
-        block_2 = block_3;
-    }
-    store_address(vec + VEC_ADDRESS, (char *)(uintptr_t)block_2.second);
-    store64(vec + VEC_ROOM, most_3);
-    return true;
 }
 
 // Removes the key's pair from a slot that holds several.
@@ -1005,6 +958,116 @@ static ALIGNED NOINLINE struct byte_word removal_remove_of_several(char *slot, u
         }
         at_4 = at_3;
         at_3 = link_2;
+    }
+}
+
+// core::ptr::copy_drop::copy_bits, in Rattle's library core
+static ALWAYS_INLINE void copy_drop_copy_bits(char *a0, char *a1, uint64_t a2) {
+    uint64_t r7 = a2 << 3;
+    if ((((uint64_t)(uintptr_t)a1) - ((uint64_t)(uintptr_t)a0)) >= r7) {
+        memmove(a1, a0, r7);
+        return;
+    }
+    if (a2 == 0) {
+        return;
+    }
+    uint64_t word = 0;
+    for (;;) {
+        uint64_t offset = word << 3;
+        store64(a1 + offset, load64(a0 + offset));
+        uint64_t next_word = word + 1;
+        if (next_word == a2) {
+            return;
+        }
+        word = next_word;
+    }
+}
+
+// A copy of the marks.
+// intmap_table::bits::Bits::clone, in crates/intmap_table/src/bits.rt
+static ALWAYS_INLINE void bits_clone(char *result, char *bits) {
+    char *words_2;
+    char *dangling = (char *)no_bytes;
+    char *words = load_address(bits + BITS_WORDS);
+    uint64_t words_len = load64(bits + BITS_WORDS_LEN);
+    if (words_len != 0) {
+        if (words_len < TOO_MANY(8)) {
+            struct word_word block = rattle_alloc(words_len << 3, 8);
+            if ((block.first & 1) != 0) {
+                words_2 = (char *)(uintptr_t)block.second;
+                goto arm_1;
+            }
+        }
+        store8(result + MADE_BITS_HAS_FAILED, 1);
+        memset(result + MADE_BITS_WORDS, 0, BITS_SIZE);
+        return;
+    }
+    words_2 = dangling;
+arm_1:;
+    copy_drop_copy_bits(words, words_2, words_len);
+    store8(result + MADE_BITS_HAS_FAILED, 0);
+    store_address(result + MADE_BITS_WORDS, words_2);
+    store64(result + MADE_BITS_WORDS_LEN, words_len);
+    store64(result + MADE_BITS_WORDS_ROOM, words_len);
+}
+
+// Puts a pair with a link into a new node behind the others, none of which may be free, and returns which.
+// intmap_table::linked::pool::Pool::add_new, in crates/intmap_table/src/linked/pool.rt
+static ALWAYS_INLINE void pool_add_new(char *result, char *pool, uint64_t link, uint64_t pair_key, uint64_t pair_value) {
+    uint64_t nodes_len = load64(pool + POOL_NODES_LEN);
+    if (nodes_len != NODE_LIMIT) {
+        uint64_t at;
+        if (load64(pool + POOL_NODES_ROOM) == nodes_len) {
+            bool grow_amortized = vec_grow_amortized(pool, 1);
+            if (!grow_amortized) {
+                goto join_5;
+            }
+            at = load64(pool + POOL_NODES_LEN);
+        } else {
+            at = nodes_len;
+        }
+        char *node = load_address(pool + POOL_NODES) + (at * NODE_SIZE);
+        store16(node + NODE_HAS_PAIR, 1);
+        store16(node + NODE_HIGH, (uint16_t)(link >> 32));
+        store32(node + NODE_LOW, (uint32_t)link);
+        store64(node + NODE_KEY, pair_key);
+        store64(node + NODE_VALUE, pair_value);
+        store64(pool + POOL_NODES_LEN, at + 1);
+        store64(result + MADE_USIZE_HAS_FAILED, 0);
+        store64(result + MADE_USIZE_MADE_OR_KEY, nodes_len);
+        store64(result + MADE_USIZE_VALUE, 0);
+        return;
+    }
+join_5:;
+    store64(result + MADE_USIZE_HAS_FAILED, 1);
+    store64(result + MADE_USIZE_MADE_OR_KEY, pair_key);
+    store64(result + MADE_USIZE_VALUE, pair_value);
+}
+
+// Puts clones of the pairs that a link leads through, of which there is at least one, into new nodes of `made`, in
+// their order, and returns the link to them.
+// intmap_table::table::slots::clone::clone_chain, in crates/intmap_table/src/table/slots/clone.rt
+static ALIGNED NOINLINE struct byte_word clone_clone_chain(char *pool, uint64_t from, char *made) {
+    uint64_t made_usize_room[3];
+    char *made_usize = (char *)made_usize_room;
+    uint64_t r10 = load64(made + POOL_NODES_LEN) - load64(made + POOL_SPARE);
+    uint64_t at = from;
+    for (;;) {
+        if (load64(pool + POOL_NODES_LEN) <= at) {
+            return made_byte_word(0, r10);
+        }
+        char *node = load_address(pool + POOL_NODES) + (at * NODE_SIZE);
+        uint8_t has_pair = load8(node + NODE_HAS_PAIR);
+        if (has_pair != 1) {
+            return made_byte_word(has_pair, r10);
+        }
+        uint16_t high = load16(node + NODE_HIGH);
+        uint64_t link = link_of(high, load32(node + NODE_LOW));
+        pool_add_new(made_usize, made, (high == NOWHERE_HIGH) ? NOWHERE : ((load64(made + POOL_NODES_LEN) + 1) - load64(made + POOL_SPARE)), load64(node + NODE_KEY), load64(node + NODE_VALUE));
+        if (load8(made_usize + MADE_USIZE_HAS_FAILED) != 0) {
+            return made_byte_word(1, 0);
+        }
+        at = link;
     }
 }
 
@@ -1170,116 +1233,6 @@ arm_9:;
     }
     store8(result + MADE_SLOTS_HAS_FAILED, 1);
     memset(result + MADE_SLOTS_MASK, 0, SLOTS_SIZE);
-}
-
-// A copy of the marks.
-// intmap_table::bits::Bits::clone, in crates/intmap_table/src/bits.rt
-static ALWAYS_INLINE void bits_clone(char *result, char *bits) {
-    char *words_2;
-    char *dangling = (char *)no_bytes;
-    char *words = load_address(bits + BITS_WORDS);
-    uint64_t words_len = load64(bits + BITS_WORDS_LEN);
-    if (words_len != 0) {
-        if (words_len < TOO_MANY(8)) {
-            struct word_word block = rattle_alloc(words_len << 3, 8);
-            if ((block.first & 1) != 0) {
-                words_2 = (char *)(uintptr_t)block.second;
-                goto arm_1;
-            }
-        }
-        store8(result + MADE_BITS_HAS_FAILED, 1);
-        memset(result + MADE_BITS_WORDS, 0, BITS_SIZE);
-        return;
-    }
-    words_2 = dangling;
-arm_1:;
-    copy_drop_copy_bits(words, words_2, words_len);
-    store8(result + MADE_BITS_HAS_FAILED, 0);
-    store_address(result + MADE_BITS_WORDS, words_2);
-    store64(result + MADE_BITS_WORDS_LEN, words_len);
-    store64(result + MADE_BITS_WORDS_ROOM, words_len);
-}
-
-// core::ptr::copy_drop::copy_bits, in Rattle's library core
-static ALWAYS_INLINE void copy_drop_copy_bits(char *a0, char *a1, uint64_t a2) {
-    uint64_t r7 = a2 << 3;
-    if ((((uint64_t)(uintptr_t)a1) - ((uint64_t)(uintptr_t)a0)) >= r7) {
-        memmove(a1, a0, r7);
-        return;
-    }
-    if (a2 == 0) {
-        return;
-    }
-    uint64_t word = 0;
-    for (;;) {
-        uint64_t offset = word << 3;
-        store64(a1 + offset, load64(a0 + offset));
-        uint64_t next_word = word + 1;
-        if (next_word == a2) {
-            return;
-        }
-        word = next_word;
-    }
-}
-
-// Puts clones of the pairs that a link leads through, of which there is at least one, into new nodes of `made`, in
-// their order, and returns the link to them.
-// intmap_table::table::slots::clone::clone_chain, in crates/intmap_table/src/table/slots/clone.rt
-static ALIGNED NOINLINE struct byte_word clone_clone_chain(char *pool, uint64_t from, char *made) {
-    uint64_t made_usize_room[3];
-    char *made_usize = (char *)made_usize_room;
-    uint64_t r10 = load64(made + POOL_NODES_LEN) - load64(made + POOL_SPARE);
-    uint64_t at = from;
-    for (;;) {
-        if (load64(pool + POOL_NODES_LEN) <= at) {
-            return made_byte_word(0, r10);
-        }
-        char *node = load_address(pool + POOL_NODES) + (at * NODE_SIZE);
-        uint8_t has_pair = load8(node + NODE_HAS_PAIR);
-        if (has_pair != 1) {
-            return made_byte_word(has_pair, r10);
-        }
-        uint16_t high = load16(node + NODE_HIGH);
-        uint64_t link = link_of(high, load32(node + NODE_LOW));
-        pool_add_new(made_usize, made, (high == NOWHERE_HIGH) ? NOWHERE : ((load64(made + POOL_NODES_LEN) + 1) - load64(made + POOL_SPARE)), load64(node + NODE_KEY), load64(node + NODE_VALUE));
-        if (load8(made_usize + MADE_USIZE_HAS_FAILED) != 0) {
-            return made_byte_word(1, 0);
-        }
-        at = link;
-    }
-}
-
-// Puts a pair with a link into a new node behind the others, none of which may be free, and returns which.
-// intmap_table::linked::pool::Pool::add_new, in crates/intmap_table/src/linked/pool.rt
-static ALWAYS_INLINE void pool_add_new(char *result, char *pool, uint64_t link, uint64_t pair_key, uint64_t pair_value) {
-    uint64_t nodes_len = load64(pool + POOL_NODES_LEN);
-    if (nodes_len != NODE_LIMIT) {
-        uint64_t at;
-        if (load64(pool + POOL_NODES_ROOM) == nodes_len) {
-            bool grow_amortized = vec_grow_amortized(pool, 1);
-            if (!grow_amortized) {
-                goto join_5;
-            }
-            at = load64(pool + POOL_NODES_LEN);
-        } else {
-            at = nodes_len;
-        }
-        char *node = load_address(pool + POOL_NODES) + (at * NODE_SIZE);
-        store16(node + NODE_HAS_PAIR, 1);
-        store16(node + NODE_HIGH, (uint16_t)(link >> 32));
-        store32(node + NODE_LOW, (uint32_t)link);
-        store64(node + NODE_KEY, pair_key);
-        store64(node + NODE_VALUE, pair_value);
-        store64(pool + POOL_NODES_LEN, at + 1);
-        store64(result + MADE_USIZE_HAS_FAILED, 0);
-        store64(result + MADE_USIZE_MADE_OR_KEY, nodes_len);
-        store64(result + MADE_USIZE_VALUE, 0);
-        return;
-    }
-join_5:;
-    store64(result + MADE_USIZE_HAS_FAILED, 1);
-    store64(result + MADE_USIZE_MADE_OR_KEY, pair_key);
-    store64(result + MADE_USIZE_VALUE, pair_value);
 }
 
 // Puts a new map into the handle and returns `OK`.
@@ -1505,84 +1458,14 @@ static ALIGNED NOINLINE struct byte_address handle_make_first(void) {
     return made_byte_address(0, NULL);
 }
 
-// Adds the pair of an absent key, if the slots don't take one more, and returns where it is.
-// intmap::map::IntMap::add_growing, in crates/intmap/src/map/insert.rt
-static ALIGNED NOINLINE void intmap_add_growing(char *result, char *map, uint64_t slot, uint64_t key_key, uint64_t key_number, uint64_t value) {
-    uint64_t room, has_failed, key_or_value, r25, place;
-    uint8_t slot_or_cause;
+// Whether the map needn't grow for one more pair.
+// intmap::map::IntMap::takes_one_more, in crates/intmap/src/map/insert.rt
+static ALWAYS_INLINE bool intmap_takes_one_more(char *map) {
     uint64_t len = load64(map + INT_MAP_LEN);
-    if (len == UINT64_MAX) {
-        store64(result + MADE_LOCATION_HAS_FAILED, 1);
-        store64(result + MADE_LOCATION_KEY_OR_VALUE, value);
-        store8(result + MADE_LOCATION_SLOT_OR_CAUSE, 1);
-        store_bytes(result + MADE_LOCATION_SLOT_OR_CAUSE + 1, 0, 7);
-        store64(result + MADE_LOCATION_PLACE, 0);
-        return;
+    if (len < load64(map + INT_MAP_THRESHOLD)) {
+        return true;
     }
-    uint64_t len_2 = len + 1;
-    uint64_t factor = load64(map + INT_MAP_FACTOR);
-    struct byte_word wanted_capacity = load_wanted_capacity(len_2, load64(map + INT_MAP_SLOTS_LEN), factor);
-    if (wanted_capacity.first != 1) {
-        store64(result + MADE_LOCATION_HAS_FAILED, 1);
-        store64(result + MADE_LOCATION_KEY_OR_VALUE, value);
-        store8(result + MADE_LOCATION_SLOT_OR_CAUSE, 1);
-        store_bytes(result + MADE_LOCATION_SLOT_OR_CAUSE + 1, 0, 7);
-        store64(result + MADE_LOCATION_PLACE, 0);
-        return;
-    }
-    u128 r17 = u128_less_one(u128_mul(u128_add(u128_of(factor), u128_of(1u)), u128_of(wanted_capacity.second)));
-    uint64_t threshold = u128_above(r17, u128_two(999, UINT64_MAX)) ? UINT64_MAX : u128_low(u128_div(r17, u128_of(1000u)));
-    uint64_t r4 = wanted_capacity.second - 1;
-    uint64_t index = r4 & (key_number * MULTIPLIER);
-    uint64_t nodes_len = load64(map + INT_MAP_NODES_LEN);
-    uint64_t r10 = nodes_len - load64(map + INT_MAP_SPARE);
-    char *node = load_address(map + INT_MAP_SLOTS) + (slot * NODE_SIZE);
-    if (load8(node + NODE_HAS_PAIR) == 1) {
-        if (((load64(node + NODE_KEY) * MULTIPLIER) & r4) != index) {
-            uint64_t at = link_of(load16(node + NODE_HIGH), load32(node + NODE_LOW));
-            for (;;) {
-                if (nodes_len <= at) {
-                    room = r10;
-                    goto after_Slots_needed;
-                }
-                char *node_2 = load_address(map + INT_MAP_NODES) + (at * NODE_SIZE);
-                if (load8(node_2 + NODE_HAS_PAIR) != 1) {
-                    room = r10;
-                    goto after_Slots_needed;
-                }
-                if (((load64(node_2 + NODE_KEY) * MULTIPLIER) & r4) == index) {
-                    break;
-                }
-                at = link_of(load16(node_2 + NODE_HIGH), load32(node_2 + NODE_LOW));
-            }
-        }
-        room = r10 + 1;
-    } else {
-        room = r10;
-    }
-after_Slots_needed:;
-    uint8_t enlarge = slots_enlarge(map, wanted_capacity.second, room);
-    if ((enlarge & 1) != 0) {
-        has_failed = 1;
-        key_or_value = value;
-        r25 = 0;
-        slot_or_cause = 0;
-        place = 0;
-    } else {
-        uint64_t put_at = refill_put_at(map + INT_MAP_SLOTS, map + INT_MAP_WORDS, map + INT_MAP_NODES, index, 2, key_key, value);
-        store64(map + INT_MAP_LEN, len_2);
-        store64(map + INT_MAP_THRESHOLD, threshold);
-        has_failed = 0;
-        key_or_value = key_key;
-        r25 = (uint64_t)((index >> 8) & UINT64_C(72057594037927935));
-        slot_or_cause = (uint8_t)index;
-        place = put_at;
-    }
-    store64(result + MADE_LOCATION_HAS_FAILED, has_failed);
-    store64(result + MADE_LOCATION_KEY_OR_VALUE, key_or_value);
-    store8(result + MADE_LOCATION_SLOT_OR_CAUSE, slot_or_cause);
-    store_bytes(result + MADE_LOCATION_SLOT_OR_CAUSE + 1, r25, 7);
-    store64(result + MADE_LOCATION_PLACE, place);
+    return (len != UINT64_MAX) ? (((len + 1) & 4) == 0) : false;
 }
 
 // The least capacity, among `capacity` and its doublings, in which `len` pairs meet the load factor `factor`, in
@@ -1605,6 +1488,258 @@ static ALWAYS_INLINE struct byte_word load_wanted_capacity(uint64_t len, uint64_
         }
         capacity_2 = r31;
     }
+}
+
+// std_alloc::vec::Vec::reserve_exact, in Rattle's library std_alloc
+static ALWAYS_INLINE uint8_t vec_reserve_exact(char *vec, uint64_t a1) {
+    struct word_word block_2;
+    uint64_t len = load64(vec + VEC_LEN);
+    uint64_t room = load64(vec + VEC_ROOM);
+    if (a1 <= (room - len)) {
+        return 0;
+    }
+    if (a1 > (~len)) {
+        return 1;
+    }
+    uint64_t room_2 = len + a1;
+    if (room_2 >= TOO_MANY(24)) {
+        return 1;
+    }
+    if (room == 0) {
+        struct word_word block = rattle_alloc(room_2 * 24, 8);
+        if ((block.first & 1) == 0) {
+            return 1;
+        }
+        block_2 = block;
+    } else {
+        struct word_word block_3 = rattle_realloc(load_address(vec + VEC_ADDRESS), len * 24, room_2 * 24, 8);
+        if ((block_3.first & 1) == 0) {
+            return 1;
+        }
+        block_2 = block_3;
+    }
+    store_address(vec + VEC_ADDRESS, (char *)(uintptr_t)block_2.second);
+    store64(vec + VEC_ROOM, room_2);
+    return 0;
+}
+
+// std_alloc::vec::Vec::shrink_to_fit, in Rattle's library std_alloc
+static ALWAYS_INLINE void vec_shrink_to_fit(char *slots_at) {
+    char *dangling = (char *)no_bytes;
+    uint64_t slots_len = load64(slots_at + VEC_LEN);
+    if (load64(slots_at + VEC_ROOM) <= slots_len) {
+        return;
+    }
+    if (slots_len == 0) {
+        rattle_dealloc(load_address(slots_at + VEC_ADDRESS));
+        store_address(slots_at + VEC_ADDRESS, dangling);
+        memset(slots_at + VEC_LEN, 0, 16);
+        return;
+    }
+    uint64_t size = slots_len * NODE_SIZE;
+    struct word_word block = rattle_realloc(load_address(slots_at + VEC_ADDRESS), size, size, 8);
+    if ((block.first & 1) == 0) {
+        return;
+    }
+    store_address(slots_at + VEC_ADDRESS, (char *)(uintptr_t)block.second);
+    store64(slots_at + VEC_ROOM, slots_len);
+}
+
+// Puts a pair before the first one of a slot that holds some, and returns its place.
+// intmap_table::linked::row::growth::put_before_first, in crates/intmap_table/src/linked/row/growth.rt
+static ALIGNED NOINLINE void growth_put_before_first(char *slot, char *pool, uint64_t pair_key, uint64_t pair_value) {
+    uint64_t link;
+    uint64_t made_usize_room[3];
+    char *made_usize = (char *)made_usize_room;
+    if (load8(slot + NODE_HAS_PAIR) != 1) {
+        abort(); // The proof excludes this.
+    }
+    uint16_t high = load16(slot + NODE_HIGH);
+    uint32_t low = load32(slot + NODE_LOW);
+    uint64_t key = load64(slot + NODE_KEY);
+    uint64_t value = load64(slot + NODE_VALUE);
+    store64(slot + NODE_KEY, pair_key);
+    store64(slot + NODE_VALUE, pair_value);
+    uint64_t spare = load64(pool + POOL_SPARE);
+    if (spare == 0) {
+        pool_add_new(made_usize, pool, link_of(high, low), key, value);
+        if (load8(made_usize + MADE_USIZE_HAS_FAILED) != 0) {
+            abort(); // The proof excludes this.
+        }
+        link = load64(made_usize + MADE_USIZE_MADE_OR_KEY);
+    } else {
+        uint64_t free = load64(pool + POOL_FREE);
+        char *node = load_address(pool + POOL_NODES) + (free * NODE_SIZE);
+        if (load8(node + NODE_HAS_PAIR) != 0) {
+            abort(); // The proof excludes this.
+        }
+        store64(pool + POOL_FREE, link_of(load16(node + NODE_HIGH), load32(node + NODE_LOW)));
+        store64(pool + POOL_SPARE, spare - 1);
+        uint8_t has_pair = load8(node + NODE_HAS_PAIR);
+        store16(node + NODE_HAS_PAIR, 1);
+        store16(node + NODE_HIGH, high);
+        store32(node + NODE_LOW, low);
+        store64(node + NODE_KEY, key);
+        store64(node + NODE_VALUE, value);
+        if (has_pair != 0) {
+            abort(); // The proof excludes this.
+        }
+        link = free;
+    }
+    if (load8(slot + NODE_HAS_PAIR) != 1) {
+        abort(); // The proof excludes this.
+    }
+    store16(slot + NODE_HIGH, (uint16_t)(link >> 32));
+    store32(slot + NODE_LOW, (uint32_t)link);
+}
+
+// Puts a pair behind the first one of a slot that holds some, and returns its place.
+// intmap_table::linked::row::growth::put_behind_first, in crates/intmap_table/src/linked/row/growth.rt
+static ALIGNED NOINLINE void growth_put_behind_first(char *slot, char *pool, uint64_t pair_key, uint64_t pair_value) {
+    uint64_t link;
+    uint64_t made_usize_room[3];
+    char *made_usize = (char *)made_usize_room;
+    if (load8(slot + NODE_HAS_PAIR) != 1) {
+        abort(); // The proof excludes this.
+    }
+    uint16_t high = load16(slot + NODE_HIGH);
+    uint32_t low = load32(slot + NODE_LOW);
+    uint64_t spare = load64(pool + POOL_SPARE);
+    if (spare == 0) {
+        pool_add_new(made_usize, pool, link_of(high, low), pair_key, pair_value);
+        if (load8(made_usize + MADE_USIZE_HAS_FAILED) != 0) {
+            abort(); // The proof excludes this.
+        }
+        link = load64(made_usize + MADE_USIZE_MADE_OR_KEY);
+    } else {
+        uint64_t free = load64(pool + POOL_FREE);
+        char *node = load_address(pool + POOL_NODES) + (free * NODE_SIZE);
+        if (load8(node + NODE_HAS_PAIR) != 0) {
+            abort(); // The proof excludes this.
+        }
+        store64(pool + POOL_FREE, link_of(load16(node + NODE_HIGH), load32(node + NODE_LOW)));
+        store64(pool + POOL_SPARE, spare - 1);
+        uint8_t has_pair = load8(node + NODE_HAS_PAIR);
+        store16(node + NODE_HAS_PAIR, 1);
+        store16(node + NODE_HIGH, high);
+        store32(node + NODE_LOW, low);
+        store64(node + NODE_KEY, pair_key);
+        store64(node + NODE_VALUE, pair_value);
+        if (has_pair != 0) {
+            abort(); // The proof excludes this.
+        }
+        link = free;
+    }
+    if (load8(slot + NODE_HAS_PAIR) != 1) {
+        abort(); // The proof excludes this.
+    }
+    store16(slot + NODE_HIGH, (uint16_t)(link >> 32));
+    store32(slot + NODE_LOW, (uint32_t)link);
+}
+
+// Puts a pair last, and returns its place.
+// intmap_table::linked::row::insertion::push_further, in crates/intmap_table/src/linked/row/insertion.rt
+static ALIGNED NOINLINE void insertion_push_further(char *result, char *slot, char *pool, uint64_t pair_key, uint64_t pair_value) {
+    uint64_t link;
+    uint64_t made_usize_room[3];
+    char *made_usize = (char *)made_usize_room;
+    if (load8(slot + NODE_HAS_PAIR) != 1) {
+        abort(); // The proof excludes this.
+    }
+    struct word_word at = chain_last_in(pool, link_of(load16(slot + NODE_HIGH), load32(slot + NODE_LOW)));
+    uint64_t spare = load64(pool + POOL_SPARE);
+    if (spare == 0) {
+        pool_add_new(made_usize, pool, NOWHERE, pair_key, pair_value);
+        uint64_t made_or_key = load64(made_usize + MADE_USIZE_MADE_OR_KEY);
+        uint64_t value = load64(made_usize + MADE_USIZE_VALUE);
+        if (load8(made_usize + MADE_USIZE_HAS_FAILED) != 0) {
+            store64(result + MADE_USIZE_HAS_FAILED, 1);
+            store64(result + MADE_USIZE_MADE_OR_KEY, made_or_key);
+            store64(result + MADE_USIZE_VALUE, value);
+            return;
+        }
+        link = made_or_key;
+    } else {
+        uint64_t free = load64(pool + POOL_FREE);
+        char *node = load_address(pool + POOL_NODES) + (free * NODE_SIZE);
+        if (load8(node + NODE_HAS_PAIR) != 0) {
+            abort(); // The proof excludes this.
+        }
+        store64(pool + POOL_FREE, link_of(load16(node + NODE_HIGH), load32(node + NODE_LOW)));
+        store64(pool + POOL_SPARE, spare - 1);
+        uint8_t has_pair = load8(node + NODE_HAS_PAIR);
+        store16(node + NODE_HAS_PAIR, 1);
+        store16(node + NODE_HIGH, NOWHERE_HIGH);
+        store32(node + NODE_LOW, NOWHERE_LOW);
+        store64(node + NODE_KEY, pair_key);
+        store64(node + NODE_VALUE, pair_value);
+        if (has_pair != 0) {
+            abort(); // The proof excludes this.
+        }
+        link = free;
+    }
+    if (at.first >= NODE_LIMIT) {
+        if (load8(slot + NODE_HAS_PAIR) != 1) {
+            abort(); // The proof excludes this.
+        }
+        store16(slot + NODE_HIGH, (uint16_t)(link >> 32));
+        store32(slot + NODE_LOW, (uint32_t)link);
+    } else {
+        char *node_2 = load_address(pool + POOL_NODES) + (at.first * NODE_SIZE);
+        if (load8(node_2 + NODE_HAS_PAIR) != 1) {
+            abort(); // The proof excludes this.
+        }
+        store16(node_2 + NODE_HIGH, (uint16_t)(link >> 32));
+        store32(node_2 + NODE_LOW, (uint32_t)link);
+    }
+    store64(result + MADE_USIZE_HAS_FAILED, 0);
+    store64(result + MADE_USIZE_MADE_OR_KEY, at.second + 1);
+    store64(result + MADE_USIZE_VALUE, 0);
+}
+
+// Puts a pair into its slot, where `order` says, marks the slot, counts the pair, and returns its place.
+// intmap_table::table::slots::refill::put_at, in crates/intmap_table/src/table/slots/refill.rt
+static ALWAYS_INLINE uint64_t refill_put_at(char *slots, char *bits, char *pool, uint64_t index, uint8_t order, uint64_t pair_key, uint64_t pair_value) {
+    uint64_t made_or_key;
+    uint64_t made_usize_room[3];
+    char *made_usize = (char *)made_usize_room;
+    char *node = load_address(slots + VEC_ADDRESS) + (index * NODE_SIZE);
+    uint8_t has_pair = load8(node + NODE_HAS_PAIR);
+    if (has_pair == 1) {
+        switch (order) {
+        case 0:
+            growth_put_before_first(node, pool, pair_key, pair_value);
+            made_or_key = 0;
+            break;
+        case 1:
+            growth_put_behind_first(node, pool, pair_key, pair_value);
+            made_or_key = 1;
+            break;
+        case 2:
+            memset(made_usize, 0, MADE_USIZE_SIZE);
+            insertion_push_further(made_usize, node, pool, pair_key, pair_value);
+            if (load8(made_usize + MADE_USIZE_HAS_FAILED) != 0) {
+                abort(); // The proof excludes this.
+            }
+            made_or_key = load64(made_usize + MADE_USIZE_MADE_OR_KEY);
+            break;
+        default:
+            abort(); // The proof excludes this.
+        }
+    } else {
+        store16(node + NODE_HAS_PAIR, 1);
+        store16(node + NODE_HIGH, NOWHERE_HIGH);
+        store32(node + NODE_LOW, NOWHERE_LOW);
+        store64(node + NODE_KEY, pair_key);
+        store64(node + NODE_VALUE, pair_value);
+        if (has_pair != 0) {
+            abort(); // The proof excludes this.
+        }
+        made_or_key = 0;
+    }
+    char *word_at = load_address(bits + BITS_WORDS) + ((index >> 3) & UINT64_C(0x1FFFFFFFFFFFFFF8));
+    store64(word_at, load64(word_at) | ((uint64_t)1 << (index & 63)));
+    return made_or_key;
 }
 
 // Adds slots, so that there are `capacity`, and moves all pairs, in the order of the walk, to their slots among
@@ -1779,256 +1914,84 @@ arm_7:;
     return 1;
 }
 
-// std_alloc::vec::Vec::reserve_exact, in Rattle's library std_alloc
-static ALWAYS_INLINE uint8_t vec_reserve_exact(char *vec, uint64_t a1) {
-    struct word_word block_2;
-    uint64_t len = load64(vec + VEC_LEN);
-    uint64_t room = load64(vec + VEC_ROOM);
-    if (a1 <= (room - len)) {
-        return 0;
-    }
-    if (a1 > (~len)) {
-        return 1;
-    }
-    uint64_t room_2 = len + a1;
-    if (room_2 >= TOO_MANY(24)) {
-        return 1;
-    }
-    if (room == 0) {
-        struct word_word block = rattle_alloc(room_2 * 24, 8);
-        if ((block.first & 1) == 0) {
-            return 1;
-        }
-        block_2 = block;
-    } else {
-        struct word_word block_3 = rattle_realloc(load_address(vec + VEC_ADDRESS), len * 24, room_2 * 24, 8);
-        if ((block_3.first & 1) == 0) {
-            return 1;
-        }
-        block_2 = block_3;
-    }
-    store_address(vec + VEC_ADDRESS, (char *)(uintptr_t)block_2.second);
-    store64(vec + VEC_ROOM, room_2);
-    return 0;
-}
-
-// std_alloc::vec::Vec::shrink_to_fit, in Rattle's library std_alloc
-static ALWAYS_INLINE void vec_shrink_to_fit(char *slots_at) {
-    char *dangling = (char *)no_bytes;
-    uint64_t slots_len = load64(slots_at + VEC_LEN);
-    if (load64(slots_at + VEC_ROOM) <= slots_len) {
+// Adds the pair of an absent key, if the slots don't take one more, and returns where it is.
+// intmap::map::IntMap::add_growing, in crates/intmap/src/map/insert.rt
+static ALIGNED NOINLINE void intmap_add_growing(char *result, char *map, uint64_t slot, uint64_t key_key, uint64_t key_number, uint64_t value) {
+    uint64_t room, has_failed, key_or_value, r25, place;
+    uint8_t slot_or_cause;
+    uint64_t len = load64(map + INT_MAP_LEN);
+    if (len == UINT64_MAX) {
+        store64(result + MADE_LOCATION_HAS_FAILED, 1);
+        store64(result + MADE_LOCATION_KEY_OR_VALUE, value);
+        store8(result + MADE_LOCATION_SLOT_OR_CAUSE, 1);
+        store_bytes(result + MADE_LOCATION_SLOT_OR_CAUSE + 1, 0, 7);
+        store64(result + MADE_LOCATION_PLACE, 0);
         return;
     }
-    if (slots_len == 0) {
-        rattle_dealloc(load_address(slots_at + VEC_ADDRESS));
-        store_address(slots_at + VEC_ADDRESS, dangling);
-        memset(slots_at + VEC_LEN, 0, 16);
+    uint64_t len_2 = len + 1;
+    uint64_t factor = load64(map + INT_MAP_FACTOR);
+    struct byte_word wanted_capacity = load_wanted_capacity(len_2, load64(map + INT_MAP_SLOTS_LEN), factor);
+    if (wanted_capacity.first != 1) {
+        store64(result + MADE_LOCATION_HAS_FAILED, 1);
+        store64(result + MADE_LOCATION_KEY_OR_VALUE, value);
+        store8(result + MADE_LOCATION_SLOT_OR_CAUSE, 1);
+        store_bytes(result + MADE_LOCATION_SLOT_OR_CAUSE + 1, 0, 7);
+        store64(result + MADE_LOCATION_PLACE, 0);
         return;
     }
-    uint64_t size = slots_len * NODE_SIZE;
-    struct word_word block = rattle_realloc(load_address(slots_at + VEC_ADDRESS), size, size, 8);
-    if ((block.first & 1) == 0) {
-        return;
-    }
-    store_address(slots_at + VEC_ADDRESS, (char *)(uintptr_t)block.second);
-    store64(slots_at + VEC_ROOM, slots_len);
-}
-
-// Puts a pair into its slot, where `order` says, marks the slot, counts the pair, and returns its place.
-// intmap_table::table::slots::refill::put_at, in crates/intmap_table/src/table/slots/refill.rt
-static ALWAYS_INLINE uint64_t refill_put_at(char *slots, char *bits, char *pool, uint64_t index, uint8_t order, uint64_t pair_key, uint64_t pair_value) {
-    uint64_t made_or_key;
-    uint64_t made_usize_room[3];
-    char *made_usize = (char *)made_usize_room;
-    char *node = load_address(slots + VEC_ADDRESS) + (index * NODE_SIZE);
-    uint8_t has_pair = load8(node + NODE_HAS_PAIR);
-    if (has_pair == 1) {
-        switch (order) {
-        case 0:
-            growth_put_before_first(node, pool, pair_key, pair_value);
-            made_or_key = 0;
-            break;
-        case 1:
-            growth_put_behind_first(node, pool, pair_key, pair_value);
-            made_or_key = 1;
-            break;
-        case 2:
-            memset(made_usize, 0, MADE_USIZE_SIZE);
-            insertion_push_further(made_usize, node, pool, pair_key, pair_value);
-            if (load8(made_usize + MADE_USIZE_HAS_FAILED) != 0) {
-                abort(); // The proof excludes this.
+    u128 r17 = u128_less_one(u128_mul(u128_add(u128_of(factor), u128_of(1u)), u128_of(wanted_capacity.second)));
+    uint64_t threshold = u128_above(r17, u128_two(999, UINT64_MAX)) ? UINT64_MAX : u128_low(u128_div(r17, u128_of(1000u)));
+    uint64_t r4 = wanted_capacity.second - 1;
+    uint64_t index = r4 & (key_number * MULTIPLIER);
+    uint64_t nodes_len = load64(map + INT_MAP_NODES_LEN);
+    uint64_t r10 = nodes_len - load64(map + INT_MAP_SPARE);
+    char *node = load_address(map + INT_MAP_SLOTS) + (slot * NODE_SIZE);
+    if (load8(node + NODE_HAS_PAIR) == 1) {
+        if (((load64(node + NODE_KEY) * MULTIPLIER) & r4) != index) {
+            uint64_t at = link_of(load16(node + NODE_HIGH), load32(node + NODE_LOW));
+            for (;;) {
+                if (nodes_len <= at) {
+                    room = r10;
+                    goto after_Slots_needed;
+                }
+                char *node_2 = load_address(map + INT_MAP_NODES) + (at * NODE_SIZE);
+                if (load8(node_2 + NODE_HAS_PAIR) != 1) {
+                    room = r10;
+                    goto after_Slots_needed;
+                }
+                if (((load64(node_2 + NODE_KEY) * MULTIPLIER) & r4) == index) {
+                    break;
+                }
+                at = link_of(load16(node_2 + NODE_HIGH), load32(node_2 + NODE_LOW));
             }
-            made_or_key = load64(made_usize + MADE_USIZE_MADE_OR_KEY);
-            break;
-        default:
-            abort(); // The proof excludes this.
         }
+        room = r10 + 1;
     } else {
-        store16(node + NODE_HAS_PAIR, 1);
-        store16(node + NODE_HIGH, NOWHERE_HIGH);
-        store32(node + NODE_LOW, NOWHERE_LOW);
-        store64(node + NODE_KEY, pair_key);
-        store64(node + NODE_VALUE, pair_value);
-        if (has_pair != 0) {
-            abort(); // The proof excludes this.
-        }
-        made_or_key = 0;
+        room = r10;
     }
-    char *word_at = load_address(bits + BITS_WORDS) + ((index >> 3) & UINT64_C(0x1FFFFFFFFFFFFFF8));
-    store64(word_at, load64(word_at) | ((uint64_t)1 << (index & 63)));
-    return made_or_key;
-}
-
-// Puts a pair before the first one of a slot that holds some, and returns its place.
-// intmap_table::linked::row::growth::put_before_first, in crates/intmap_table/src/linked/row/growth.rt
-static ALIGNED NOINLINE void growth_put_before_first(char *slot, char *pool, uint64_t pair_key, uint64_t pair_value) {
-    uint64_t link;
-    uint64_t made_usize_room[3];
-    char *made_usize = (char *)made_usize_room;
-    if (load8(slot + NODE_HAS_PAIR) != 1) {
-        abort(); // The proof excludes this.
-    }
-    uint16_t high = load16(slot + NODE_HIGH);
-    uint32_t low = load32(slot + NODE_LOW);
-    uint64_t key = load64(slot + NODE_KEY);
-    uint64_t value = load64(slot + NODE_VALUE);
-    store64(slot + NODE_KEY, pair_key);
-    store64(slot + NODE_VALUE, pair_value);
-    uint64_t spare = load64(pool + POOL_SPARE);
-    if (spare == 0) {
-        pool_add_new(made_usize, pool, link_of(high, low), key, value);
-        if (load8(made_usize + MADE_USIZE_HAS_FAILED) != 0) {
-            abort(); // The proof excludes this.
-        }
-        link = load64(made_usize + MADE_USIZE_MADE_OR_KEY);
+after_Slots_needed:;
+    uint8_t enlarge = slots_enlarge(map, wanted_capacity.second, room);
+    if ((enlarge & 1) != 0) {
+        has_failed = 1;
+        key_or_value = value;
+        r25 = 0;
+        slot_or_cause = 0;
+        place = 0;
     } else {
-        uint64_t free = load64(pool + POOL_FREE);
-        char *node = load_address(pool + POOL_NODES) + (free * NODE_SIZE);
-        if (load8(node + NODE_HAS_PAIR) != 0) {
-            abort(); // The proof excludes this.
-        }
-        store64(pool + POOL_FREE, link_of(load16(node + NODE_HIGH), load32(node + NODE_LOW)));
-        store64(pool + POOL_SPARE, spare - 1);
-        uint8_t has_pair = load8(node + NODE_HAS_PAIR);
-        store16(node + NODE_HAS_PAIR, 1);
-        store16(node + NODE_HIGH, high);
-        store32(node + NODE_LOW, low);
-        store64(node + NODE_KEY, key);
-        store64(node + NODE_VALUE, value);
-        if (has_pair != 0) {
-            abort(); // The proof excludes this.
-        }
-        link = free;
+        uint64_t put_at = refill_put_at(map + INT_MAP_SLOTS, map + INT_MAP_WORDS, map + INT_MAP_NODES, index, 2, key_key, value);
+        store64(map + INT_MAP_LEN, len_2);
+        store64(map + INT_MAP_THRESHOLD, threshold);
+        has_failed = 0;
+        key_or_value = key_key;
+        r25 = (uint64_t)((index >> 8) & UINT64_C(72057594037927935));
+        slot_or_cause = (uint8_t)index;
+        place = put_at;
     }
-    if (load8(slot + NODE_HAS_PAIR) != 1) {
-        abort(); // The proof excludes this.
-    }
-    store16(slot + NODE_HIGH, (uint16_t)(link >> 32));
-    store32(slot + NODE_LOW, (uint32_t)link);
-}
-
-// Puts a pair behind the first one of a slot that holds some, and returns its place.
-// intmap_table::linked::row::growth::put_behind_first, in crates/intmap_table/src/linked/row/growth.rt
-static ALIGNED NOINLINE void growth_put_behind_first(char *slot, char *pool, uint64_t pair_key, uint64_t pair_value) {
-    uint64_t link;
-    uint64_t made_usize_room[3];
-    char *made_usize = (char *)made_usize_room;
-    if (load8(slot + NODE_HAS_PAIR) != 1) {
-        abort(); // The proof excludes this.
-    }
-    uint16_t high = load16(slot + NODE_HIGH);
-    uint32_t low = load32(slot + NODE_LOW);
-    uint64_t spare = load64(pool + POOL_SPARE);
-    if (spare == 0) {
-        pool_add_new(made_usize, pool, link_of(high, low), pair_key, pair_value);
-        if (load8(made_usize + MADE_USIZE_HAS_FAILED) != 0) {
-            abort(); // The proof excludes this.
-        }
-        link = load64(made_usize + MADE_USIZE_MADE_OR_KEY);
-    } else {
-        uint64_t free = load64(pool + POOL_FREE);
-        char *node = load_address(pool + POOL_NODES) + (free * NODE_SIZE);
-        if (load8(node + NODE_HAS_PAIR) != 0) {
-            abort(); // The proof excludes this.
-        }
-        store64(pool + POOL_FREE, link_of(load16(node + NODE_HIGH), load32(node + NODE_LOW)));
-        store64(pool + POOL_SPARE, spare - 1);
-        uint8_t has_pair = load8(node + NODE_HAS_PAIR);
-        store16(node + NODE_HAS_PAIR, 1);
-        store16(node + NODE_HIGH, high);
-        store32(node + NODE_LOW, low);
-        store64(node + NODE_KEY, pair_key);
-        store64(node + NODE_VALUE, pair_value);
-        if (has_pair != 0) {
-            abort(); // The proof excludes this.
-        }
-        link = free;
-    }
-    if (load8(slot + NODE_HAS_PAIR) != 1) {
-        abort(); // The proof excludes this.
-    }
-    store16(slot + NODE_HIGH, (uint16_t)(link >> 32));
-    store32(slot + NODE_LOW, (uint32_t)link);
-}
-
-// Puts a pair last, and returns its place.
-// intmap_table::linked::row::insertion::push_further, in crates/intmap_table/src/linked/row/insertion.rt
-static ALIGNED NOINLINE void insertion_push_further(char *result, char *slot, char *pool, uint64_t pair_key, uint64_t pair_value) {
-    uint64_t link;
-    uint64_t made_usize_room[3];
-    char *made_usize = (char *)made_usize_room;
-    if (load8(slot + NODE_HAS_PAIR) != 1) {
-        abort(); // The proof excludes this.
-    }
-    struct word_word at = chain_last_in(pool, link_of(load16(slot + NODE_HIGH), load32(slot + NODE_LOW)));
-    uint64_t spare = load64(pool + POOL_SPARE);
-    if (spare == 0) {
-        pool_add_new(made_usize, pool, NOWHERE, pair_key, pair_value);
-        uint64_t made_or_key = load64(made_usize + MADE_USIZE_MADE_OR_KEY);
-        uint64_t value = load64(made_usize + MADE_USIZE_VALUE);
-        if (load8(made_usize + MADE_USIZE_HAS_FAILED) != 0) {
-            store64(result + MADE_USIZE_HAS_FAILED, 1);
-            store64(result + MADE_USIZE_MADE_OR_KEY, made_or_key);
-            store64(result + MADE_USIZE_VALUE, value);
-            return;
-        }
-        link = made_or_key;
-    } else {
-        uint64_t free = load64(pool + POOL_FREE);
-        char *node = load_address(pool + POOL_NODES) + (free * NODE_SIZE);
-        if (load8(node + NODE_HAS_PAIR) != 0) {
-            abort(); // The proof excludes this.
-        }
-        store64(pool + POOL_FREE, link_of(load16(node + NODE_HIGH), load32(node + NODE_LOW)));
-        store64(pool + POOL_SPARE, spare - 1);
-        uint8_t has_pair = load8(node + NODE_HAS_PAIR);
-        store16(node + NODE_HAS_PAIR, 1);
-        store16(node + NODE_HIGH, NOWHERE_HIGH);
-        store32(node + NODE_LOW, NOWHERE_LOW);
-        store64(node + NODE_KEY, pair_key);
-        store64(node + NODE_VALUE, pair_value);
-        if (has_pair != 0) {
-            abort(); // The proof excludes this.
-        }
-        link = free;
-    }
-    if (at.first >= NODE_LIMIT) {
-        if (load8(slot + NODE_HAS_PAIR) != 1) {
-            abort(); // The proof excludes this.
-        }
-        store16(slot + NODE_HIGH, (uint16_t)(link >> 32));
-        store32(slot + NODE_LOW, (uint32_t)link);
-    } else {
-        char *node_2 = load_address(pool + POOL_NODES) + (at.first * NODE_SIZE);
-        if (load8(node_2 + NODE_HAS_PAIR) != 1) {
-            abort(); // The proof excludes this.
-        }
-        store16(node_2 + NODE_HIGH, (uint16_t)(link >> 32));
-        store32(node_2 + NODE_LOW, (uint32_t)link);
-    }
-    store64(result + MADE_USIZE_HAS_FAILED, 0);
-    store64(result + MADE_USIZE_MADE_OR_KEY, at.second + 1);
-    store64(result + MADE_USIZE_VALUE, 0);
+    store64(result + MADE_LOCATION_HAS_FAILED, has_failed);
+    store64(result + MADE_LOCATION_KEY_OR_VALUE, key_or_value);
+    store8(result + MADE_LOCATION_SLOT_OR_CAUSE, slot_or_cause);
+    store_bytes(result + MADE_LOCATION_SLOT_OR_CAUSE + 1, r25, 7);
+    store64(result + MADE_LOCATION_PLACE, place);
 }
 
 // Removes the first pair of a slot with this link that holds others.
@@ -2052,91 +2015,69 @@ static COLD uint64_t insertion_replace_first_of_several(char *slot, uint64_t lin
     return value_2;
 }
 
-// Inserts the pair of a key and a value as `insert` does, if it can't be put at once.
-// intmap::map::IntMap::insert_otherwise, in crates/intmap/src/map/insert.rt
-static ALIGNED NOINLINE void intmap_insert_otherwise(char *result, char *map, uint64_t slot, uint64_t key_key, uint64_t key_number, uint64_t value) {
-    char *node_2;
-    bool r1, has_failed_is_0;
-    uint64_t value_2, link, nodes_len, has_failed, has_made_or_value, made_or_cause, at_2;
-    uint8_t has_failed_2;
+// Puts the pair of a key and a value last in a slot whose first pair, if there is one, has another key.
+// intmap_table::linked::row::insertion::put, in crates/intmap_table/src/linked/row/insertion.rt
+static ALWAYS_INLINE void insertion_put(char *result, char *slot, char *pool, uint64_t key_key, uint64_t key_number, uint64_t value, bool adds) {
+    uint64_t has_failed, value_3, value_4, at_2, spare, link_4;
     uint64_t made_usize_room[3];
     char *made_usize = (char *)made_usize_room;
-    uint64_t made_location_room[4];
-    char *made_location = (char *)made_location_room;
-    memset(made_location, 0, MADE_LOCATION_SIZE);
-    uint64_t len = load64(map + INT_MAP_LEN);
-    if (len < load64(map + INT_MAP_THRESHOLD)) {
-        char *node = load_address(map + INT_MAP_SLOTS) + (slot * NODE_SIZE);
-        if (load8(node + NODE_HAS_PAIR) != 1) {
-            value_2 = value;
-            goto then_8;
-        }
-        node_2 = node;
-        r1 = true;
-    } else {
-        bool r2 = (len != UINT64_MAX) ? (((len + 1) & 4) == 0) : false;
-        char *node_3 = load_address(map + INT_MAP_SLOTS) + (slot * NODE_SIZE);
-        if (load8(node_3 + NODE_HAS_PAIR) != 1) {
-            if (!r2) {
-                goto join_10;
-            }
-            value_2 = value;
-            goto then_8;
-        }
-        node_2 = node_3;
-        r1 = r2;
+    if (load8(slot + NODE_HAS_PAIR) != 1) {
+        store64(result + MADE_OPTION_HAS_FAILED, 1);
+        store64(result + MADE_OPTION_HAS_MADE_OR_VALUE, value);
+        store64(result + MADE_OPTION_VALUE, 0);
+        return;
     }
-    link = link_of(load16(node_2 + NODE_HIGH), load32(node_2 + NODE_LOW));
-    nodes_len = load64(map + INT_MAP_NODES_LEN);
+    uint64_t link = link_of(load16(slot + NODE_HIGH), load32(slot + NODE_LOW));
+    uint64_t nodes_len = load64(pool + POOL_NODES_LEN);
     if (nodes_len > link) {
-        char *nodes = load_address(map + INT_MAP_NODES);
+        char *nodes = load_address(pool + POOL_NODES);
         uint64_t offset = link * NODE_SIZE;
-        char *node_4 = nodes + offset;
-        if (load8(node_4 + NODE_HAS_PAIR) == 1) {
-            char *node_5 = node_4;
+        char *node = nodes + offset;
+        if (load8(node + NODE_HAS_PAIR) == 1) {
+            char *node_2 = node;
             uint64_t offset_2 = offset;
             uint64_t link_2 = link;
             for (;;) {
-                if (load64(node_5 + NODE_KEY) == key_number) {
-                    struct word_word at = chain_last_in(map + INT_MAP_NODES, link_2);
-                    char *node_6 = nodes + (at.first * NODE_SIZE);
-                    if (load8(node_6 + NODE_HAS_PAIR) != 1) {
+                if (load64(node_2 + NODE_KEY) == key_number) {
+                    struct word_word at = chain_last_in(pool, link_2);
+                    char *node_3 = nodes + (at.first * NODE_SIZE);
+                    if (load8(node_3 + NODE_HAS_PAIR) != 1) {
                         abort(); // The proof excludes this.
                     }
-                    uint64_t key = load64(node_6 + NODE_KEY);
-                    uint64_t value_3 = load64(node_6 + NODE_VALUE);
-                    store64(node_6 + NODE_KEY, key_key);
-                    store64(node_6 + NODE_VALUE, value);
+                    uint64_t key = load64(node_3 + NODE_KEY);
+                    uint64_t value_2 = load64(node_3 + NODE_VALUE);
+                    store64(node_3 + NODE_KEY, key_key);
+                    store64(node_3 + NODE_VALUE, value);
                     if (at.first == link_2) {
                         has_failed = 0;
-                        has_made_or_value = 1;
-                        made_or_cause = value_3;
-                        goto join_4;
+                        value_3 = 1;
+                        value_4 = value_2;
+                        goto join_7_2;
                     }
-                    char *node_7 = load_address(map + INT_MAP_NODES) + offset_2;
-                    if (load8(node_7 + NODE_HAS_PAIR) != 1) {
+                    char *node_4 = load_address(pool + POOL_NODES) + offset_2;
+                    if (load8(node_4 + NODE_HAS_PAIR) != 1) {
                         abort(); // The proof excludes this.
                     }
-                    uint64_t value_4 = load64(node_7 + NODE_VALUE);
-                    store64(node_7 + NODE_KEY, key);
-                    store64(node_7 + NODE_VALUE, value_3);
+                    uint64_t value_5 = load64(node_4 + NODE_VALUE);
+                    store64(node_4 + NODE_KEY, key);
+                    store64(node_4 + NODE_VALUE, value_2);
                     has_failed = 0;
-                    has_made_or_value = 1;
-                    made_or_cause = value_4;
-                    goto join_4;
+                    value_3 = 1;
+                    value_4 = value_5;
+                    goto join_7_2;
                 }
-                uint64_t link_3 = link_of(load16(node_5 + NODE_HIGH), load32(node_5 + NODE_LOW));
+                uint64_t link_3 = link_of(load16(node_2 + NODE_HIGH), load32(node_2 + NODE_LOW));
                 if (nodes_len <= link_3) {
                     at_2 = link_2;
                     break;
                 }
                 uint64_t offset_3 = link_3 * NODE_SIZE;
-                char *node_8 = nodes + offset_3;
-                if (load8(node_8 + NODE_HAS_PAIR) != 1) {
+                char *node_5 = nodes + offset_3;
+                if (load8(node_5 + NODE_HAS_PAIR) != 1) {
                     at_2 = link_2;
                     break;
                 }
-                node_5 = node_8;
+                node_2 = node_5;
                 offset_2 = offset_3;
                 link_2 = link_3;
             }
@@ -2146,72 +2087,108 @@ static ALIGNED NOINLINE void intmap_insert_otherwise(char *result, char *map, ui
     } else {
         at_2 = NOWHERE;
     }
-    if (r1) {
-        uint64_t link_4;
-        uint64_t spare = load64(map + INT_MAP_SPARE);
-        if (spare == 0) {
-            pool_add_new(made_usize, map + INT_MAP_NODES, NOWHERE, key_key, value);
-            if (load8(made_usize + MADE_USIZE_HAS_FAILED) != 0) {
-                value_2 = load64(made_usize + MADE_USIZE_VALUE);
-                goto then_8;
-            }
-            link_4 = load64(made_usize + MADE_USIZE_MADE_OR_KEY);
-        } else {
-            uint64_t free = load64(map + INT_MAP_FREE);
-            char *node_9 = load_address(map + INT_MAP_NODES) + (free * NODE_SIZE);
-            if (load8(node_9 + NODE_HAS_PAIR) != 0) {
-                abort(); // The proof excludes this.
-            }
-            store64(map + INT_MAP_FREE, link_of(load16(node_9 + NODE_HIGH), load32(node_9 + NODE_LOW)));
-            store64(map + INT_MAP_SPARE, spare - 1);
-            uint8_t has_pair = load8(node_9 + NODE_HAS_PAIR);
-            store16(node_9 + NODE_HAS_PAIR, 1);
-            store16(node_9 + NODE_HIGH, NOWHERE_HIGH);
-            store32(node_9 + NODE_LOW, NOWHERE_LOW);
-            store64(node_9 + NODE_KEY, key_key);
-            store64(node_9 + NODE_VALUE, value);
-            if (has_pair != 0) {
-                abort(); // The proof excludes this.
-            }
-            link_4 = free;
-        }
-        if (at_2 >= NODE_LIMIT) {
-            if (load8(node_2 + NODE_HAS_PAIR) != 1) {
-                abort(); // The proof excludes this.
-            }
-            store16(node_2 + NODE_HIGH, (uint16_t)(link_4 >> 32));
-            store32(node_2 + NODE_LOW, (uint32_t)link_4);
-        } else {
-            char *node_10 = load_address(map + INT_MAP_NODES) + (at_2 * NODE_SIZE);
-            if (load8(node_10 + NODE_HAS_PAIR) != 1) {
-                abort(); // The proof excludes this.
-            }
-            store16(node_10 + NODE_HIGH, (uint16_t)(link_4 >> 32));
-            store32(node_10 + NODE_LOW, (uint32_t)link_4);
-        }
-        store64(map + INT_MAP_LEN, load64(map + INT_MAP_LEN) + 1);
-        has_failed = 0;
-        has_made_or_value = 0;
-        made_or_cause = 0;
-        goto join_4;
+    if (!adds) {
+        store64(result + MADE_OPTION_HAS_FAILED, 1);
+        store64(result + MADE_OPTION_HAS_MADE_OR_VALUE, value);
+        store64(result + MADE_OPTION_VALUE, 0);
+        return;
     }
-join_10:;
-    intmap_add_growing(made_location, map, slot, key_key, key_number, value);
-    has_failed_2 = load8(made_location + MADE_LOCATION_HAS_FAILED);
-    has_failed_is_0 = has_failed_2 == 0;
-    has_failed = (uint64_t)has_failed_2;
-    has_made_or_value = has_failed_is_0 ? 0 : load64(made_location + MADE_LOCATION_KEY_OR_VALUE);
-    made_or_cause = has_failed_is_0 ? 0 : load64(made_location + MADE_LOCATION_SLOT_OR_CAUSE);
-    goto join_4;
-then_8:;
-    store64(result + MADE_OPTION_HAS_FAILED, 1);
-    store64(result + MADE_OPTION_HAS_MADE_OR_VALUE, value_2);
-    store64(result + MADE_OPTION_MADE_OR_CAUSE, 0);
-    return;
-join_4:;
+    spare = load64(pool + POOL_SPARE);
+    if (spare == 0) {
+        pool_add_new(made_usize, pool, NOWHERE, key_key, value);
+        if (load8(made_usize + MADE_USIZE_HAS_FAILED) != 0) {
+            has_failed = 1;
+            value_3 = load64(made_usize + MADE_USIZE_VALUE);
+            value_4 = 0;
+            goto join_7_2;
+        }
+        link_4 = load64(made_usize + MADE_USIZE_MADE_OR_KEY);
+    } else {
+        uint64_t free = load64(pool + POOL_FREE);
+        char *node_6 = load_address(pool + POOL_NODES) + (free * NODE_SIZE);
+        if (load8(node_6 + NODE_HAS_PAIR) != 0) {
+            abort(); // The proof excludes this.
+        }
+        store64(pool + POOL_FREE, link_of(load16(node_6 + NODE_HIGH), load32(node_6 + NODE_LOW)));
+        store64(pool + POOL_SPARE, spare - 1);
+        uint8_t has_pair = load8(node_6 + NODE_HAS_PAIR);
+        store16(node_6 + NODE_HAS_PAIR, 1);
+        store16(node_6 + NODE_HIGH, NOWHERE_HIGH);
+        store32(node_6 + NODE_LOW, NOWHERE_LOW);
+        store64(node_6 + NODE_KEY, key_key);
+        store64(node_6 + NODE_VALUE, value);
+        if (has_pair != 0) {
+            abort(); // The proof excludes this.
+        }
+        link_4 = free;
+    }
+    if (at_2 >= NODE_LIMIT) {
+        if (load8(slot + NODE_HAS_PAIR) != 1) {
+            abort(); // The proof excludes this.
+        }
+        store16(slot + NODE_HIGH, (uint16_t)(link_4 >> 32));
+        store32(slot + NODE_LOW, (uint32_t)link_4);
+        has_failed = 0;
+        value_3 = 0;
+        value_4 = 0;
+    } else {
+        char *node_7 = load_address(pool + POOL_NODES) + (at_2 * NODE_SIZE);
+        if (load8(node_7 + NODE_HAS_PAIR) != 1) {
+            abort(); // The proof excludes this.
+        }
+        store16(node_7 + NODE_HIGH, (uint16_t)(link_4 >> 32));
+        store32(node_7 + NODE_LOW, (uint32_t)link_4);
+        has_failed = 0;
+        value_3 = 0;
+        value_4 = 0;
+    }
+join_7_2:;
     store64(result + MADE_OPTION_HAS_FAILED, has_failed);
-    store64(result + MADE_OPTION_HAS_MADE_OR_VALUE, has_made_or_value);
-    store64(result + MADE_OPTION_MADE_OR_CAUSE, made_or_cause);
+    store64(result + MADE_OPTION_HAS_MADE_OR_VALUE, value_3);
+    store64(result + MADE_OPTION_VALUE, value_4);
+}
+
+// Inserts the pair of a key and a value as `insert` does, if it can't be put at once.
+// intmap::map::IntMap::insert_otherwise, in crates/intmap/src/map/insert.rt
+static ALIGNED NOINLINE void intmap_insert_otherwise(char *result, char *map, uint64_t slot, uint64_t key_key, uint64_t key_number, uint64_t value) {
+    uint64_t has_failed, has_made_or_value_2, made_or_cause;
+    uint64_t made_option_room[3];
+    char *made_option = (char *)made_option_room;
+    uint64_t made_location_room[4];
+    char *made_location = (char *)made_location_room;
+    memset(made_location, 0, MADE_LOCATION_SIZE);
+    bool takes_one_more = intmap_takes_one_more(map);
+    memset(made_option, 0, MADE_OPTION_SIZE);
+    insertion_put(made_option, load_address(map + INT_MAP_SLOTS) + (slot * NODE_SIZE), map + INT_MAP_NODES, key_key, key_number, value, takes_one_more);
+    uint64_t has_made_or_value = load64(made_option + MADE_OPTION_HAS_MADE_OR_VALUE);
+    if (load8(made_option + MADE_OPTION_HAS_FAILED) == 0) {
+        if ((has_made_or_value & 255) == 1) {
+            has_failed = 0;
+            has_made_or_value_2 = 1;
+            made_or_cause = load64(made_option + MADE_OPTION_VALUE);
+        } else {
+            store64(map + INT_MAP_LEN, load64(map + INT_MAP_LEN) + 1);
+            has_failed = 0;
+            has_made_or_value_2 = 0;
+            made_or_cause = 0;
+        }
+    } else {
+        if (takes_one_more) {
+            store64(result + MADE_OPTION_2_HAS_FAILED, 1);
+            store64(result + MADE_OPTION_2_HAS_MADE_OR_VALUE, has_made_or_value);
+            store64(result + MADE_OPTION_2_MADE_OR_CAUSE, 0);
+            return;
+        }
+        intmap_add_growing(made_location, map, slot, key_key, key_number, has_made_or_value);
+        uint8_t has_failed_2 = load8(made_location + MADE_LOCATION_HAS_FAILED);
+        bool has_failed_is_0 = has_failed_2 == 0;
+        has_failed = (uint64_t)has_failed_2;
+        has_made_or_value_2 = has_failed_is_0 ? 0 : load64(made_location + MADE_LOCATION_KEY_OR_VALUE);
+        made_or_cause = has_failed_is_0 ? 0 : load64(made_location + MADE_LOCATION_SLOT_OR_CAUSE);
+    }
+    store64(result + MADE_OPTION_2_HAS_FAILED, has_failed);
+    store64(result + MADE_OPTION_2_HAS_MADE_OR_VALUE, has_made_or_value_2);
+    store64(result + MADE_OPTION_2_MADE_OR_CAUSE, made_or_cause);
 }
 
 // Makes the slots in which `pairs` pairs meet this load factor, and sets it.
@@ -3072,7 +3049,8 @@ static ALWAYS_INLINE uint32_t do_intmap_with_slots(char *handle, uint64_t slots)
 // intmap_add_or_insert, in crates/intmap_c/src/pairs.rt
 static ALWAYS_INLINE struct word_word do_intmap_add_or_insert(char *handle, uint64_t key, uint64_t more) {
     char *map;
-    uint64_t status, value_3, len;
+    uint64_t status, value_3;
+    bool takes_one_more;
     uint64_t made_usize_room[3];
     char *made_usize = (char *)made_usize_room;
     uint64_t made_location_room[4];
@@ -3146,41 +3124,39 @@ static ALWAYS_INLINE struct word_word do_intmap_add_or_insert(char *handle, uint
     }
 arm_2_2:;
     memset(made_location, 0, MADE_LOCATION_SIZE);
-    len = load64(map + INT_MAP_LEN);
-    if (len >= load64(map + INT_MAP_THRESHOLD)) {
-        if (!((len != UINT64_MAX) ? (((len + 1) & 4) == 0) : false)) {
-            intmap_add_growing(made_location, map, index, key, key, more);
-            if (load8(made_location + MADE_LOCATION_HAS_FAILED) == 0) {
-                status = 0;
+    takes_one_more = intmap_takes_one_more(map);
+    if (takes_one_more) {
+        memset(made_usize, 0, MADE_USIZE_SIZE);
+        if (has_pair == 0) {
+            uint64_t offset = (index >> 3) & UINT64_C(0x1FFFFFFFFFFFFFF8);
+            uint64_t bits = load64(load_address(map + INT_MAP_WORDS) + offset);
+            store16(node + NODE_HAS_PAIR, 1);
+            store16(node + NODE_HIGH, NOWHERE_HIGH);
+            store32(node + NODE_LOW, NOWHERE_LOW);
+            store64(node + NODE_KEY, key);
+            store64(node + NODE_VALUE, more);
+            store64(load_address(map + INT_MAP_WORDS) + offset, bits | ((uint64_t)1 << (index & 63)));
+        } else {
+            insertion_push_further(made_usize, node, map + INT_MAP_NODES, key, more);
+            if (load8(made_usize + MADE_USIZE_HAS_FAILED) != 0) {
+                status = NO_MEMORY;
                 value_3 = 0;
                 goto after_pairs_add_or_insert;
             }
+        }
+        store64(map + INT_MAP_LEN, load64(map + INT_MAP_LEN) + 1);
+        status = 0;
+        value_3 = 0;
+    } else {
+        intmap_add_growing(made_location, map, index, key, key, more);
+        if (load8(made_location + MADE_LOCATION_HAS_FAILED) == 0) {
+            status = 0;
+            value_3 = 0;
+        } else {
             status = (load8(made_location + MADE_LOCATION_SLOT_OR_CAUSE) == 0) ? NO_MEMORY : TOO_LARGE;
             value_3 = 0;
-            goto after_pairs_add_or_insert;
         }
     }
-    memset(made_usize, 0, MADE_USIZE_SIZE);
-    if (has_pair == 0) {
-        uint64_t offset = (index >> 3) & UINT64_C(0x1FFFFFFFFFFFFFF8);
-        uint64_t bits = load64(load_address(map + INT_MAP_WORDS) + offset);
-        store16(node + NODE_HAS_PAIR, 1);
-        store16(node + NODE_HIGH, NOWHERE_HIGH);
-        store32(node + NODE_LOW, NOWHERE_LOW);
-        store64(node + NODE_KEY, key);
-        store64(node + NODE_VALUE, more);
-        store64(load_address(map + INT_MAP_WORDS) + offset, bits | ((uint64_t)1 << (index & 63)));
-    } else {
-        insertion_push_further(made_usize, node, map + INT_MAP_NODES, key, more);
-        if (load8(made_usize + MADE_USIZE_HAS_FAILED) != 0) {
-            status = NO_MEMORY;
-            value_3 = 0;
-            goto after_pairs_add_or_insert;
-        }
-    }
-    store64(map + INT_MAP_LEN, load64(map + INT_MAP_LEN) + 1);
-    status = 0;
-    value_3 = 0;
 after_pairs_add_or_insert:;
     store64(handle, map_address_2);
     return made_word_word(value_3, status);
@@ -3191,7 +3167,7 @@ after_pairs_add_or_insert:;
 static ALWAYS_INLINE uint32_t do_intmap_find_or_insert(char *handle, uint64_t key, uint64_t value) {
     char *map;
     uint32_t status;
-    uint64_t len;
+    bool takes_one_more;
     uint64_t made_usize_room[3];
     char *made_usize = (char *)made_usize_room;
     uint64_t made_location_room[4];
@@ -3239,40 +3215,37 @@ static ALWAYS_INLINE uint32_t do_intmap_find_or_insert(char *handle, uint64_t ke
         }
     }
     memset(made_location, 0, MADE_LOCATION_SIZE);
-    len = load64(map + INT_MAP_LEN);
-    if (len >= load64(map + INT_MAP_THRESHOLD)) {
-        if (!((len != UINT64_MAX) ? (((len + 1) & 4) == 0) : false)) {
-            intmap_add_growing(made_location, map, index, key, key, value);
-            if (load8(made_location + MADE_LOCATION_HAS_FAILED) == 0) {
-                status = 0;
-                goto after_pairs_find_or_insert;
-            }
-            if (load8(made_location + MADE_LOCATION_SLOT_OR_CAUSE) == 0) {
+    takes_one_more = intmap_takes_one_more(map);
+    if (takes_one_more) {
+        memset(made_usize, 0, MADE_USIZE_SIZE);
+        if (has_pair == 0) {
+            uint64_t offset = (index >> 3) & UINT64_C(0x1FFFFFFFFFFFFFF8);
+            uint64_t bits = load64(load_address(map + INT_MAP_WORDS) + offset);
+            store16(node + NODE_HAS_PAIR, 1);
+            store16(node + NODE_HIGH, NOWHERE_HIGH);
+            store32(node + NODE_LOW, NOWHERE_LOW);
+            store64(node + NODE_KEY, key);
+            store64(node + NODE_VALUE, value);
+            store64(load_address(map + INT_MAP_WORDS) + offset, bits | ((uint64_t)1 << (index & 63)));
+        } else {
+            insertion_push_further(made_usize, node, map + INT_MAP_NODES, key, value);
+            if (load8(made_usize + MADE_USIZE_HAS_FAILED) != 0) {
                 goto x11;
             }
-            status = TOO_LARGE;
-            goto after_pairs_find_or_insert;
         }
+        store64(map + INT_MAP_LEN, load64(map + INT_MAP_LEN) + 1);
+        status = 0;
+        goto after_pairs_find_or_insert;
     }
-    memset(made_usize, 0, MADE_USIZE_SIZE);
-    if (has_pair == 0) {
-        uint64_t offset = (index >> 3) & UINT64_C(0x1FFFFFFFFFFFFFF8);
-        uint64_t bits = load64(load_address(map + INT_MAP_WORDS) + offset);
-        store16(node + NODE_HAS_PAIR, 1);
-        store16(node + NODE_HIGH, NOWHERE_HIGH);
-        store32(node + NODE_LOW, NOWHERE_LOW);
-        store64(node + NODE_KEY, key);
-        store64(node + NODE_VALUE, value);
-        store64(load_address(map + INT_MAP_WORDS) + offset, bits | ((uint64_t)1 << (index & 63)));
-    } else {
-        insertion_push_further(made_usize, node, map + INT_MAP_NODES, key, value);
-        if (load8(made_usize + MADE_USIZE_HAS_FAILED) != 0) {
-            goto x11;
-        }
+    intmap_add_growing(made_location, map, index, key, key, value);
+    if (load8(made_location + MADE_LOCATION_HAS_FAILED) == 0) {
+        status = 0;
+        goto after_pairs_find_or_insert;
     }
-    store64(map + INT_MAP_LEN, load64(map + INT_MAP_LEN) + 1);
-    status = 0;
-    goto after_pairs_find_or_insert;
+    if (load8(made_location + MADE_LOCATION_SLOT_OR_CAUSE) != 0) {
+        status = TOO_LARGE;
+        goto after_pairs_find_or_insert;
+    }
 x11:;
     status = NO_MEMORY;
 after_pairs_find_or_insert:;
@@ -3284,8 +3257,8 @@ after_pairs_find_or_insert:;
 // intmap_insert, in crates/intmap_c/src/pairs.rt
 static ALWAYS_INLINE struct word_word do_intmap_insert(char *handle, uint64_t key, uint64_t value) {
     char *map;
-    uint64_t len, offset, bits, r0, made_or_cause, made_or_cause_2, made_or_cause_3, joined;
-    bool r0_2, r0_3;
+    bool takes_one_more, r0_2, r0_3;
+    uint64_t offset, bits, r0, made_or_cause, made_or_cause_2, made_or_cause_3, joined;
     uint16_t high;
     uint64_t made_option_room[3];
     char *made_option = (char *)made_option_room;
@@ -3301,16 +3274,13 @@ static ALWAYS_INLINE struct word_word do_intmap_insert(char *handle, uint64_t ke
         map = (char *)(uintptr_t)map_address;
     }
     uint64_t map_address_2 = (uint64_t)(uintptr_t)map;
-    memset(made_option, 0, MADE_OPTION_SIZE);
     uint64_t index = load64(map + INT_MAP_MASK) & (key * MULTIPLIER);
     char *node = load_address(map + INT_MAP_SLOTS) + (index * NODE_SIZE);
     switch (load8(node + NODE_HAS_PAIR)) {
     case 0:
-        len = load64(map + INT_MAP_LEN);
-        if (len >= load64(map + INT_MAP_THRESHOLD)) {
-            if (!((len != UINT64_MAX) ? (((len + 1) & 4) == 0) : false)) {
-                goto after_IntMap_insert_2;
-            }
+        takes_one_more = intmap_takes_one_more(map);
+        if (!takes_one_more) {
+            goto after_IntMap_insert_2;
         }
         offset = (index >> 3) & UINT64_C(0x1FFFFFFFFFFFFFF8);
         bits = load64(load_address(map + INT_MAP_WORDS) + offset);
@@ -3349,13 +3319,13 @@ static ALWAYS_INLINE struct word_word do_intmap_insert(char *handle, uint64_t ke
     goto arm_1_2;
 after_IntMap_insert_2:;
     intmap_insert_otherwise(made_option, map, index, key, key, value);
-    made_or_cause_2 = load64(made_option + MADE_OPTION_MADE_OR_CAUSE);
-    if (load8(made_option + MADE_OPTION_HAS_FAILED) != 0) {
+    made_or_cause_2 = load64(made_option + MADE_OPTION_2_MADE_OR_CAUSE);
+    if (load8(made_option + MADE_OPTION_2_HAS_FAILED) != 0) {
         made_or_cause_3 = 0;
         joined = ((made_or_cause_2 & 255) == 0) ? NO_MEMORY : TOO_LARGE;
         goto after_pairs_insert;
     }
-    r0_3 = load8(made_option + MADE_OPTION_HAS_MADE_OR_VALUE) == 1;
+    r0_3 = load8(made_option + MADE_OPTION_2_HAS_MADE_OR_VALUE) == 1;
     made_or_cause = made_or_cause_2;
 arm_1_2:;
     made_or_cause_3 = r0_3 ? made_or_cause : 0;
