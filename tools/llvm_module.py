@@ -202,7 +202,7 @@ class Function:
             if value not in found:
                 found.add(value)
                 code = self.made_by.get(value, "")
-                parts = re.findall(rf"%{NAME}", code) if re.match("insertvalue|select|zext|freeze", code) else []
+                parts = re.findall(rf"%{NAME}", code) if re.match("insertvalue|extractvalue|select|zext|freeze", code) else []
                 left += [*cases.get(value, []), *parts]
         return found
 

@@ -111,7 +111,8 @@ class Origins:
         """The names and the types of the parts that a function returns in registers, as far as the sources tell."""
         signature = self.file(function.name) and SIGNATURE.match(self.texts[self.file(function.name)], self.found(function.name)[0])
         found = signature and signature[2] and self.registers("", with_types(signature[2], GIVEN)) or []
-        return found if len(found) == function.result.count(",") + 1 else []
+        parts = [(name.strip("_"), kind) for name, kind in found]
+        return parts if len(parts) == function.result.count(",") + 1 else []
 
     def registers(self, name, kind):
         """The parameters that one of the source becomes; None if its type is unknown."""

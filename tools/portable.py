@@ -10,7 +10,7 @@ from collections import defaultdict, namedtuple
 from crates import text_of
 from layout import parted_types
 from llvm_module import NAME, NUMBERED, TYPE, VALUE, bare, functions_of, groups_of, parted, result_type
-from places import CALL, MAP, NEXT, ROW, STORED, Places, title
+from places import CALL, MAP, NEXT, PART, ROW, STORED, Places, title
 from origins import WIDTH, Origins, path_of
 from scopes import Scopes
 
@@ -185,7 +185,7 @@ def unique(name, taken):
 
 
 def word_of(name):
-    """A name in C for a value or a block: without what inlining and splitting appended to it."""
+    """A name in C for a block: without what inlining and splitting appended to it."""
     if "::" in name:
         path = re.sub(r"::<.*", "", re.sub(r"(?:\.exit|\.loopexit).*", "", name)).split("::")
         return "after_" + re.sub(r"\W+", "_", "_".join([it for it in path if it][-2:])).strip("_")
@@ -336,6 +336,7 @@ class FunctionInC:
             name = called[1].strip('"') if called else None
             values = [it for _, it in places.functions[name].parameters] if name in places.functions else []
             known = [places.parameters[name].get(it, (None, ()))[0] for it in values] or HEAP.get(name, [])
+            known = [None, None, "size"] if called and name.startswith(tuple(MOVES)) else known
             for given, it in zip(parted(called[2]), known) if called else ():
                 found[given.split()[-1]].add(it if it != "self" else None)
         names = {bare(it): its - {None} for it, its in found.items() if it and it[0] == "%"}
@@ -359,6 +360,8 @@ class FunctionInC:
         if called:
             name = called[1].strip('"')
             return path_of(name)[-1] if "::" in name else HELPERS.get(name, ("", 0, None))[2]
+        if PART.match(code):
+            return self.part_name(*PART.match(code).groups())
         if is_none and self.base_name(bare(is_none[1]), seen):
             return f"{self.base_name(bare(is_none[1]), seen)}_is_{is_none[2]}"
         parts = []
@@ -367,13 +370,22 @@ class FunctionInC:
             parts += [other] if less and less[1] == other else []
         parts += [it for it in one_of.groups() if it] if one_of else self.cases.get(value, [])
         names = {self.base_name(bare(it), seen) for it in parts if it[0] == "%"} - {None, "dangling"}
+        names = {it.removeprefix("next_") for it in names} if len(names) > 1 else names
         return names.pop() if len(names) == 1 else None
+
+    def part_name(self, whole, at):
+        """What the sources call a part of what a function returns."""
+        called = CALL.match(self.function.made_by.get(bare(whole), ""))
+        function = self.printer.places.functions.get(called[1].strip('"')) if called else None
+        parts = self.printer.origins.returned(function) if function else []
+        return parts[int(at)][0] or None if parts else None
 
     def plain_name(self, value):
         """A name for what has none: the number that the module gave it, or what the optimiser did to make it."""
-        number = re.match(r"[ra]\d+(?=\.)", value)
-        word = "chosen" if self.function.made_by.get(value, "").startswith("select ") else "joined" if value in self.cases else "x"
-        return number[0] if number else word_of(value) if re.fullmatch(r"[ra]?\d+", value) else word
+        number = re.match(r"([ra]\d+)(?:\.|$)|(\d+)$", value)
+        if number:
+            return number[1] or f"x{number[2]}"
+        return "chosen" if self.function.made_by.get(value, "").startswith("select ") else "joined" if value in self.cases else "x"
 
     def number_name(self, value, seen):
         """What a value is called by what is done with it: with a number that chooses one of many, or with a block."""
@@ -393,6 +405,8 @@ class FunctionInC:
             return "address"
         if value in self.returned and any(self.status(it) for it in self.cases.get(value, ())):
             return "status"
+        if value in self.returned and self.types.get(value, "")[:1] == "{":
+            return "returned"
         return "place" if self.is_place(value) else None
 
     def status(self, text):

@@ -963,9 +963,9 @@ static ALIGNED NOINLINE struct byte_word removal_remove_of_several(char *slot, u
 
 // core::ptr::copy_drop::copy_bits, in Rattle's library core
 static ALWAYS_INLINE void copy_drop_copy_bits(char *a0, char *a1, uint64_t a2) {
-    uint64_t r7 = a2 << 3;
-    if ((((uint64_t)(uintptr_t)a1) - ((uint64_t)(uintptr_t)a0)) >= r7) {
-        memmove(a1, a0, r7);
+    uint64_t size = a2 << 3;
+    if ((((uint64_t)(uintptr_t)a1) - ((uint64_t)(uintptr_t)a0)) >= size) {
+        memmove(a1, a0, size);
         return;
     }
     if (a2 == 0) {
@@ -2429,10 +2429,10 @@ static ALWAYS_INLINE uint64_t do_intmap_load_factor(char *word) {
 // The value of the key.
 // intmap_get, in crates/intmap_c/src/read.rt
 static ALWAYS_INLINE struct word_word do_intmap_get(char *word, uint64_t key) {
-    struct word_half r18;
+    struct word_half returned;
     char *map = load_address(word);
     if (map == NULL) {
-        r18 = empty_word_half();
+        returned = empty_word_half();
     } else {
         uint64_t value;
         struct byte_address get_counted = intmap_get_counted(map, key);
@@ -2441,11 +2441,11 @@ static ALWAYS_INLINE struct word_word do_intmap_get(char *word, uint64_t key) {
         } else {
             value = 0;
         }
-        uint32_t x = (uint32_t)get_counted.first;
-        r18 = made_word_half(value, x);
+        uint32_t has = (uint32_t)get_counted.first;
+        returned = made_word_half(value, has);
     }
-    uint64_t _status = (uint64_t)r18.second;
-    return made_word_word(r18.first, _status);
+    uint64_t status = (uint64_t)returned.second;
+    return made_word_word(returned.first, status);
 }
 
 // The first pair of the walk from the cursor on, behind which the cursor moves.
@@ -2460,7 +2460,7 @@ static ALWAYS_INLINE char *do_intmap_step(char *result, char *word, char *at) {
         status = 0;
     } else {
         char *node_3, *node_4, *node_7;
-        uint64_t sum, word_2, words_len, r1, bits, word_3, lowest, at_4;
+        uint64_t sum, word_2, words_len, word_3, bits, word_4, lowest, at_4;
         uint64_t slot = load64(at + CURSOR_SLOT);
         uint64_t place = load64(at + CURSOR_PLACE);
         if (slot <= load64(map + INT_MAP_MASK)) {
@@ -2504,14 +2504,14 @@ static ALWAYS_INLINE char *do_intmap_step(char *result, char *word, char *at) {
         if (words_len > word_2) {
             uint64_t r33 = load64(load_address(map + INT_MAP_WORDS) + (word_2 << 3)) & (UINT64_MAX << (sum & 63));
             if (r33 != 0) {
-                r1 = word_2;
+                word_3 = word_2;
                 bits = r33;
                 goto join_3_thread;
             }
         }
-        word_3 = word_2;
+        word_4 = word_2;
         for (;;) {
-            uint64_t next_word = word_3 + 1;
+            uint64_t next_word = word_4 + 1;
             if (words_len <= next_word) {
                 key = 0;
                 value = 0;
@@ -2520,15 +2520,15 @@ static ALWAYS_INLINE char *do_intmap_step(char *result, char *word, char *at) {
             }
             uint64_t bits_2 = load64(load_address(map + INT_MAP_WORDS) + (next_word << 3));
             if (bits_2 != 0) {
-                r1 = next_word;
+                word_3 = next_word;
                 bits = bits_2;
                 break;
             }
-            word_3 = next_word;
+            word_4 = next_word;
         }
     join_3_thread:;
         lowest = place_of_lowest_1(bits);
-        at_4 = lowest | (r1 << 6);
+        at_4 = lowest | (word_3 << 6);
         store64(at + CURSOR_SLOT, at_4);
         store64(at + CURSOR_PLACE, 1);
         node_7 = load_address(map + INT_MAP_SLOTS) + (at_4 * NODE_SIZE);
@@ -2555,26 +2555,26 @@ after_read_intmap_step:;
 // Adds to the value of a present key, modulo 2^64, and returns the value before.
 // intmap_add_present, in crates/intmap_c/src/pairs.rt
 static ALWAYS_INLINE struct word_word do_intmap_add_present(char *handle, uint64_t key, uint64_t more) {
-    struct word_half r23;
+    struct word_half returned;
     uint64_t map_address = load64(handle);
     store64(handle, 0);
     if (map_address == 0) {
-        r23 = empty_word_half();
+        returned = empty_word_half();
     } else {
-        struct word_half r29;
+        struct word_half returned_2;
         struct byte_address get_mut = intmap_get_mut((char *)(uintptr_t)map_address, key);
         if (get_mut.first == 1) {
             uint64_t value = load64(get_mut.second);
             store64(get_mut.second, value + more);
-            r29 = made_word_half(value, 1);
+            returned_2 = made_word_half(value, 1);
         } else {
-            r29 = empty_word_half();
+            returned_2 = empty_word_half();
         }
         store64(handle, map_address);
-        r23 = r29;
+        returned = returned_2;
     }
-    uint64_t _status = (uint64_t)r23.second;
-    return made_word_word(r23.first, _status);
+    uint64_t status = (uint64_t)returned.second;
+    return made_word_word(returned.first, status);
 }
 
 // Removes all pairs.
@@ -2681,7 +2681,7 @@ static ALWAYS_INLINE char *do_intmap_cut(char *result, char *handle, char *at) {
         value = 0;
         status = 0;
     } else {
-        uint64_t link_2, r307091, slot_2, sum, word, words_len, r1, bits, word_2, x12, x13, lowest, at_5, slot_3;
+        uint64_t link_2, r307091, slot_2, sum, word, words_len, word_2, bits, word_3, x12, x13, lowest, at_5, slot_3;
         uint16_t high_2, high_4;
         char *node_2, *pool, *node_6, *node_7, *word_at;
         struct word_word release_2, r25, r25_2, pop_front_of_several;
@@ -2757,14 +2757,14 @@ static ALWAYS_INLINE char *do_intmap_cut(char *result, char *handle, char *at) {
         if (words_len > word) {
             uint64_t r33 = load64(load_address(map + INT_MAP_WORDS) + (word << 3)) & (UINT64_MAX << (sum & 63));
             if (r33 != 0) {
-                r1 = word;
+                word_2 = word;
                 bits = r33;
                 goto join_3_4;
             }
         }
-        word_2 = word;
+        word_3 = word;
         for (;;) {
-            uint64_t next_word = word_2 + 1;
+            uint64_t next_word = word_3 + 1;
             if (words_len <= next_word) {
                 x12 = 0;
                 r8 = 0;
@@ -2773,15 +2773,15 @@ static ALWAYS_INLINE char *do_intmap_cut(char *result, char *handle, char *at) {
             }
             uint64_t bits_2 = load64(load_address(map + INT_MAP_WORDS) + (next_word << 3));
             if (bits_2 != 0) {
-                r1 = next_word;
+                word_2 = next_word;
                 bits = bits_2;
                 break;
             }
-            word_2 = next_word;
+            word_3 = next_word;
         }
     join_3_4:;
         lowest = place_of_lowest_1(bits);
-        at_5 = lowest | (r1 << 6);
+        at_5 = lowest | (word_2 << 6);
         store64(at + CURSOR_SLOT, at_5);
         store64(at + CURSOR_PLACE, 0);
         node_7 = load_address(map + INT_MAP_SLOTS) + (at_5 * NODE_SIZE);
@@ -2867,14 +2867,14 @@ static ALWAYS_INLINE void do_intmap_free(char *handle) {
 // Removes the pair of the key, and returns its value.
 // intmap_remove, in crates/intmap_c/src/pairs.rt
 static ALWAYS_INLINE struct word_word do_intmap_remove(char *handle, uint64_t key) {
-    struct word_half r23;
+    struct word_half returned;
     uint64_t map_address = load64(handle);
     store64(handle, 0);
     char *map = (char *)(uintptr_t)map_address;
     if (map_address == 0) {
-        r23 = empty_word_half();
+        returned = empty_word_half();
     } else {
-        uint32_t joined;
+        uint32_t status;
         uint64_t value_3;
         uint64_t index = load64(map + INT_MAP_MASK) & (key * MULTIPLIER);
         char *node = load_address(map + INT_MAP_SLOTS) + (index * NODE_SIZE);
@@ -2883,7 +2883,7 @@ static ALWAYS_INLINE struct word_word do_intmap_remove(char *handle, uint64_t ke
             uint16_t high = load16(node + NODE_HIGH);
             if (high == NOWHERE_HIGH) {
                 if (load64(node + NODE_KEY) != key) {
-                    joined = 0;
+                    status = 0;
                     value_3 = 0;
                     goto after_pairs_remove;
                 }
@@ -2896,50 +2896,50 @@ static ALWAYS_INLINE struct word_word do_intmap_remove(char *handle, uint64_t ke
             } else {
                 struct byte_word remove_of_several = removal_remove_of_several(node, link_of(high, load32(node + NODE_LOW)), map + INT_MAP_NODES, key);
                 if (remove_of_several.first != 1) {
-                    joined = 0;
+                    status = 0;
                     value_3 = 0;
                     goto after_pairs_remove;
                 }
                 value_2 = remove_of_several.second;
             }
             store64(map + INT_MAP_LEN, load64(map + INT_MAP_LEN) - 1);
-            joined = 1;
+            status = 1;
             value_3 = value_2;
         } else {
-            joined = 0;
+            status = 0;
             value_3 = 0;
         }
     after_pairs_remove:;
         store64(handle, map_address);
-        r23 = made_word_half(value_3, joined);
+        returned = made_word_half(value_3, status);
     }
-    uint64_t _status = (uint64_t)r23.second;
-    return made_word_word(r23.first, _status);
+    uint64_t status_2 = (uint64_t)returned.second;
+    return made_word_word(returned.first, status_2);
 }
 
 // Replaces the value of a present key, whose pair keeps its place, and returns the value before.
 // intmap_replace, in crates/intmap_c/src/pairs.rt
 static ALWAYS_INLINE struct word_word do_intmap_replace(char *handle, uint64_t key, uint64_t value) {
-    struct word_half r23;
+    struct word_half returned;
     uint64_t map_address = load64(handle);
     store64(handle, 0);
     if (map_address == 0) {
-        r23 = empty_word_half();
+        returned = empty_word_half();
     } else {
-        struct word_half r26;
+        struct word_half returned_2;
         struct byte_address get_mut = intmap_get_mut((char *)(uintptr_t)map_address, key);
         if (get_mut.first == 1) {
             uint64_t value_2 = load64(get_mut.second);
             store64(get_mut.second, value);
-            r26 = made_word_half(value_2, 1);
+            returned_2 = made_word_half(value_2, 1);
         } else {
-            r26 = empty_word_half();
+            returned_2 = empty_word_half();
         }
         store64(handle, map_address);
-        r23 = r26;
+        returned = returned_2;
     }
-    uint64_t _status = (uint64_t)r23.second;
-    return made_word_word(r23.first, _status);
+    uint64_t status = (uint64_t)returned.second;
+    return made_word_word(returned.first, status);
 }
 
 // Makes a map in `to` with the same pairs in the same order, as many slots and the same load factor, and returns
