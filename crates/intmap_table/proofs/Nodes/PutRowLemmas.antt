@@ -1,6 +1,6 @@
 -- A key that is put into the row of a slot.
 use Rattle.std.proofs.Common.{◌≡◌, ℕ, ◌<◌, Bool, true, false, List, [], ◌∷◌, ◌++◌, length, get_or, set, take, Some, None, refl, sym, ap, ◌∙◌, subst, arith}
-use Rattle.std.specs.Prelude.{cond, All, position, swap_remove}
+use Rattle.std.specs.Prelude.{cond, is_none, All, position, swap_remove}
 use Rattle.std.proofs.lemmas.List.{length-append, length-map, set-get_or}
 use Rattle.std.proofs.lemmas.List.Elements.{All-nil, All-cons, All-head, All-tail}
 use Rattle.intmap_table.specs.Bindings.{swap_out, value_of}
@@ -20,12 +20,20 @@ module _ {P : Type 0} where
   Slot-fill a (Held l q) t p none is = absurd (let some = ap length none in omega (arith, some))
 
 module _ {K X : Type 0} where
+  slots_same : (slots : List (Node (K × X))) (i : ℕ) (s t : Node (K × X)) → s ≡ get_or slots i s → t ≡ s → set slots i t ≡ slots
+  slots_same slots i s t read slot = ap (set slots i) (slot ∙ read) ∙ set-get_or slots i s
+
   -- with the slot and the nodes that were there, the slots are seen as they were
   pub Contents-same : (slots : List (Node (K × X))) (a : Pool (K × X)) (i : ℕ) (s t : Node (K × X)) (b : Pool (K × X)) → s ≡ get_or slots i s → t ≡ s → b ≡ a
       → ◌≡◌ {A = Contents K X} (record { rows = rows_in (set slots i t) b.nodes; total = b.total }) (record { rows = rows_in slots a.nodes; total = a.total })
   Contents-same slots a i s t b read slot pool =
-      let same : set slots i t ≡ slots = ap (set slots i) (slot ∙ read) ∙ set-get_or slots i s in
+      let same = slots_same slots i s t read slot in
       λ j. record { rows = rows_in (same j) (pool j).nodes; total = (pool j).total }
+
+  -- and have rows still
+  pub Rows-same : (number : K → ℕ) (slots : List (Node (K × X))) (a : Pool (K × X)) (marks : List Bool) (mask : ℕ) (i : ℕ) (s t : Node (K × X)) (b : Pool (K × X)) → s ≡ get_or slots i s → t ≡ s → b ≡ a
+      → AreRows number slots a marks mask → AreRows number (set slots i t) b marks mask
+  Rows-same number slots a marks mask i s t b read slot pool are = rw (slots_same slots i s t read slot, pool) are
 
 module _ {P : Type 0} (home : P → ℕ) (i : ℕ) where
   all_home : (ps : List P) → AreHome home i ps → All (λ p. home p ≡ i) ps
@@ -59,6 +67,10 @@ module _ {K X : Type 0} (number : K → ℕ) where
     put-behind : (v : X) → p ∷ put_last number (chain_of a.nodes l) k v ≡ put_last number (row_in a.nodes s) k v
     put-behind v = rw is (simp fails refl)
 
+    -- the key is present if a pair behind it has the key
+    pub Value-present : (i : ℕ) → position (λ q. same_key number k q.0) (chain_of a.nodes l) ≡ Some i → is_none (value_of number (row_in a.nodes s) k) ≡ false
+    Value-present i at = ap is_none (value-behind ∙ first_value-position (same_key number k) (chain_of a.nodes l) i p at)
+
     -- a pair behind it has the key
     module _ (i : ℕ) (x : K × X) (at : position (λ q. same_key number k q.0) (chain_of a.nodes l) ≡ Some i) (here : x ≡ get_or (chain_of a.nodes l) i x) where
       pub Value-found : value_of number (row_in a.nodes s) k ≡ Some x.1
@@ -75,9 +87,10 @@ module _ {K X : Type 0} (number : K → ℕ) where
       pub Value-missing : value_of number (row_in a.nodes s) k ≡ None
       Value-missing = value-behind ∙ first_value-none (same_key number k) (chain_of a.nodes l) none
 
-      pub Put-missing : (v : X) → row_in a.nodes s ++ (k, v) ∷ [] ≡ put_last number (row_in a.nodes s) k v
-      Put-missing v =
-          ap (λ t. row_in a.nodes t ++ (k, v) ∷ []) is ∙ ap (λ ps. p ∷ (ps ++ (k, v) ∷ [])) (sym (swap_out-none (λ q. same_key number k q.0) (λ _. true) (chain_of a.nodes l) none)) ∙ put-behind v
+      pub Put-missing : (v : X) (b : Pool (K × X)) (t : Node (K × X)) → IsSlotSet a s (row_in a.nodes s ++ (k, v) ∷ []) b t → IsSlotSet a s (put_last number (row_in a.nodes s) k v) b t
+      Put-missing v b t h =
+          subst (λ ps. IsSlotSet a s ps b t)
+          (ap (λ u. row_in a.nodes u ++ (k, v) ∷ []) is ∙ ap (λ ps. p ∷ (ps ++ (k, v) ∷ [])) (sym (swap_out-none (λ q. same_key number k q.0) (λ _. true) (chain_of a.nodes l) none)) ∙ put-behind v) h
 
   -- the slots with the row of a slot that a key was put into
   pub Row-put : (slots : List (Node (K × X))) (a : Pool (K × X)) (marks : List Bool) (mask : ℕ) (i : ℕ) (s : Node (K × X)) (k : K) (v : X) (b : Pool (K × X)) (t : Node (K × X))

@@ -156,3 +156,7 @@ module _ {K X : Type 0} (number : K → ℕ) (R : List (List (K × X))) (i : ℕ
   -- the table with another row of the slot
   pub IsTable-set : (ps : List (K × X)) → Belong ps → IsTable number (set R i ps)
   IsTable-set ps all = IsTable-set_at number R at.table i ps within all
+
+  -- and with the row changed as an insertion changes it
+  pub IsTable-put : (v : X) → IsTable number (set R i (row_without ++ (k, v) ∷ []))
+  IsTable-put v = IsTable-set (row_without ++ (k, v) ∷ []) (Belong-push row_without v Belong-taken)

@@ -1,6 +1,6 @@
 //! A pair is put into the slot of its key. What lies at the first place is looked at before the
 //! rest.
-ghost use Rattle.std.specs.Prelude.{◌≡◌, ◌+◌, ◌<◌, ◌≤◌, true, [], length, MatchBool, IfOk, IfErr, IsOk, OnErr, OnOk, None, Some};
+ghost use Rattle.std.specs.Prelude.{◌≡◌, ◌+◌, ◌<◌, ◌≤◌, true, false, [], is_none, length, MatchBool, IfOk, IfErr, IsOk, OnErr, OnOk, None, Some};
 ghost use Rattle.intmap_table.specs.Bindings.{value_of, put_pair};
 ghost use Rattle.intmap_table.specs.Classes.{slot_number};
 ghost use Rattle.intmap_table.specs.Firsts.{first_of, reach_behind, IsFirst};
@@ -121,5 +121,49 @@ impl<K: IntKey, X, A: Allocator> Table<K, X, A> {
     {
         let old = self.slots.put(slot, key, value, adds, steps)?;
         Ok(old)
+    }
+
+    /// Puts the pair of a key and a value last in its slot, whose first pair, if there is one, has
+    /// another key. If the key is present, nothing changes, and the value is dropped. An absent key
+    /// is added only if `adds` is true. It returns whether the key was added. If it is absent and
+    /// isn't added, or if an allocation fails, the value is returned and nothing changes. It
+    /// compares keys from the second pair on, up to the one sought.
+    #[inline(always)]
+    pub fn add_checked(
+        &mut self,
+        slot: usize,
+        key: Sought<K>,
+        value: X,
+        adds: bool,
+        steps: &mut Steps,
+    ) -> Result<bool, X>
+    where
+        X: Drop,
+        requires slot { slot ≡ slot_number K.number_of key self.old.capacity }
+        requires some { adds ≡ true
+            → 0 < length (slot_of K.number_of self.old.walk self.old.capacity slot) }
+        requires other { value_of K.number_of
+            (first_of K.number_of self.old.walk self.old.capacity slot) key ≡ None }
+        ensures new { IfOk result
+            (λ new. new ≡ is_none (value_of K.number_of self.old.walk key)) }
+        ensures walk { IfOk result (λ new. new ≡ true → self.new.walk ≡ walk_of K.number_of
+            (put_pair K.number_of self.old.walk self.old.capacity key value) self.old.capacity) }
+        ensures present { IfOk result (λ new. new ≡ false → self.new ≡ self.old) }
+        ensures nodes { self.old.nodes ≤ self.new.nodes }
+        ensures capacity { self.new.capacity ≡ self.old.capacity }
+        ensures known { IfOk result (λ new. new ≡ true → K.is_valid key) }
+        ensures adds { IfOk result (λ new. new ≡ true → adds ≡ true) }
+        ensures missing { OnErr result (value_of K.number_of self.old.walk key ≡ None) }
+        ensures err { OnErr result (self.new ≡ self.old) }
+        ensures value_returned { IfErr result (λ returned. returned ≡ value) }
+        ensures memory { OnErr result
+            (adds ≡ true → 0 < class_size K.number_of self.old.walk self.old.capacity key) }
+        ensures succeeds { adds ≡ true → length self.old.walk
+            < load_of K.number_of self.old.walk self.old.capacity + self.old.nodes → IsOk result }
+        ensures counted { steps.new ≡ steps.old
+            + reach_behind K.number_of self.old.walk self.old.capacity slot key }
+    {
+        let new = self.slots.add_checked(slot, key, value, adds, steps)?;
+        Ok(new)
     }
 }

@@ -1,5 +1,5 @@
 //! Single pairs are put into a slot, replaced and removed.
-ghost use Rattle.std.specs.Prelude.{◌≡◌, ◌+◌, ◌<◌, ◌≤◌, ℕ, [], ◌∷◌, ◌++◌, List, drop, length, position, set, swap_remove, take, slice_index_or, slice_set, cond, false, true, None, Some, MatchBool, IfOk, IfErr, IfNone, IfSome, IsOk, OnErr, OnOk};
+ghost use Rattle.std.specs.Prelude.{◌≡◌, ◌+◌, ◌<◌, ◌≤◌, ℕ, [], ◌∷◌, ◌++◌, List, drop, is_none, length, position, set, swap_remove, take, slice_index_or, slice_set, cond, false, true, None, Some, MatchBool, IfOk, IfErr, IfNone, IfSome, IsOk, OnErr, OnOk};
 ghost use Rattle.intmap_table.specs.Bindings.{swap_out, value_of};
 ghost use Rattle.intmap_table.specs.Classes.{same_key, slot_number};
 ghost use Rattle.intmap_table.specs.Reach.{through_first};
@@ -242,6 +242,45 @@ impl<K: IntKey, X, A: Allocator> Slots<K, X, A> {
         let slot = &mut self.slots[index];
         let old = insertion::put(slot, &mut self.pool, key, value, adds, steps)?;
         Ok(old)
+    }
+
+    /// Puts the pair of a key and a value last in a slot whose first pair, if there is one, has
+    /// another key. If the key is present, nothing changes, and the value is dropped. An absent key
+    /// is added only if `adds` is true. It returns whether the key was added. If it is absent and
+    /// isn't added, or if an allocation fails, the value is returned.
+    #[inline(always)]
+    pub(crate) fn add_checked(
+        &mut self,
+        index: usize,
+        key: Sought<K>,
+        value: X,
+        adds: bool,
+        steps: &mut Steps,
+    ) -> Result<bool, X>
+    where
+        X: Drop,
+        requires within { index < length self.old.rows }
+        requires some { adds ≡ true → 0 < length (row_at self.old index) }
+        requires own { slot_number K.number_of key (length self.old.rows) ≡ index }
+        requires other { value_of K.number_of (take 1 (row_at self.old index)) key ≡ None }
+        ensures new { IfOk result
+            (λ new. new ≡ is_none (value_of K.number_of (row_at self.old index) key)) }
+        ensures rows { IfOk result (λ new. new ≡ true → self.new.rows ≡ set self.old.rows index
+            (put_last K.number_of (row_at self.old index) key value)) }
+        ensures present { IfOk result (λ new. new ≡ false → self.new ≡ self.old) }
+        ensures known { IfOk result (λ new. new ≡ true → K.is_valid key) }
+        ensures adds { IfOk result (λ new. new ≡ true → adds ≡ true) }
+        ensures missing { OnErr result (value_of K.number_of (row_at self.old index) key ≡ None) }
+        ensures err { OnErr result (self.new ≡ self.old) }
+        ensures value_returned { IfErr result (λ returned. returned ≡ value) }
+        ensures total { self.old.total ≤ self.new.total }
+        ensures succeeds { adds ≡ true → further self.old.rows < self.old.total → IsOk result }
+        ensures counted { steps.new ≡ steps.old + length (through_first
+            (λ p. same_key K.number_of key p.0) (drop 1 (row_at self.old index))) }
+    {
+        let slot = &mut self.slots[index];
+        let new = insertion::add_checked(slot, &mut self.pool, key, value, adds, steps)?;
+        Ok(new)
     }
 
     /// Removes the first pair of a slot. The others move up by one place.

@@ -2,7 +2,7 @@ use Rattle.std.proofs.Common.{◌∙◌, sym, ap, arith}
 use Rattle.std.proofs.lemmas.Bool.{false≢true}
 use Rattle.intmap_table.specs.Tables.Slots.{joined}
 use Rattle.intmap_table.proofs.Tables.MemoryLemmas.{OnErr-always}
-use Rattle.intmap_table.proofs.Tables.TableLemmas.{IsSlot, further-joined, slot_of-joined, class_size-here, value_of-here, walk-put, Belong-taken, Belong-push, IsTable-set}
+use Rattle.intmap_table.proofs.Tables.TableLemmas.{IsSlot, further-joined, slot_of-joined, class_size-here, value_of-here, walk-put, IsTable-put}
 use Rattle.intmap_table.proofs.table.Table.put.Goals as goal
 
 pub put-requires-clause-some : goal.put-requires-clause-some
@@ -33,7 +33,7 @@ returns-in_err-old-clause-counted g c = rw (← c.self.view_is) (rw (slot_of-joi
 pub invariant_of-self-2 : goal.invariant_of-self-2
 invariant_of-self-2 g c =
     let R = c.self.inside.slots.rows in let i = c.args.slot in let k = c.args.key in let at : IsSlot g.K.IntKey.number_of R i k = record { table = c.self.invariant; slot = rw (← c.self.view_is) at c.requires.slot } in
-    rw c.in_ok-old.ensures.rows (IsTable-set g.K.IntKey.number_of R i k at _ (Belong-push g.K.IntKey.number_of R i k at _ c.args.value (Belong-taken g.K.IntKey.number_of R i k at)))
+    rw c.in_ok-old.ensures.rows (IsTable-put g.K.IntKey.number_of R i k at c.args.value)
 
 pub returns-clause-value : goal.returns-clause-value
 returns-clause-value g c =

@@ -3,7 +3,7 @@ use Rattle.intmap_table.specs.Locations.{IsAt}
 use Rattle.intmap_table.specs.Tables.Slots.{joined}
 use Rattle.intmap_table.specs.declared.table.locate.Location.{Location}
 use Rattle.intmap_table.proofs.Tables.LocationLemmas.{slot-at, place-within, value_of-pair, swap_out-at}
-use Rattle.intmap_table.proofs.Tables.TableLemmas.{IsSlot, row_without, walk-put, Belong-taken, Belong-push, IsTable-set}
+use Rattle.intmap_table.proofs.Tables.TableLemmas.{IsSlot, row_without, walk-put, IsTable-put}
 use Rattle.intmap_table.proofs.table.Table.replace_first.Goals as goal
 use Rattle.intmap_table.proofs.table.Table.replace_first.Goals.{After-replace_first-old}
 
@@ -30,7 +30,7 @@ replace_first-old-requires-clause-some g c =
 pub invariant_of-self : goal.invariant_of-self
 invariant_of-self g c =
     let after = (goal.at.invariant_of-self g c).After-replace_first-old in
-    rw (put g after) (IsTable-set _ _ _ _ (slot g after) _ (Belong-push _ _ _ _ (slot g after) _ c.args.value (Belong-taken _ _ _ _ (slot g after))))
+    rw (put g after) (IsTable-put _ _ _ _ (slot g after) c.args.value)
 
 pub returns-clause-value : goal.returns-clause-value
 returns-clause-value g c =

@@ -5,7 +5,7 @@ use Rattle.intmap_table.specs.Classes.{slot_number}
 use Rattle.intmap_table.specs.Locations.{IsAt}
 use Rattle.intmap_table.specs.Tables.Slots.{joined}
 use Rattle.intmap_table.proofs.Tables.LocationLemmas.{slot-at, place-within, value_of-pair, swap_out-at}
-use Rattle.intmap_table.proofs.Tables.TableLemmas.{IsSlot, row_without, within, walk-taken, walk-put, Belong-taken, Belong-push, IsTable-set}
+use Rattle.intmap_table.proofs.Tables.TableLemmas.{IsSlot, row_without, within, walk-taken, walk-put, Belong-taken, IsTable-set, IsTable-put}
 use Rattle.intmap_table.proofs.table.locate.Table+K+Kept+V+A.hand_over.Goals as goal
 use Rattle.intmap_table.proofs.table.locate.Table+K+Kept+V+A.hand_over.Goals.{After-take_at-kept, After-put_back}
 
@@ -65,7 +65,7 @@ pub invariant_of-self-in-Err : goal.invariant_of-self-in-Err
 invariant_of-self-in-Err g c =
     let after = (goal.at.invariant_of-self-in-Err g c).After-take_at-kept in
     rw (put g (goal.at.invariant_of-self-in-Err g c).After-put_back (slot g after) (taken g after))
-    (IsTable-set _ _ _ _ (slot g after) _ (Belong-push _ _ _ _ (slot g after) _ c.in-Err.back (Belong-taken _ _ _ _ (slot g after))))
+    (IsTable-put _ _ _ _ (slot g after) c.in-Err.back)
 
 pub returns-in-Err-clause-handed : goal.returns-in-Err-clause-handed
 returns-in-Err-clause-handed g c =
