@@ -12,11 +12,13 @@ use Rattle.intmap_table.proofs.PositionLemmas.{position-within}
 use Rattle.intmap_table.proofs.WalkLemmas.{class_size-slot_of, reach-slot_of}
 use Rattle.intmap.specs.Consistency.{IsConsistent}
 use Rattle.intmap.specs.Growth.{IsNext, IsThreshold, MeetsLoad, is_due}
-use Rattle.intmap.specs.Map.{MapState, NeedsNoMemory, after_search}
+use Rattle.intmap.specs.Insertions.{IsInsertion}
+use Rattle.intmap.specs.Map.{MapState, IsMap, NeedsNoMemory, after_search}
 use Rattle.intmap.specs.PlainLists.{RefusalIsDue, list_of}
 use Rattle.intmap.specs.Spots.{TakesOneMore, TakesFirst, after_first, after_rest}
 use Rattle.intmap.specs.declared.refusal.Cause.{Cause}
 use Rattle.intmap.proofs.LoadFactorLemmas.{IsNext-if_met}
+use Rattle.intmap.proofs.InsertionLemmas.{IsInsertion-added}
 use Rattle.intmap.proofs.MapLemmas.{IsConsistent-added}
 
 -- if the next capacity is this one, the greater length is not due, or not above the threshold
@@ -60,6 +62,12 @@ module _ {K V : Type 0} (number : K → ℕ) (is_valid : K → Type 0) (W W' : L
       let few : n + 1 < 2 ^ 64 = (let c = takes.count in let e = old.count in omega (arith, c, e)) in
       let next : IsNext C (n + 1) F C = subst (λ m. IsNext C (m + 1) F C) (sym old.count) takes.stays in
       IsConsistent-added number is_valid W W' C F n most R N old R' N' memory C' k x same key missing few (test-from_next C F (n + 1) most few old.threshold next) is
+
+module _ {K V : Type 0} (number : K → ℕ) (is_valid : K → Type 0) (m n : MapState K V) (k : K) (v : V) where
+  -- which is an insertion
+  pub IsInsertion-one_more : n.capacity ≡ m.capacity → value_of number m.walk k ≡ None → TakesOneMore m.walk m.capacity m.factor → IsMap number is_valid m → IsMap number is_valid n
+      → n.walk ≡ walk_of number (put_pair number m.walk m.capacity k v) m.capacity → IsInsertion number is_valid m k v n
+  IsInsertion-one_more same missing takes old new walk = IsInsertion-added number is_valid m n k v missing old new (rw same walk) takes.count (rw same takes.stays)
 
 -- one pair more is due for a check, and exceeds the load
 pub record Exceeds (C F n : ℕ) : Type 0 where
@@ -125,10 +133,10 @@ module _ {K V : Type 0} (number : K → ℕ) where
     after_first-first is = counted _ _ (ap (λ n. m.compared + n) (sym (reached ∙ first_reached k (slot_of number m.walk m.capacity i) is.place)))
 
     -- and if not, those behind it are
-    pub after_rest-first : value_of number (first_of number m.walk m.capacity i) k ≡ None → after_rest number (after_first number m i) i k ≡ after_search number m k
-    after_rest-first other =
+    pub after_rest-first : (n : MapState K V) → n ≡ after_first number m i → value_of number (first_of number m.walk m.capacity i) k ≡ None → after_rest number n i k ≡ after_search number m k
+    after_rest-first n is other =
         let sum = rest_reached k (slot_of number m.walk m.capacity i) other in
-        counted _ _ (omega (arith, sum, reached))
+        ap (λ n. after_rest number n i k) is ∙ counted _ _ (omega (arith, sum, reached))
 
   -- an insertion that fails in a map with another count may fail in the map
   pub RefusalIsDue-counted : (m : MapState K V) (c : ℕ) (k : K) (cause : Cause) → RefusalIsDue number (list_of (record m { compared = c })) k cause → RefusalIsDue number (list_of m) k cause

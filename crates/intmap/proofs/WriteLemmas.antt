@@ -1,7 +1,7 @@
 -- What a write of a value leaves of a map: its walk stays that of a map, and each other key keeps its value.
 use Rattle.std.proofs.Common.{◌≡◌, ℕ, Bool, true, false, cond, List, [], ◌∷◌, length, Option, Some, None, IsSome, refl, sym, arith}
 use Rattle.std.specs.Map.{keys_of}
-use Rattle.std.specs.Prelude.{option_map}
+use Rattle.std.specs.Prelude.{is_none, option_map}
 use Rattle.std.proofs.lemmas.List.{length-map}
 use Rattle.intmap_table.specs.Classes.{same_key}
 use Rattle.intmap_table.specs.Bindings.{value_of, IsPresent, write_value, Updates}
@@ -16,6 +16,11 @@ use Rattle.intmap.proofs.SameKeysLemmas.{IsMapWalk-same_keys, IsConsistent-same_
 pub some_from : {V : Type 0} (o : Option V) → IsSome o → (v : V) × (o ≡ Some v)
 some_from None bound = let no : ◌≡◌ {A = Bool} false true = bound in cc
 some_from (Some v) bound = (v, refl)
+
+-- or has none
+pub none_from : {V : Type 0} (o : Option V) → is_none o ≡ true → o ≡ None
+none_from None none = refl
+none_from (Some v) none = let no : ◌≡◌ {A = Bool} false true = none in cc
 
 module _ {K V : Type 0} (number : K → ℕ) where
   pub length-write_value : (L : List (K × V)) (k : K) (v : V) → length (write_value number L k v) ≡ length L

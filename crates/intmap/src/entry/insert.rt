@@ -110,6 +110,7 @@ impl<'a, K: IntKey, V: Drop, A: Allocator + Copy> Entry<'a, K, V, A> {
     /// let mut map: IntMap<u64, u64> = IntMap::new(alloc)?;
     /// map.entry(21).or_insert_with_key(|key| key / 2)?    // 10
     /// ```
+    #[inline]
     pub fn or_insert_with_key<F: FnOnce(K) -> V>(self, f: F) -> Result<&'a mut V, Refused<V>>
         requires { entry_value self ≡ None → F.pre f (entry_key self) }
 
@@ -152,6 +153,7 @@ impl<'a, K: IntKey, V: Drop, A: Allocator + Copy> Entry<'a, K, V, A> {
     /// map.entry(21).or_insert_with(|| 7)?    // 5
     /// map.entry(22).or_insert_with(|| 7)?    // 7
     /// ```
+    #[inline]
     pub fn or_insert_with<F: FnOnce() -> V>(self, f: F) -> Result<&'a mut V, Refused<V>>
         requires { entry_value self ≡ None → F.pre f }
 
@@ -188,6 +190,7 @@ impl<'a, K: IntKey, V: Drop, A: Allocator + Copy> Entry<'a, K, V, A> {
     /// *map.entry(21).or_default()? += 1;
     /// map    // {21: 1}
     /// ```
+    #[inline]
     pub fn or_default(self) -> Result<&'a mut V, Refused<V>>
     where
         V: MadeWith<A>,
@@ -239,6 +242,7 @@ impl<'a, K: IntKey, V: Drop, A: Allocator + Copy> Entry<'a, K, V, A> {
     /// map.entry(22).or_try_insert_with(|| key_of("seven").ok_or(Cause::Memory))  // Err(Memory)
     /// map                                                                        // {21: 7}
     /// ```
+    #[inline]
     pub fn or_try_insert_with<E: From<Refused<V>>, F: FnOnce() -> Result<V, E>>(
         self,
         f: F,

@@ -59,6 +59,7 @@ impl<'a, K: IntKey, V: Drop, A: Allocator + Copy> VacantEntry<'a, K, V, A> {
     /// reference to the value. It grows the table and fails as
     /// [`IntMap::insert`](crate::IntMap::insert) of a new key does. A failed call returns the value
     /// and leaves the map as it was.
+    #[inline]
     pub fn insert(self, value: V) -> Result<&'a mut V, Refused<V>>
         // what is returned and left
         ensures* writes_back { sem 𝓛 (entry_lends_ok K.row V.row A.row A.Allocator

@@ -1,9 +1,10 @@
 //! Insertions.
-ghost use Rattle.std.specs.Prelude.{◌≡◌, ◌+◌, ◌<◌, IfOk, IfErr, IsOk, OnOk, OnErr, None, Some, cond, is_none, is_some, length, unwrap_or, MatchBool};
+ghost use Rattle.std.specs.Prelude.{◌≡◌, ◌+◌, ◌<◌, true, IfOk, IfErr, IsOk, OnOk, OnErr, None, Some, cond, is_none, is_some, length, unwrap_or, MatchBool};
 ghost use Rattle.intmap_table.specs.Classes.{slot_number};
 ghost use Rattle.intmap_table.specs.Bindings.{Updates, value_of};
 ghost use Rattle.intmap_table.specs.Firsts.{first_of, IsFirst};
 ghost use Rattle.intmap_table.specs.Locations.{IsAt};
+ghost use Rattle.intmap_table.specs.Reach.{class_size};
 ghost use Rattle.intmap.specs.Insertions.{IsInsertion};
 ghost use Rattle.intmap.specs.Map.{NeedsNoMemory, IsMap, after_search, after_insert, with_pair};
 ghost use Rattle.intmap.specs.PlainLists.{RefusalIsDue, list_of};
@@ -205,19 +206,53 @@ impl<K: IntKey, V: Drop, A: Allocator + Copy> IntMap<K, V, A> {
                 self.len += 1;
                 Ok(None)
             }
-            Err(kept) => {
-                let value = kept.into_value();
-                if adds {
-                    return Err(Refused {
-                        value,
-                        cause: Cause::Memory,
-                    });
-                }
-                match self.add_growing(slot, again, value) {
-                    Ok(_) => Ok(None),
-                    Err(refused) => Err(refused),
-                }
-            }
+            Err(kept) => match self.grow_or_fail(slot, again, kept, adds) {
+                Ok(()) => Ok(None),
+                Err(refused) => Err(refused),
+            },
+        }
+    }
+
+    /// Adds the pair of an absent key that the table didn't take as it is. If `adds` is true, the
+    /// map needn't grow: an allocation failed, and the value is returned. Otherwise the map grows.
+    #[inline(always)]
+    fn grow_or_fail(
+        &mut self,
+        slot: usize,
+        key: Sought<K>,
+        kept: Kept<V>,
+        adds: bool,
+    ) -> Result<(), Refused<V>>
+        requires missing { value_of K.number_of self.old.walk key ≡ None }
+        requires slot { slot ≡ slot_number K.number_of key self.old.capacity }
+        requires adds { MatchBool adds
+            (TakesOneMore self.old.walk self.old.capacity self.old.factor)
+            (TakesOneMore self.old.walk self.old.capacity self.old.factor → ⊥) }
+        requires memory { adds ≡ true
+            → 0 < class_size K.number_of self.old.walk self.old.capacity key }
+        requires full { adds ≡ true → HasRoom K.number_of self.old 1 → ⊥ }
+        requires valid { IsMap K.number_of K.is_valid self.old }
+        ensures inserted { OnOk result
+            (IsInsertion K.number_of K.is_valid self.old key kept self.new) }
+        ensures state { OnOk result
+            (self.new ≡ with_pair K.number_of self.old key kept self.new.capacity) }
+        ensures err { OnErr result (self.new ≡ self.old) }
+        ensures value_returned { IfErr result (λ refused. refused.value ≡ kept) }
+        ensures refused { IfErr result (λ refused. RefusalIsDue K.number_of (list_of self.old) key
+            refused.cause) }
+        ensures has_room { HasRoom K.number_of self.old 1 → IsOk result }
+        ensures valid_after { IsMap K.number_of K.is_valid self.new }
+    {
+        let value = kept.into_value();
+        if adds {
+            return Err(Refused {
+                value,
+                cause: Cause::Memory,
+            });
+        }
+        match self.add_growing(slot, key, value) {
+            Ok(_) => Ok(()),
+            Err(refused) => Err(refused),
         }
     }
 
@@ -232,6 +267,7 @@ impl<K: IntKey, V: Drop, A: Allocator + Copy> IntMap<K, V, A> {
     /// map.insert_checked(21, 'b')?    // false
     /// map                             // {21: 'a'}
     /// ```
+    #[inline(always)]
     pub fn insert_checked(&mut self, key: K, value: V) -> Result<bool, Refused<V>>
         // what is returned and left
         ensures new { IfOk result (λ new. new ≡ is_none (value_of K.number_of self.old.walk key)) }
@@ -260,14 +296,63 @@ impl<K: IntKey, V: Drop, A: Allocator + Copy> IntMap<K, V, A> {
         ensures valid { IsMap K.number_of K.is_valid self.old }
         ensures valid_after { IsMap K.number_of K.is_valid self.new }
     {
-        let key = Sought::new(key);
-        let Err(slot) = self.locate(&key) else {
-            return Ok(false);
-        };
-        if let Err(refused) = self.add(slot, key, value) {
-            return Err(refused);
+        let sought = Sought::new(key);
+        match self.spot_for(&sought) {
+            Spot::Vacant(slot) => {
+                self.add_first(slot, sought, value);
+                Ok(true)
+            }
+            Spot::First(_) => Ok(false),
+            Spot::Other(slot) => self.insert_checked_otherwise(slot, sought, value),
         }
-        Ok(true)
+    }
+
+    /// Inserts the pair of a key and a value as `insert_checked` does, if the first place of the
+    /// slot doesn't settle it. Keys are compared from the second pair of the slot on, up to the one
+    /// sought.
+    #[inline(never)]
+    fn insert_checked_otherwise(
+        &mut self,
+        slot: usize,
+        key: Sought<K>,
+        value: V,
+    ) -> Result<bool, Refused<V>>
+        requires slot { slot ≡ slot_number K.number_of key self.old.capacity }
+        requires taken { TakesFirst K.number_of self.old.walk self.old.capacity self.old.factor slot
+            → ⊥ }
+        requires other { value_of K.number_of
+            (first_of K.number_of self.old.walk self.old.capacity slot) key ≡ None }
+        ensures new { IfOk result (λ new. new ≡ is_none (value_of K.number_of self.old.walk key)) }
+        ensures inserted { OnOk result (IsInsertion K.number_of K.is_valid self.old key
+            (unwrap_or (value_of K.number_of self.old.walk key) value) self.new) }
+        ensures state { IfOk result (λ new. MatchBool new
+            (self.new ≡ with_pair K.number_of
+            (after_rest K.number_of self.old slot key) key value self.new.capacity)
+            (self.new ≡ after_rest K.number_of self.old slot key)) }
+        ensures err { OnErr result (self.new ≡ after_rest K.number_of self.old slot key) }
+        ensures value_returned { IfErr result (λ refused. refused.value ≡ value) }
+        ensures refused { IfErr result (λ refused. RefusalIsDue K.number_of (list_of self.old) key
+            refused.cause) }
+        ensures has_room { HasRoom K.number_of self.old 1 → IsOk result }
+        ensures valid { IsMap K.number_of K.is_valid self.old }
+        ensures valid_after { IsMap K.number_of K.is_valid self.new }
+    {
+        let adds = self.takes_one_more();
+        let again = key.copied();
+        match self
+            .table
+            .add_checked(slot, key, Kept::new(value), adds, &mut self.compared)
+        {
+            Ok(true) => {
+                self.len += 1;
+                Ok(true)
+            }
+            Ok(false) => Ok(false),
+            Err(kept) => match self.grow_or_fail(slot, again, kept, adds) {
+                Ok(()) => Ok(true),
+                Err(refused) => Err(refused),
+            },
+        }
     }
 
     /// Adds the pair of an absent key in its slot, and returns where it is. It compares no key.

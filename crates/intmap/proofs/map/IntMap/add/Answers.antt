@@ -1,10 +1,9 @@
 use Rattle.std.proofs.Common.{◌≡◌, ◌+◌, length, None, refl, arith}
 use Rattle.intmap_table.specs.Bindings.{value_of}
 use Rattle.intmap.specs.Spots.{TakesOneMore}
-use Rattle.intmap.proofs.InsertionLemmas.{IsInsertion-added}
 use Rattle.intmap.proofs.RefusalLemmas.{RefusalIsDue-memory}
 use Rattle.intmap.proofs.MapLemmas.{MapState-same, placed-same, reserved-same}
-use Rattle.intmap.proofs.SpotLemmas.{IsConsistent-one_more}
+use Rattle.intmap.proofs.SpotLemmas.{IsConsistent-one_more, IsInsertion-one_more}
 use Rattle.intmap.proofs.ReservedLemmas.{HasRoom-takes}
 use Rattle.intmap.proofs.map.IntMap.add.Goals as goal
 use Rattle.intmap.proofs.map.IntMap.add.Goals.{After-add}
@@ -29,8 +28,7 @@ invariant_of-self g c =
 pub returns-in-Ok-add-clause-inserted : goal.returns-in-Ok-add-clause-inserted
 returns-in-Ok-add-clause-inserted g c =
     let at = (goal.at.returns-in-Ok-add-clause-inserted g c).After-add in let told = c.in-Ok-add.ensures in
-    rw (← c.self.view_is) (IsInsertion-added g.K.IntKey.number_of g.K.IntKey.is_valid _ _ c.args.key c.args.value (missing g at) c.self.invariant.map (invariant_of-self g c).map (rw told.capacity (rw c.new.ensures at told.walk))
-    (takes g at).count (rw told.capacity (takes g at).stays))
+    rw (← c.self.view_is) (IsInsertion-one_more g.K.IntKey.number_of g.K.IntKey.is_valid _ _ c.args.key c.args.value told.capacity (missing g at) (takes g at) c.self.invariant.map (invariant_of-self g c).map (rw c.new.ensures at told.walk))
 
 pub returns-in-Ok-add-clause-state : goal.returns-in-Ok-add-clause-state
 returns-in-Ok-add-clause-state g c =

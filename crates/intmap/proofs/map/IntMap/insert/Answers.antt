@@ -48,8 +48,7 @@ module _ (g : _) (c : In-Other g) where
   searched_all : after_rest g.K.IntKey.number_of c.spot_for.new.self c.in-Other.slot c.new-key.result ≡ after_search g.K.IntKey.number_of c.args.self.now c.new-key.result
   searched_all =
       let told = c.in-Other.ensures in
-      ap (λ (m : MapState g.row.K.Denot g.row.V.Denot). after_rest g.K.IntKey.number_of m c.in-Other.slot c.new-key.result) told.state
-      ∙ after_rest-first g.K.IntKey.number_of c.args.self.now c.in-Other.slot c.new-key.result told.valid.capacity told.slot told.spot.1
+      after_rest-first g.K.IntKey.number_of c.args.self.now c.in-Other.slot c.new-key.result told.valid.capacity told.slot c.spot_for.new.self told.state told.spot.1
 
 pub returns-in-Other-clause-state : goal.returns-in-Other-clause-state
 returns-in-Other-clause-state g c =

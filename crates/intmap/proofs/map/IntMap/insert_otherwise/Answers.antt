@@ -1,11 +1,9 @@
 use Rattle.std.proofs.Common.{◌≡◌, ◌+◌, length, None, Some, refl, sym, arith}
 use Rattle.intmap_table.specs.Bindings.{value_of}
 use Rattle.intmap.specs.Spots.{TakesOneMore}
-use Rattle.intmap.proofs.InsertionLemmas.{IsInsertion-added, IsInsertion-replaced}
-use Rattle.intmap.proofs.RefusalLemmas.{RefusalIsDue-memory}
+use Rattle.intmap.proofs.InsertionLemmas.{IsInsertion-replaced}
 use Rattle.intmap.proofs.MapLemmas.{placed-same, reserved-same, IsConsistent-replaced}
-use Rattle.intmap.proofs.SpotLemmas.{IsConsistent-one_more, MapState-counted, RefusalIsDue-counted}
-use Rattle.intmap.proofs.ReservedLemmas.{HasRoom-takes}
+use Rattle.intmap.proofs.SpotLemmas.{IsConsistent-one_more, IsInsertion-one_more, MapState-counted, RefusalIsDue-counted}
 use Rattle.intmap.proofs.map.IntMap.insert_otherwise.Goals as goal
 use Rattle.intmap.proofs.map.IntMap.insert_otherwise.Goals.{In-Ok-Some, In-Ok-None}
 
@@ -47,9 +45,8 @@ invariant_of-self-in-Ok-None g c =
 
 pub returns-in-Ok-None-clause-inserted : goal.returns-in-Ok-None-clause-inserted
 returns-in-Ok-None-clause-inserted g c =
-    let at = goal.at.returns-in-Ok-None-clause-inserted g c in let told = c.in-Ok-None.ensures in let more = takes g at.In-Ok-None in
-    rw (← c.self.view_is) (IsInsertion-added g.K.IntKey.number_of g.K.IntKey.is_valid _ _ c.args.key c.args.value (missing g at.In-Ok-None) c.self.invariant.map (invariant_of-self-in-Ok-None g c).map (rw told.capacity (rw c.new.ensures at told.walk))
-    more.count (rw told.capacity more.stays))
+    let at = (goal.at.returns-in-Ok-None-clause-inserted g c).In-Ok-None in let told = c.in-Ok-None.ensures in
+    rw (← c.self.view_is) (IsInsertion-one_more g.K.IntKey.number_of g.K.IntKey.is_valid _ _ c.args.key c.args.value told.capacity (missing g at) (takes g at) c.self.invariant.map (invariant_of-self-in-Ok-None g c).map (rw c.new.ensures at told.walk))
 
 pub returns-in-Ok-None-clause-state : goal.returns-in-Ok-None-clause-state
 returns-in-Ok-None-clause-state g c =
@@ -59,26 +56,11 @@ returns-in-Ok-None-clause-state g c =
 pub returns-in-Ok-None-clause-valid_after : goal.returns-in-Ok-None-clause-valid_after
 returns-in-Ok-None-clause-valid_after g c = (invariant_of-self-in-Ok-None g c).map
 
-pub returns-then-adds-clause-refused : goal.returns-then-adds-clause-refused
-returns-then-adds-clause-refused g c =
-    let more : TakesOneMore c.self.inside.table.walk c.self.inside.table.capacity c.self.inside.factor = rw (← c.self.view_is) at c.if-adds.ensures in let told = c.in-Err.ensures in
-    rw (← c.self.view_is) (RefusalIsDue-memory g.K.IntKey.number_of _ c.args.key told.missing c.self.inside.table.capacity more.count c.self.invariant.map.capacity more.stays (λ _. told.memory c.if-adds.true))
-
 pub returns-in-Ok-clause-state : goal.returns-in-Ok-clause-state
 returns-in-Ok-clause-state g c =
     let told = c.in-Err.ensures in
-    rw (← c.self.view_is) (rw (c.copied-again.ensures, c.into_value-value.ensures, told.value_returned, c.new.ensures, told.err, told.counted) at c.in-Ok.ensures.state)
+    rw (← c.self.view_is) (rw (c.copied-again.ensures, told.value_returned, c.new.ensures, told.err, told.counted) at c.in-Ok.ensures.state)
 
-pub returns-in-Err-add_growing-clause-refused : goal.returns-in-Err-add_growing-clause-refused
-returns-in-Err-add_growing-clause-refused g c =
-    rw (← c.self.view_is) (RefusalIsDue-counted g.K.IntKey.number_of (record { walk = c.self.inside.table.walk; capacity = c.self.inside.table.capacity; factor = c.self.inside.factor; placed = c.self.inside.placed; compared = c.self.inside.compared; reserved = c.self.inside.reserved }) c.put.new.steps c.args.key c.in-Err-add_growing.refused.cause (rw (c.copied-again.ensures, c.in-Err.ensures.err) at c.in-Err-add_growing.ensures.refused))
-
-pub returns-then-adds-clause-has_room : goal.returns-then-adds-clause-has_room
-returns-then-adds-clause-has_room g c room =
-    let enough = (rw (← c.self.view_is) at room).memory in
-    c.in-Err.ensures.succeeds c.if-adds.true (omega (arith, c.self.invariant.memory, enough))
-
-pub returns-in-Err-add_growing-clause-has_room : goal.returns-in-Err-add_growing-clause-has_room
-returns-in-Err-add_growing-clause-has_room g c room =
-    let full = rw (← c.self.view_is) at c.if-adds.ensures in
-    absurd (full (HasRoom-takes g.K.IntKey.number_of _ _ _ _ c.self.invariant.map.capacity (rw (← c.self.view_is) at room)))
+pub returns-in-Err-grow_or_fail-clause-refused : goal.returns-in-Err-grow_or_fail-clause-refused
+returns-in-Err-grow_or_fail-clause-refused g c =
+    rw (← c.self.view_is) (RefusalIsDue-counted g.K.IntKey.number_of (record { walk = c.self.inside.table.walk; capacity = c.self.inside.table.capacity; factor = c.self.inside.factor; placed = c.self.inside.placed; compared = c.self.inside.compared; reserved = c.self.inside.reserved }) c.put.new.steps c.args.key c.in-Err-grow_or_fail.refused.cause (rw (c.copied-again.ensures, c.in-Err.ensures.err) at c.in-Err-grow_or_fail.ensures.refused))
