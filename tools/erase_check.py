@@ -129,6 +129,7 @@ OTHERWISE = [
     ("#[derive(Debug, Drop)]", "#[derive(Debug)]"),
     ("    where\n        V: Drop,\n", ""),
     ("    where\n        P: Drop,\n", ""),
+    ("    where\n        X: Drop,\n", ""),
     (": Drop", ""),
     (" + Drop", ""),
     ("use std::marker::{Model, Send, Sync};", ""),
@@ -168,6 +169,10 @@ pub trait IntKey: Copy + Eq {""",
     (
         "            Spot::Other(slot) => self.insert_otherwise(slot, key, value),",
         "            Spot::Other(slot) => super::mending::held(self, |map| map.insert_otherwise(slot, key, value)),",
+    ),
+    (
+        "            Spot::Other(slot) => self.insert_checked_otherwise(slot, sought, value),",
+        "            Spot::Other(slot) => super::mending::held(self, |map| map.insert_checked_otherwise(slot, sought, value)),",
     ),
 ]
 # the first line of a type, up to the bound of its keys, which is left out

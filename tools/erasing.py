@@ -77,17 +77,20 @@ UNNAMED = {
 # Calls that run a key's `number` while pairs are on their way, and the trait of keys, by the source, each with what is
 # written in its place.
 REPLACED = {
-    "intmap_table/key": (
-        "pub trait IntKey: Copy + Eq {",
-        """#[diagnostic::on_unimplemented(
+    "intmap_table/key": [
+        (
+            "pub trait IntKey: Copy + Eq {",
+            """#[diagnostic::on_unimplemented(
     message = "`{Self}` isn't a type of keys",
     label = "this type has no `IntKey`",
     note = "the macro `int_key!` makes types of keys, and a type that is `Copy + Eq` can have an `impl IntKey`"
 )]
 pub trait IntKey: Copy + Eq {""",
-    ),
-    "intmap_table/table/slots/grow": (
-        """        move_rows(
+        )
+    ],
+    "intmap_table/table/slots/grow": [
+        (
+            """        move_rows(
             &mut self.slots,
             &mut bits,
             &mut pool,
@@ -100,16 +103,23 @@ pub trait IntKey: Copy + Eq {""",
             placed,
         );
 """,
-        """        super::mending::moving(self, &mut bits, &mut pool, &mut from, &mut rest, |old, bits, pool, from, rest| {
+            """        super::mending::moving(self, &mut bits, &mut pool, &mut from, &mut rest, |old, bits, pool, from, rest| {
             let (slots, old_mask) = (&mut old.slots, old.mask);
             move_rows(slots, bits, pool, &old.bits, &mut old.pool, from, rest, old_mask, capacity - 1, placed);
         });
 """,
-    ),
-    "intmap/map/insert": (
-        "Spot::Other(slot) => self.insert_otherwise(slot, key, value),",
-        "Spot::Other(slot) => super::mending::held(self, |map| map.insert_otherwise(slot, key, value)),",
-    ),
+        )
+    ],
+    "intmap/map/insert": [
+        (
+            "Spot::Other(slot) => self.insert_otherwise(slot, key, value),",
+            "Spot::Other(slot) => super::mending::held(self, |map| map.insert_otherwise(slot, key, value)),",
+        ),
+        (
+            "Spot::Other(slot) => self.insert_checked_otherwise(slot, sought, value),",
+            "Spot::Other(slot) => super::mending::held(self, |map| map.insert_checked_otherwise(slot, sought, value)),",
+        ),
+    ],
 }
 
 DROPS = [
@@ -292,12 +302,11 @@ def without_unnamed(text, where):
 
 def with_replaced(text, where):
     """Rule 11."""
-    if where not in REPLACED:
-        return text
-    old, new = REPLACED[where]
-    if old not in text:
-        raise Refused(f"there is no text `{old}`")
-    return text.replace(old, new)
+    for old, new in REPLACED.get(where, []):
+        if old not in text:
+            raise Refused(f"there is no text `{old}`")
+        text = text.replace(old, new)
+    return text
 
 
 def without_attributes(text):

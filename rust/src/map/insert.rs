@@ -1,7 +1,6 @@
 //! Insertions.
 use super::IntMap;
 use crate::IntKey;
-use crate::guard::guarded;
 use crate::refusal::{Refused, granted};
 
 impl<K: IntKey, V> IntMap<K, V> {
@@ -65,7 +64,7 @@ impl<K: IntKey, V> IntMap<K, V> {
     /// assert!(!map.insert_checked(21, 'b'));
     /// assert_eq!(map[21], 'a');
     /// ```
-    #[inline]
+    #[inline(always)]
     pub fn insert_checked(&mut self, key: K, value: V) -> bool {
         granted(self.try_insert_checked(key, value))
     }
@@ -77,8 +76,9 @@ impl<K: IntKey, V> IntMap<K, V> {
     ///
     /// Proved of `IntMap::insert_checked`: `new`, `inserted`, `updates`, `len`, `state`, `err`,
     /// `value_returned`, `absent`, `refused`, `succeeds`, `has_room`.
-    #[inline]
+    #[inline(always)]
     pub fn try_insert_checked(&mut self, key: K, value: V) -> Result<bool, Refused<V>> {
-        guarded!(&mut self.map, |map| map.insert_checked(key, value))
+        // held by a guard as in `try_insert`
+        self.map.insert_checked(key, value)
     }
 }

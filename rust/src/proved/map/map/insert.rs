@@ -112,19 +112,33 @@ impl<K: IntKey, V, A: Allocator + Copy> IntMap<K, V, A> {
                 self.len += 1;
                 Ok(None)
             }
-            Err(kept) => {
-                let value = kept.into_value();
-                if adds {
-                    return Err(Refused {
-                        value,
-                        cause: Cause::Memory,
-                    });
-                }
-                match self.add_growing(slot, again, value) {
-                    Ok(_) => Ok(None),
-                    Err(refused) => Err(refused),
-                }
-            }
+            Err(kept) => match self.grow_or_fail(slot, again, kept, adds) {
+                Ok(()) => Ok(None),
+                Err(refused) => Err(refused),
+            },
+        }
+    }
+
+    /// Adds the pair of an absent key that the table didn't take as it is. If `adds` is true, the
+    /// map needn't grow: an allocation failed, and the value is returned. Otherwise the map grows.
+    #[inline(always)]
+    fn grow_or_fail(
+        &mut self,
+        slot: usize,
+        key: Sought<K>,
+        kept: Kept<V>,
+        adds: bool,
+    ) -> Result<(), Refused<V>> {
+        let value = kept.into_value();
+        if adds {
+            return Err(Refused {
+                value,
+                cause: Cause::Memory,
+            });
+        }
+        match self.add_growing(slot, key, value) {
+            Ok(_) => Ok(()),
+            Err(refused) => Err(refused),
         }
     }
 
@@ -132,15 +146,45 @@ impl<K: IntKey, V, A: Allocator + Copy> IntMap<K, V, A> {
     /// present, the value is dropped, and only the count of compared keys changes.
     ///
     /// For a new key it does what [`insert`](IntMap::insert) does, and fails as that does.
+    #[inline(always)]
     pub fn insert_checked(&mut self, key: K, value: V) -> Result<bool, Refused<V>> {
-        let key = Sought::new(key);
-        let Err(slot) = self.locate(&key) else {
-            return Ok(false);
-        };
-        if let Err(refused) = self.add(slot, key, value) {
-            return Err(refused);
+        let sought = Sought::new(key);
+        match self.spot_for(&sought) {
+            Spot::Vacant(slot) => {
+                self.add_first(slot, sought, value);
+                Ok(true)
+            }
+            Spot::First(_) => Ok(false),
+            Spot::Other(slot) => super::mending::held(self, |map| map.insert_checked_otherwise(slot, sought, value)),
         }
-        Ok(true)
+    }
+
+    /// Inserts the pair of a key and a value as `insert_checked` does, if the first place of the
+    /// slot doesn't settle it. Keys are compared from the second pair of the slot on, up to the one
+    /// sought.
+    #[inline(never)]
+    fn insert_checked_otherwise(
+        &mut self,
+        slot: usize,
+        key: Sought<K>,
+        value: V,
+    ) -> Result<bool, Refused<V>> {
+        let adds = self.takes_one_more();
+        let again = key.copied();
+        match self
+            .table
+            .add_checked(slot, key, Kept::new(value), adds, &mut self.compared)
+        {
+            Ok(true) => {
+                self.len += 1;
+                Ok(true)
+            }
+            Ok(false) => Ok(false),
+            Err(kept) => match self.grow_or_fail(slot, again, kept, adds) {
+                Ok(()) => Ok(true),
+                Err(refused) => Err(refused),
+            },
+        }
     }
 
     /// Adds the pair of an absent key in its slot, and returns where it is. It compares no key.

@@ -60,4 +60,22 @@ impl<K: IntKey, X, A: Allocator> Table<K, X, A> {
         let old = self.slots.put(slot, key, value, adds, steps)?;
         Ok(old)
     }
+
+    /// Puts the pair of a key and a value last in its slot, whose first pair, if there is one, has
+    /// another key. If the key is present, nothing changes, and the value is dropped. An absent key
+    /// is added only if `adds` is true. It returns whether the key was added. If it is absent and
+    /// isn't added, or if an allocation fails, the value is returned and nothing changes. It
+    /// compares keys from the second pair on, up to the one sought.
+    #[inline(always)]
+    pub fn add_checked(
+        &mut self,
+        slot: usize,
+        key: Sought<K>,
+        value: X,
+        adds: bool,
+        steps: &mut Steps,
+    ) -> Result<bool, X> {
+        let new = self.slots.add_checked(slot, key, value, adds, steps)?;
+        Ok(new)
+    }
 }

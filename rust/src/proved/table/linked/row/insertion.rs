@@ -46,15 +46,56 @@ pub(in crate::proved::table) fn put<K: IntKey, X, A: Allocator>(
             let (_, old) = replace_from(pool, spot.at, (Stored::new(key), value));
             Ok(Some(old))
         }
-        Err(last) => {
-            if !adds {
-                return Err(value);
-            }
-            match push_behind(slot, pool, last, (Stored::new(key), value)) {
-                Ok(()) => Ok(None),
-                Err((_, value)) => Err(value),
-            }
-        }
+        Err(last) => match add_behind(slot, pool, last, key, value, adds) {
+            Ok(()) => Ok(None),
+            Err(value) => Err(value),
+        },
+    }
+}
+
+/// Puts the pair of a key and a value last in a slot whose first pair, if there is one, has another
+/// key. If the key is present, nothing changes, and the value is dropped. An absent key is added
+/// only if `adds` is true. It returns whether the key was added. If it is absent and isn't added, or
+/// if an allocation fails, the value is returned. The keys are compared from the second on, up to
+/// the one sought.
+#[inline(always)]
+pub(in crate::proved::table) fn add_checked<K: IntKey, X, A: Allocator>(
+    slot: &mut Node<(Stored<K>, X)>,
+    pool: &mut Pool<(Stored<K>, X), A>,
+    key: Sought<K>,
+    value: X,
+    adds: bool,
+    steps: &mut Steps,
+) -> Result<bool, X> {
+    let Some((link, _)) = slot.get() else {
+        return Err(value);
+    };
+    match search(pool, link, &key, steps) {
+        Ok(_) => Ok(false),
+        Err(last) => match add_behind(slot, pool, last, key, value, adds) {
+            Ok(()) => Ok(true),
+            Err(value) => Err(value),
+        },
+    }
+}
+
+/// Puts the pair of a key and a value behind the last node of a slot, or behind its first pair if it
+/// has no node. If `adds` is false, or if an allocation fails, it returns the value.
+#[inline(always)]
+fn add_behind<K: IntKey, X, A: Allocator>(
+    slot: &mut Node<(Stored<K>, X)>,
+    pool: &mut Pool<(Stored<K>, X), A>,
+    last: usize,
+    key: Sought<K>,
+    value: X,
+    adds: bool,
+) -> Result<(), X> {
+    if !adds {
+        return Err(value);
+    }
+    match push_behind(slot, pool, last, (Stored::new(key), value)) {
+        Ok(()) => Ok(()),
+        Err((_, value)) => Err(value),
     }
 }
 

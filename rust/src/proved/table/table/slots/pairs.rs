@@ -134,6 +134,24 @@ impl<K: IntKey, X, A: Allocator> Slots<K, X, A> {
         Ok(old)
     }
 
+    /// Puts the pair of a key and a value last in a slot whose first pair, if there is one, has
+    /// another key. If the key is present, nothing changes, and the value is dropped. An absent key
+    /// is added only if `adds` is true. It returns whether the key was added. If it is absent and
+    /// isn't added, or if an allocation fails, the value is returned.
+    #[inline(always)]
+    pub(in crate::proved::table) fn add_checked(
+        &mut self,
+        index: usize,
+        key: Sought<K>,
+        value: X,
+        adds: bool,
+        steps: &mut Steps,
+    ) -> Result<bool, X> {
+        let slot = &mut self.slots[index];
+        let new = insertion::add_checked(slot, &mut self.pool, key, value, adds, steps)?;
+        Ok(new)
+    }
+
     /// Removes the first pair of a slot. The others move up by one place.
     #[inline(always)]
     pub(in crate::proved::table) fn take_front(&mut self, index: usize) -> (Stored<K>, X) {
