@@ -129,7 +129,7 @@ fn an_iterator_that_writes_lends_all_values_at_once() {
 }
 
 /// Nothing outside of a map counts the words of marks that a step passes. With a `drain` that began
-/// at the first slot again at each step, this would take a quarter of an hour.
+/// at the first slot again at each step, this would take many minutes.
 #[test]
 fn a_drain_of_eight_million_slots_ends() {
     let mut map: IntMap<u32, ()> = IntMap::with_capacity(1 << 23);
