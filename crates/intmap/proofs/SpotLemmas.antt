@@ -64,7 +64,7 @@ module _ {K V : Type 0} (number : K → ℕ) (is_valid : K → Type 0) (W W' : L
       IsConsistent-added number is_valid W W' C F n most R N old R' N' memory C' k x same key missing few (test-from_next C F (n + 1) most few old.threshold next) is
 
 module _ {K V : Type 0} (number : K → ℕ) (is_valid : K → Type 0) (m n : MapState K V) (k : K) (v : V) where
-  -- which is an insertion
+  -- to add the pair of an absent key to a map that takes one more is to insert it
   pub IsInsertion-one_more : n.capacity ≡ m.capacity → value_of number m.walk k ≡ None → TakesOneMore m.walk m.capacity m.factor → IsMap number is_valid m → IsMap number is_valid n
       → n.walk ≡ walk_of number (put_pair number m.walk m.capacity k v) m.capacity → IsInsertion number is_valid m k v n
   IsInsertion-one_more same missing takes old new walk = IsInsertion-added number is_valid m n k v missing old new (rw same walk) takes.count (rw same takes.stays)

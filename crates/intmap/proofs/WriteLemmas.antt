@@ -17,7 +17,7 @@ pub some_from : {V : Type 0} (o : Option V) → IsSome o → (v : V) × (o ≡ S
 some_from None bound = let no : ◌≡◌ {A = Bool} false true = bound in cc
 some_from (Some v) bound = (v, refl)
 
--- or has none
+-- one that holds nothing is None
 pub none_from : {V : Type 0} (o : Option V) → is_none o ≡ true → o ≡ None
 none_from None none = refl
 none_from (Some v) none = let no : ◌≡◌ {A = Bool} false true = none in cc
