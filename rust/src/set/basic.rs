@@ -1,5 +1,5 @@
 //! New sets, and the calls on one key.
-use super::{Cause, Global, IntKey, IntSet, Proved, granted, guarded};
+use super::{Cause, Global, IntKey, IntSet, Proved, granted};
 
 impl<K: IntKey> IntSet<K> {
     /// Returns an empty set of 4 slots, with a load factor of 0.909. Unlike std's, it allocates.
@@ -77,7 +77,8 @@ impl<K: IntKey> IntSet<K> {
     /// `refused`, `succeeds`, `has_room`.
     #[inline]
     pub fn try_insert(&mut self, key: K) -> Result<bool, Cause> {
-        guarded!(&mut self.set, |set| set.insert(key))
+        // held by a guard as in `try_insert` of maps
+        self.set.insert(key)
     }
 
     /// Returns whether the key is a member. The cost is *O*(*s*).

@@ -96,6 +96,7 @@ impl<K: IntKey, A: Allocator + Copy> IntSet<K, A> {
     /// set.insert(12)    // Ok(true)
     /// set.capacity()    // 8
     /// ```
+    #[inline(always)]
     pub fn insert(&mut self, key: K) -> Result<bool, Cause>
         // what is returned and left
         ensures new { IfOk result (λ new. new ≡ not (holds K.number_of self.old.walk key)) }

@@ -46,6 +46,7 @@ impl<K: IntKey, A: Allocator + Copy> IntSet<K, A> {
     /// 2^63 slots, and otherwise with [`Cause::Memory`] if an allocation fails. It allocates
     /// nothing if the capacity stays and the slot holds no member. A failed call leaves the set as
     /// it was. Only the count of compared keys, which takes no memory, changes.
+    #[inline(always)]
     pub fn insert(&mut self, key: K) -> Result<bool, Cause> {
         Ok(self.map.insert_checked(key, ())?)
     }
