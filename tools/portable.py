@@ -256,7 +256,7 @@ class Printer:
         layouts = self.origins.layouts
         # of some types only the size counts
         whole = {it for it, used in self.laid_out.items() if used != {"size"}}
-        laid_out = {self.size(it): it for it in [*self.laid_out]}
+        laid_out = {self.size(it): it for it in sorted(self.laid_out, key=whole.__contains__)}
         if laid_out:
             yield "// Where the fields of structs lie, by the names of the sources, and how many bytes a struct has.\n"
         for name, kind in sorted(laid_out.items(), key=lambda it: (-layouts.size(it[1]), it)):
