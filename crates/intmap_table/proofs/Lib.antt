@@ -12,6 +12,7 @@ pub mod TakingLemmas
 pub mod RetainLemmas
 pub mod WritesLemmas
 pub mod ExtractLemmas
+pub mod KeepingLemmas
 pub mod MappedLemmas
 pub mod CopyingLemmas
 pub mod BindingLemmas

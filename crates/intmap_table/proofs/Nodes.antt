@@ -19,6 +19,7 @@ pub mod WalkedLemmas
 pub mod AlongLemmas
 pub mod RetainedLemmas
 pub mod PickedLemmas
+pub mod KeepingLemmas
 pub mod DroppedLemmas
 pub mod FoundLemmas
 pub mod GrowingLemmas

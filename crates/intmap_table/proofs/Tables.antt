@@ -4,6 +4,7 @@ pub mod BitsLemmas
 pub mod CloneLemmas
 pub mod CursorLemmas
 pub mod ReachedLemmas
+pub mod KeepingLemmas
 pub mod ExtractLemmas
 pub mod FilledLemmas
 pub mod FoundLemmas

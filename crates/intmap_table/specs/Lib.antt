@@ -8,6 +8,7 @@ pub mod Taking
 pub mod Retaining
 pub mod Writes
 pub mod Picking
+pub mod Keeping
 pub mod HandingOver
 pub mod Locations
 pub mod Firsts

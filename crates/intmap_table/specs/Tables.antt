@@ -8,5 +8,6 @@ pub mod Putting
 pub mod Rows
 pub mod Walked
 pub mod Reached
+pub mod Keeping
 pub mod Slots
 pub mod WordRows

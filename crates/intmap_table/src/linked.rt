@@ -2,6 +2,7 @@
 
 pub(crate) mod chain;
 pub(crate) mod closures;
+pub(crate) mod keep;
 pub(crate) mod node;
 pub(crate) mod pool;
 pub(crate) mod row;

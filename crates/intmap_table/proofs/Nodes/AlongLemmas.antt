@@ -63,7 +63,7 @@ module _ {P F Y : Type 0} (R : F → P → Y → F → Type 0) (Q : F → P → 
         )
 
     module _ (n : ℕ) (p : P) (is : node_at b.nodes at ≡ Held n p) where
-      kept : (more : List P) × (r.left ≡ p ∷ more) × IsWalked a l first b t ((front ++ r.done) ++ p ∷ []) more at n
+      pub kept : (more : List P) × (r.left ≡ p ∷ more) × IsWalked a l first b t ((front ++ r.done) ++ p ∷ []) more at n
       kept = Walked-keep a l first b t (front ++ r.done) r.left before at r.walked n p is
 
       -- it may be called at the pair at hand
@@ -104,12 +104,12 @@ module _ {P F Y : Type 0} (R : F → P → Y → F → Type 0) (Q : F → P → 
             )
 
         -- the pair stays
-        pub Along-stays : Goes f (p ∷ []) (p ∷ []) h → IsAlong h b t at n × length (chain_of b.nodes n) < length (chain_of b.nodes at)
+        abbrev pub Along-stays : Goes f (p ∷ []) (p ∷ []) h → IsAlong h b t at n × length (chain_of b.nodes n) < length (chain_of b.nodes at)
         Along-stays one =
             next (p ∷ []) kept.0 b t at n one kept.1 (subst (λ ps. IsWalked a l first b t ps kept.0 at n) (append_assoc front r.done (p ∷ [])) kept.2)
 
         -- it is unlinked
-        pub Along-goes : Goes f (p ∷ []) [] h → (x : P) (d : Pool P) (u : Node P) → IsUnlinked b t before at x d u → IsAlong h d u before n × length (chain_of d.nodes n) < length (chain_of b.nodes at)
+        abbrev pub Along-goes : Goes f (p ∷ []) [] h → (x : P) (d : Pool P) (u : Node P) → IsUnlinked b t before at x d u → IsAlong h d u before n × length (chain_of d.nodes n) < length (chain_of b.nodes at)
         Along-goes one x d u out =
             let cut = Walked-cut a l first b t (front ++ r.done) r.left before at r.walked n p is x d u out in
             let pair = same_first x p cut.0 kept.0 (sym cut.1 ∙ kept.1) in

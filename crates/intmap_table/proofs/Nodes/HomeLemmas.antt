@@ -1,17 +1,20 @@
 -- Which pairs are at home in a row, and that what closures leave of it is.
-use Rattle.std.proofs.Common.{◌≡◌, ℕ, ◌<◌, Bool, true, false, cond, List, [], ◌∷◌, length, get_or, Option, take, drop, sym, ap, ◌∙◌, subst, arith}
+use Rattle.std.proofs.Common.{◌≡◌, ℕ, ◌<◌, Bool, true, false, cond, List, [], ◌∷◌, ◌++◌, length, get_or, Option, take, drop, sym, ap, ◌∙◌, subst, arith}
 use Rattle.std.specs.Prelude.{All}
 use Rattle.std.specs.Fn.{Mut}
 use Rattle.std.specs.Borrow.{MutBor}
 use Rattle.std.specs.List.Retain.{ExtractsNext}
+use Rattle.std.proofs.Math.Seq.{drop-append_seam, take-append_seam}
 use Rattle.std.proofs.lemmas.List.{take-append-drop, get_or-map, length-map}
 use Rattle.std.proofs.lemmas.List.Elements.{All-nil, All-cons}
 use Rattle.intmap_table.specs.Classes.{slot_number, IsCapacity}
 use Rattle.intmap_table.specs.Picking.{ExtractsBehind, PicksAt}
 use Rattle.intmap_table.specs.Retaining.{Retains}
 use Rattle.intmap_table.specs.Writes.{Writes}
+use Rattle.intmap_table.specs.Tables.Keeping.{Keeps, Says}
 use Rattle.intmap_table.specs.Tables.Nodes.{Node, empty, Pool, AreHome, AreLinked, row_in, rows_in}
 use Rattle.intmap_table.specs.Tables.Rows.{AreRows, IsTable}
+use Rattle.intmap_table.specs.declared.linked.keep.KeepBits.{KeepBits}
 use Rattle.intmap_table.proofs.ExtractLemmas.{ExtractsNext-induct}
 use Rattle.intmap_table.proofs.Nodes.LinkedLemmas.{home_take, home_drop, home-join}
 
@@ -49,6 +52,17 @@ module _ {F P : Type 0} (home : P → ℕ) (i : ℕ) (R : F → P → Bool → F
   Home-retained f [] row g run own = subst (λ r. AreHome home i r) (sym run.0) tt
   Home-retained f (p ∷ ps) row g run own =
       subst (λ r. AreHome home i r) (sym run.5) (one_kept run.0 p run.2 own.0 (Home-retained run.1 ps run.2 g run.4 own.1))
+
+module _ {P : Type 0} (home : P → ℕ) (i : ℕ) where
+  -- what is left of a row if bits say which pairs stay
+  pub Home-kept : (f : KeepBits) (ps : List P) (from : ℕ) (g : KeepBits) (row : List P) (place : ℕ) → Keeps f ps from g row place → AreHome home i ps → AreHome home i row
+  Home-kept f ps from g row place k own =
+      let left = subst (AreHome home i) k.old (home_drop home i from ps own) in
+      let asked = subst (AreHome home i) (take-append_seam k.asked k.rest) (home_take home i (length k.asked) (k.asked ++ k.rest) left) in
+      let rest = subst (AreHome home i) (drop-append_seam k.asked k.rest) (home_drop home i (length k.asked) (k.asked ++ k.rest) left) in
+      subst (AreHome home i) (sym k.new)
+      (home-join home i (take from ps) (k.kept ++ k.rest) (home_take home i from ps own)
+      (home-join home i k.kept k.rest (Home-retained home i Says f k.asked k.kept g k.told asked) rest))
 
 module _ {K V : Type 0} (number : K → ℕ) (C i : ℕ) where
   abbrev is_home : List (K × V) → Type 0

@@ -10,7 +10,7 @@ use Rattle.intmap_table.specs.Tables.Behind.{IsBehind, IsBehindFirst}
 use Rattle.intmap_table.proofs.ExtractLemmas.{ExtractsNext-front}
 use Rattle.intmap_table.proofs.Nodes.AlongLemmas.{IsAlong, Along-start, Along-asks, Along-behind, Along-changed, Along-cut, Along-end, set, Walked-slot}
 use Rattle.intmap_table.proofs.Nodes.NodeLemmas.{Stop}
-use Rattle.intmap_table.proofs.Nodes.WalkedLemmas.{Walked-few, Walked-from, Walked-keep}
+use Rattle.intmap_table.proofs.Nodes.WalkedLemmas.{Walked-few, Walked-place, Walked-keep}
 
 module _ {P : Type 0} where
   -- what is behind the first pair
@@ -19,7 +19,7 @@ module _ {P : Type 0} where
   drop-first x xs (suc n) some = let e : n ≡ suc n - 1 = omega arith in ap (λ k. drop k xs) e
 
   -- a front of the list has the first pair
-  take-first : (x : P) (xs : List P) (i : ℕ) → 0 < i → take i (x ∷ xs) ≡ x ∷ take (i - 1) xs
+  pub take-first : (x : P) (xs : List P) (i : ℕ) → 0 < i → take i (x ∷ xs) ≡ x ∷ take (i - 1) xs
   take-first x xs zero some = absurd (omega arith)
   take-first x xs (suc n) some = let e : n ≡ suc n - 1 = omega arith in ap (λ k. x ∷ take k xs) e
 
@@ -67,15 +67,12 @@ module _ {P F : Type 0} (R : F → P → Bool → F → P → Type 0) (Q : F →
     pub Picked-start : (s : Node P) (before at : ℕ) → s ≡ Held l first → 0 < from → IsBehind a.nodes l (from - 1) before at → TakesEach Asks Q f₀ (drop from (row_in a.nodes s)) → IsPicked f₀ from a s before at
     Picked-start s before at slot some start callable =
         let L = chain_of a.nodes l in
-        let r = start.reached in
-        let len = r.len in
-        let left : drop (from - 1) L ≡ chain_of a.nodes at = ap (drop (from - 1)) r.pairs ∙ ap (λ k. drop k (r.before ++ chain_of a.nodes at)) (sym len) ∙ drop-append_seam r.before (chain_of a.nodes at) in
-        let passed : take (from - 1) L ≡ r.before = ap (take (from - 1)) r.pairs ∙ ap (λ k. take k (r.before ++ chain_of a.nodes at)) (sym len) ∙ take-append_seam r.before (chain_of a.nodes at) in
-        let count = ap length (append-nil (take (from - 1) L) ∙ passed) in
+        let here = Walked-place a l (from - 1) before at start first s slot in
+        let count = ap length (append-nil (take (from - 1) L)) in
         record {
-          along = Along-start Asks Q Declines a l first f₀ (take (from - 1) L) (drop (from - 1) L) s before at (rw (passed, left) (Walked-from a l (from - 1) before at start first s slot))
+          along = Along-start Asks Q Declines a l first f₀ (take (from - 1) L) (drop (from - 1) L) s before at here.0
               (subst (TakesEach Asks Q f₀) (ap (λ u. drop from (row_in a.nodes u)) slot ∙ drop-first first L from some) callable) (refl, refl, refl, refl);
-          count = omega (arith, count, len, some);
+          count = omega (arith, count, here.1, some);
           on = omega arith;
         }
 

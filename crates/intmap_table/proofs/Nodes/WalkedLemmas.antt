@@ -1,7 +1,7 @@
 -- Walks along the pairs of one slot behind its first one.
 use Rattle.std.proofs.Common.{◌≡◌, ◌≢◌, inl, ℕ, ◌+◌, ◌≤◌, Bool, true, false, List, [], ◌∷◌, ◌++◌, length, take, drop, set, refl, sym, ap, ◌∙◌, subst, arith}
 use Rattle.std.proofs.Math.Seq.{drop-append_seam, take-append_seam, set-append_seam}
-use Rattle.std.proofs.lemmas.List.{length-append, append_assoc}
+use Rattle.std.proofs.lemmas.List.{length-append, append_assoc, take_at, drop_at}
 use Rattle.intmap_table.specs.Tables.Behind.{IsBehind, IsBehindFirst}
 use Rattle.intmap_table.specs.Tables.Nodes.{node_limit, nowhere, Node, Held, Pool, node_at, chain_of, IsChain, Misses, IsChanged, IsChainSet}
 use Rattle.intmap_table.specs.Tables.Walked.{IsWalked, IsUnlinked}
@@ -41,6 +41,15 @@ module _ {P : Type 0} where
         loose = λ j k r t misses n p is.
             misses_mid t r.before p (chain_of a.nodes n) (subst (Misses t) (r.pairs ∙ ap (λ ps. r.before ++ ps) (Chain-next a.nodes k n p r.is is).pairs) misses);
       }
+
+  -- the pairs before that node are those before its place
+  pub Walked-place : (a : Pool P) (l i before at : ℕ) → IsBehind a.nodes l i before at → (first : P) (s : Node P) → s ≡ Held l first
+      → IsWalked a l first a s (take i (chain_of a.nodes l)) (drop i (chain_of a.nodes l)) before at × (length (take i (chain_of a.nodes l)) ≡ i)
+  Walked-place a l i before at h first s slot =
+      let r = h.reached in
+      let passed : take i (chain_of a.nodes l) ≡ r.before = ap (take i) r.pairs ∙ take_at r.before (chain_of a.nodes at) i r.len in
+      let left : drop i (chain_of a.nodes l) ≡ chain_of a.nodes at = ap (drop i) r.pairs ∙ drop_at r.before (chain_of a.nodes at) i r.len in
+      (rw (passed, left) (Walked-from a l i before at h first s slot), ap length passed ∙ r.len)
 
   -- also at the front
   pub Walked-start : (a : Pool P) (l : ℕ) (first : P) (s : Node P) → s ≡ Held l first → IsChain a.nodes l → IsWalked a l first a s [] (chain_of a.nodes l) nowhere l
