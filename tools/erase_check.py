@@ -26,12 +26,16 @@ LEFT = [
     "intmap/src/laws.rt",
     "intmap/src/map/iter/cursor.rt",
     "intmap/src/map/iter/disjoint.rt",
+    "intmap/src/map/iter/keep.rt",
     "intmap/src/map/iter/written.rt",
     "intmap/src/map/json.rt",
     "intmap/src/map/json/read.rt",
     "intmap_table/src/lent.rt",
     "intmap_table/src/table/slots/reached.rt",
     "intmap_table/src/table/walk.rt",
+    "intmap_table/src/linked/keep.rt",
+    "intmap_table/src/table/keep.rt",
+    "intmap_table/src/table/slots/keep.rt",
     "intmap_set/src/laws.rt",
     "intmap_set/src/set/iter/extract.rt",
     "intmap_set/src/set/owned.rt",
@@ -80,7 +84,8 @@ NOT_CALLED = {
         mod cursor;
         pub use cursor::Cursor;
         mod disjoint;
-        pub use disjoint::""",
+        pub use disjoint::
+        mod keep;""",
     "intmap/src/map/iter/writing.rt": """
         impl<'a, K: IntKey, V, A: Allocator + Copy> IntoIterator for &'a mut IntMap<K, V, A> {""",
     "intmap/src/refusal.rt": """
@@ -99,15 +104,20 @@ NOT_CALLED = {
     "intmap_set/src/set/traits.rt": """
         impl<K: IntKey + fmt::Debug, A: Allocator + Copy> fmt::Debug for IntSet<K, A> {
         impl<K: IntKey, A: Allocator + Copy> Clone for IntSet<K, A> {""",
+    "intmap_table/src/linked.rt": """
+        pub(crate) mod keep;""",
     "intmap_table/src/linked/row/removal.rt": """
         pub(crate) fn remove<P, A: Allocator>(""",
     "intmap_table/src/linked/chain.rt": """
         pub(crate) fn skip<P, A: Allocator>(
         pub(crate) fn find_behind<P, A: Allocator>(""",
     "intmap_table/src/table.rt": """
+        mod keep;
         pub mod walk;""",
     "intmap_table/src/table/slots.rt": """
-        pub(crate) mod reached;""",
+        mod keep;
+        pub(crate) mod reached;
+        pub(crate) fn has_pair(&self,""",
     "intmap_table/src/table/slots/pairs.rt": """
         pub(crate) fn remove_at(&mut self,""",
 }

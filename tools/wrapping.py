@@ -33,6 +33,7 @@ LEFT = {
     "IntMap::step": "an iterator borrows the map, and needs no cursor",
     "IntMap::copy_pairs": "the same",
     "IntMap::cut": "`extract_if` removes on the way",
+    "IntMap::keep_marked": "`retain` removes in one pass",
     "IntMap::take_front": "`drain` makes it, and keeps what it requires",
     "IntSet::from_array": "it allocates a vector beside the set; Rust's arrays are iterators",
     "IntSet::extract_if": "the crate's goes by the step of the map's, which looks at each slot once",

@@ -11,6 +11,7 @@ pub use Rattle.intmap_table.proofs.Tables.CloneLemmas
 pub mod RewrittenLemmas
 pub mod GrowthLemmas
 pub mod KeepLemmas
+pub mod KeepingLemmas
 pub mod MapLemmas
 pub mod WriteLemmas
 pub mod EntryLemmas

@@ -10,6 +10,7 @@ pub use Rattle.intmap_table.specs.Retaining
 pub use Rattle.intmap_table.specs.Writes
 pub use Rattle.intmap_table.specs.Picking
 pub use Rattle.intmap_table.specs.Copying
+pub use Rattle.intmap_table.specs.Keeping
 pub use Rattle.intmap_table.specs.HandingOver
 pub use Rattle.intmap_table.specs.Locations
 pub use Rattle.intmap_table.specs.Values

@@ -10,6 +10,7 @@ mod cursor;
 mod disjoint;
 mod drain;
 mod extract;
+mod keep;
 mod owned;
 mod traits;
 mod writing;
