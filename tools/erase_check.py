@@ -31,11 +31,11 @@ LEFT = [
     "intmap/src/map/json.rt",
     "intmap/src/map/json/read.rt",
     "intmap_table/src/lent.rt",
-    "intmap_table/src/table/slots/reached.rt",
-    "intmap_table/src/table/walk.rt",
     "intmap_table/src/linked/keep.rt",
     "intmap_table/src/table/keep.rt",
     "intmap_table/src/table/slots/keep.rt",
+    "intmap_table/src/table/slots/reached.rt",
+    "intmap_table/src/table/walk.rt",
     "intmap_set/src/laws.rt",
     "intmap_set/src/set/iter/extract.rt",
     "intmap_set/src/set/owned.rt",
@@ -116,8 +116,7 @@ NOT_CALLED = {
         pub mod walk;""",
     "intmap_table/src/table/slots.rt": """
         mod keep;
-        pub(crate) mod reached;
-        pub(crate) fn has_pair(&self,""",
+        pub(crate) mod reached;""",
     "intmap_table/src/table/slots/pairs.rt": """
         pub(crate) fn remove_at(&mut self,""",
 }

@@ -29,13 +29,10 @@ import re
 HOMES = {"intmap_table": "table", "intmap": "map", "intmap_set": "set"}
 
 LEFT_OUT = {
-<<<<<<< HEAD
-    "intmap_table": ["lent", "table/slots/reached", "table/walk"],
-    "intmap": ["decimal", "laws", "map/iter/cursor", "map/iter/disjoint", "map/iter/written", "map/json"],
-=======
-    "intmap_table": ["lent", "linked/keep", "table/keep", "table/slots/keep"],
-    "intmap": ["decimal", "laws", "map/iter/cursor", "map/iter/disjoint", "map/iter/keep", "map/iter/written", "map/json"],
->>>>>>> be77540c (intmap: keep_marked removes pairs of a walk as bits say)
+    "intmap_table": ["lent", "linked/keep", "table/keep", "table/slots/keep", "table/slots/reached", "table/walk"],
+    "intmap": [
+        "decimal", "laws", "map/iter/cursor", "map/iter/disjoint", "map/iter/keep", "map/iter/written", "map/json",
+    ],
     "intmap_set": ["laws", "set/iter/extract", "set/owned"],
 }
 

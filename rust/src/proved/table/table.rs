@@ -1,10 +1,10 @@
 //! A table of slots. Each key has one of them.
 //!
 //! The calls here look at the slot of one key, or at the table as a whole. `locate` has the calls
-//! on a pair whose place is known, `put` those that put a pair into its slot, `walk`, `front` and
-//! `closures` those that go through the pairs, `owned` the pairs by value, and `grow` the growth.
-//! `slots` has the slots themselves, `stored` the keys in them, and `closure_calls` single calls of
-//! a closure.
+//! on a pair whose place is known, `put` those that put a pair into its slot, `walk`, `keep`,
+//! `front` and `closures` those that go through the pairs, `owned` the pairs by value, and `grow`
+//! the growth. `slots` has the slots themselves, `stored` the keys in them, and `closure_calls`
+//! single calls of a closure.
 
 pub(in crate::proved::table) mod closure_calls;
 mod closures;

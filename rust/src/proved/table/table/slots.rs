@@ -2,10 +2,11 @@
 //! of each slot, its row, and for how many pairs behind the first ones there is memory. Which slots
 //! hold a pair is known here alone.
 //!
-//! `pairs` has the calls on a pair of one slot, `closures` those with a closure, `writing` that
-//! which lends a value and that which drops all pairs, `walk` has the pairs by reference, `reached`
-//! those from a cursor on, `owned` those by value, and `clone` copies the slots. Of growth, `grow`
-//! adds slots and goes over the old ones, and `refill` puts each pair into its slot.
+//! `pairs` has the calls on a pair of one slot, `closures` those with a closure, `keep` that which
+//! removes pairs as bits say, `writing` that which lends a value and that which drops all pairs,
+//! `walk` has the pairs by reference, `reached` those from a cursor on, `owned` those by value, and
+//! `clone` copies the slots. Of growth, `grow` adds slots and goes over the old ones, and `refill`
+//! puts each pair into its slot.
 
 mod clone;
 mod closures;
