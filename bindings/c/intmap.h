@@ -222,6 +222,7 @@ extern "C" {
 #define intmap_step intmap_debug_step
 #define intmap_copy_pairs intmap_debug_copy_pairs
 #define intmap_cut intmap_debug_cut
+#define intmap_keep_marked intmap_debug_keep_marked
 #define intmap_equal intmap_debug_equal
 #endif
 
@@ -477,14 +478,14 @@ INTMAP_NONNULL INTMAP_MUST_USE intmap_status intmap_reserve(intmap *map, size_t 
 // Makes room for `more` insertions of any keys: does what intmap_reserve does, and requests memory
 // for as many nodes. The next insertions of as many new keys then request no memory, so they can't
 // fail: by intmap_insert, intmap_find_or_insert, intmap_add_or_insert or intmap_at_or_insert, and
-// whatever is looked up, written or removed between them, also by intmap_retain, intmap_cut or
-// intmap_clear. This holds until a call makes room, even for more pairs, or sets the load factor,
-// shrinks or frees the map, or puts another map into the word. So call it last. A copy that
-// intmap_clone makes doesn't have this room. It is proved that intmap_insert, intmap_find_or_insert
-// and intmap_add_or_insert can't fail then, and that insertions, look-ups and removals by key leave
-// the room for the next ones. The rest is tested: that writes to present keys and the calls for all
-// pairs leave it too, and that insertions then request no memory. Their status must be read all the
-// same:
+// whatever is looked up, written or removed between them, also by intmap_retain, intmap_cut,
+// intmap_keep_marked or intmap_clear. This holds until a call makes room, even for more pairs, or
+// sets the load factor, shrinks or frees the map, or puts another map into the word. So call it
+// last. A copy that intmap_clone makes doesn't have this room. It is proved that intmap_insert,
+// intmap_find_or_insert and intmap_add_or_insert can't fail then, and that insertions, look-ups and
+// removals by key leave the room for the next ones. The rest is tested: that writes to present keys
+// and the calls for all pairs leave it too, and that insertions then request no memory. The status
+// of an insertion must be read all the same:
 //
 //     if (intmap_failed(intmap_put(&map, 21, 7))) {
 //         abort(); // there was room
@@ -523,7 +524,7 @@ INTMAP_NONNULL INTMAP_MUST_USE static inline intmap_status intmap_with_room(intm
 // of a slot to another place of it, and so does intmap_insert with a present key. A growing map
 // moves pairs to other slots. A walk that goes on after that may miss pairs, or show some again. To
 // change values along a walk, call intmap_replace. To remove pairs along a walk and miss none, call
-// intmap_retain or intmap_cut.
+// intmap_retain, intmap_cut or intmap_keep_marked.
 INTMAP_NONNULL intmap_found_pair intmap_step(const intmap *map, intmap_cursor *at) INTMAP_CALL;
 
 // Copies pairs of the walk from the cursor on, at most `room`, and moves the cursor behind them. It
@@ -595,26 +596,37 @@ INTMAP_NONNULL static inline const intmap_pair *intmap_walk_next(intmap_walk *wa
 // number of slots stays. The call requests no memory. It takes the time of intmap_step.
 INTMAP_NONNULL intmap_found_pair intmap_cut(intmap *map, intmap_cursor *at) INTMAP_CALL;
 
-// Calls `keep` with each pair, in the order of the walk, and removes the pair if `keep` returns
+// Keeps or removes the next 64 pairs of the walk from the cursor on, or all that are left if they
+// are fewer. The lowest bit of `marks` is that of the first of these pairs, the next bit that of
+// the second, and so on. A pair whose bit is set stays, and the others are removed. The call
+// returns how many it removed. The pairs that stay keep their order, and the cursor is then behind
+// them. If no pair is left, the cursor stays. The number of slots stays. The call requests no
+// memory. It takes time in the pairs of the cursor's slot that are before the cursor, in the pairs
+// that it goes over, and in a 64th of the slots that it passes.
+INTMAP_NONNULL size_t intmap_keep_marked(intmap *map, intmap_cursor *at, uint64_t marks)
+    INTMAP_CALL;
+
+// Calls `keep` with each pair, in the order of the walk, and removes the pairs for which it returns
 // false. It returns how many it removed. The other pairs stay in the same order, and the number of
 // slots stays. `keep` is handed `argument`, which may be null. `keep` may make calls that only read
-// the map, and none that changes it. intmap_retain requests no memory. It takes the time of a whole
-// walk by intmap_step.
+// the map, and none that changes it. Such a call may still find pairs that `keep` refused: they are
+// removed behind the 64th pair since the last removal, and behind the last pair of the map.
+// intmap_retain requests no memory. It takes the time of a walk by intmap_copy_pairs and
+// intmap_keep_marked, 64 pairs at a time.
 INTMAP_NONNULL_TWO static inline size_t intmap_retain(intmap *map,
                                                       bool (*keep)(intmap_pair pair,
                                                                    void *argument),
                                                       void *argument) INTMAP_CALL {
     intmap_cursor at = intmap_start(), next = at;
-    intmap_found_pair seen;
-    size_t removed = 0;
-    while ((seen = intmap_step(map, &next)).status == INTMAP_PRESENT) {
-        if (keep(seen.pair, argument)) {
-            at = next;
-        } else {
-            intmap_cut(map, &at);
-            next = at;
-            removed++;
+    intmap_pair pairs[64];
+    size_t count, removed = 0;
+    while ((count = intmap_copy_pairs(map, &next, pairs, 64)) > 0) {
+        uint64_t marks = 0;
+        for (size_t i = 0; i < count; i++) {
+            marks |= (uint64_t)keep(pairs[i], argument) << i;
         }
+        removed += intmap_keep_marked(map, &at, marks);
+        next = at;
     }
     return removed;
 }

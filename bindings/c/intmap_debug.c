@@ -270,6 +270,8 @@ CALL(changing, intmap_found_value, add_present, (intmap *map, uint64_t key, uint
      (&one->map, key, more))
 CALL(changing, intmap_found_value, remove, (intmap *map, uint64_t key), (&one->map, key))
 CALL(changing, intmap_found_pair, cut, (intmap *map, intmap_cursor *at), (&one->map, at))
+CALL(changing, size_t, keep_marked, (intmap *map, intmap_cursor *at, uint64_t marks),
+     (&one->map, at, marks))
 
 // Those that may make the first map of a word.
 #define FIRST_CALL(type, name, parameters, arguments, no_memory)                                   \

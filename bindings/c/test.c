@@ -538,6 +538,34 @@ static void call_cut(size_t passed, size_t count) {
     EXPECT(!requested());
 }
 
+// Of the next 64 pairs keeps those whose bit is set, and passes them. Returns how many it removed.
+static size_t keep_marked(model *plain, size_t *passed, uint64_t marks) {
+    size_t removed = 0;
+    for (int bit = 0; bit < 64 && *passed < plain->len; bit++) {
+        if (marks >> bit & 1) {
+            ++*passed;
+        } else {
+            take_at(plain, *passed);
+            removed++;
+        }
+    }
+    return removed;
+}
+
+// Passes so many pairs, then keeps or removes the next 64.
+static void call_keep_marked(size_t passed, uint64_t marks) {
+    intmap_pair pairs[LARGEST_ROOM];
+    intmap_cursor at = intmap_start();
+    model *plain = &it->plain;
+    passed = intmap_copy_pairs(&it->map, &at, pairs, passed);
+    begin();
+    EXPECT(intmap_keep_marked(&it->map, &at, marks) == keep_marked(plain, &passed, marks));
+    intmap_found_pair next = intmap_step(&it->map, &at);
+    EXPECT(next.status == (passed < plain->len ? INTMAP_PRESENT : INTMAP_ABSENT));
+    EXPECT(passed == plain->len || same_pair(next.pair, plain->pairs[passed]));
+    EXPECT(!requested());
+}
+
 // How far a call has come that keeps the pairs whose values have no bit of a mask.
 typedef struct retained {
     uint64_t mask;
@@ -681,6 +709,7 @@ static void test_calls_without_memory(void) {
     call_at(3, 4);
     call_remove(3);
     call_cut(1, 2);
+    call_keep_marked(1, 2);
     call_retain(1);
     call_shrink_to_fit();
     call_clear();
@@ -1207,7 +1236,7 @@ static void test_start(void) {
     end_test();
 }
 
-// Steps and cuts at any two numbers, and at cursors that the map changed behind.
+// Steps, cuts and marks at any two numbers, and at cursors that the map changed behind.
 static void test_cursors(void) {
     const size_t far[] = {SIZE_MAX, SIZE_MAX - 1, SIZE_MAX / 2, 1000};
     model *plain = &it->plain;
@@ -1236,6 +1265,12 @@ static void test_cursors(void) {
             break;
         }
         size_t passed = before(plain, at);
+        if (number() % 16 == 0) {
+            uint64_t marks = number() | number();
+            size_t removed = keep_marked(plain, &passed, marks);
+            EXPECT(intmap_keep_marked(&it->map, &at, marks) == removed);
+            EXPECT(before(plain, at) == passed);
+        }
         bool is_left = passed < plain->len, is_cut = number() % 4 == 0;
         intmap_pair wanted = is_left ? plain->pairs[passed] : NO_PAIR;
         intmap_found_pair found = is_cut ? intmap_cut(&it->map, &at) : intmap_step(&it->map, &at);
@@ -1327,6 +1362,11 @@ static void test_one_slot(void) {
     }
     call_cut(100, 50);
     call_cut(0, 50);
+    const size_t places[] = {0, 1, 2, 63, 64, 65, LARGEST_ROOM};
+    for (size_t at = 0; at < sizeof places / sizeof places[0]; at++) {
+        call_keep_marked(places[at], number());
+        call_keep_marked(places[at], UINT64_MAX << at);
+    }
     check(it);
     call_equal();
     call_retain(3);
@@ -1344,6 +1384,10 @@ static void test_cuts(void) {
     call_retain(1);
     check(it);
     call_cut(LARGEST_ROOM, 3);
+    call_keep_marked(it->plain.len - 40, 0x0F0F0F0F0F0F0F0F);
+    call_keep_marked(it->plain.len - 64, 0);
+    call_keep_marked(it->plain.len, 0);
+    check(it);
     call_cut(0, 1000);
     EXPECT(it->plain.len == 0);
     check(it);
@@ -1602,6 +1646,8 @@ static void call_on_key(uint64_t key, uint64_t value, unsigned which) {
 static void call_on_all(uint64_t value, unsigned which) {
     if (which < 40) {
         call_cut(value % 60, value % 5);
+    } else if (which < 46) {
+        call_keep_marked(value % 60, value | value >> 32);
     } else if (which < 50) {
         check_walk(it, 1 + value % LARGEST_ROOM);
     } else if (which < 55) {

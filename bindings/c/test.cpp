@@ -68,6 +68,8 @@ static bool clones_and_walks(intmap *map) {
     intmap_found_pair first = intmap_step(map, &at);
     intmap_found_pair second = intmap_cut(map, &at);
     is_good = is_good && first.pair.key == pairs[0].key && second.pair.key == pairs[1].key;
+    at = intmap_start();
+    is_good = is_good && intmap_keep_marked(map, &at, 1) == 0 && intmap_len(map) == 1;
     intmap_clear(map);
     intmap_free(&other);
     return is_good && intmap_len(map) == 0 && intmap_equal(map, map);

@@ -114,7 +114,7 @@ intmap_status intmap_set_load_factor(intmap *map, size_t thousandths) INTMAP_CAL
     return STATUS(do_intmap_set_load_factor(BYTES(map), thousandths));
 }
 
-// The next two read and write structs of the caller by address, with the low byte first.
+// The next three read and write structs of the caller by address, with the low byte first.
 
 static inline void turn_cursor(intmap_cursor *at) {
     if (HIGH_BYTE_FIRST) {
@@ -159,6 +159,13 @@ ALIGNED intmap_found_pair intmap_cut(intmap *map, intmap_cursor *at) INTMAP_CALL
     do_intmap_cut(BYTES(&found), BYTES(map), BYTES(at));
     turn_cursor(at);
     return turned(found);
+}
+
+ALIGNED size_t intmap_keep_marked(intmap *map, intmap_cursor *at, uint64_t marks) INTMAP_CALL {
+    turn_cursor(at);
+    size_t removed = (size_t)do_intmap_keep_marked(BYTES(map), BYTES(at), marks);
+    turn_cursor(at);
+    return removed;
 }
 
 bool intmap_equal(const intmap *map, const intmap *other) INTMAP_CALL {

@@ -1,14 +1,17 @@
 -- What a walk by a cursor returns to C, and what it leaves of a map, m before and n after.
-use Rattle.std.specs.Prelude.{◌≡◌, ◌⊎◌, ℕ, ◌+◌, List, [], ◌∷◌, take, drop, length, None}
+use Rattle.std.specs.Prelude.{◌≡◌, ◌⊎◌, ℕ, ◌+◌, List, [], ◌∷◌, ◌++◌, cond, take, drop, length, None}
+use Rattle.std.specs.List.{list_any}
 use Rattle.intmap_table.specs.declared.table.walk.Cursor.{Cursor}
 use Rattle.intmap.specs.Bindings.{Updates}
+use Rattle.intmap.specs.Classes.{same_key}
 use Rattle.intmap.specs.Copying.{AreCopied}
+use Rattle.intmap.specs.Keeping.{dropped_by, kept_by, next_pairs}
 use Rattle.intmap.specs.Map.{passed, with_walk}
 use Rattle.intmap_c.specs.Statuses.{present_status, absent_status}
 use Rattle.intmap_c.specs.declared.answer.FoundPair.{FoundPair}
 use Rattle.intmap_c.specs.declared.answer.Pair.{Pair}
 use Rattle.intmap_c.specs.Answers.{no_pair, pair_of}
-use Rattle.intmap_c.specs.Calls.{State, itself}
+use Rattle.intmap_c.specs.Calls.{State, bound_to, itself}
 
 -- the first pair of the walk from the cursor on is returned, and the cursor is behind it; or none is left, and the cursor stays
 pub record TakesStep (m : State) (at to : Cursor) (found : FoundPair) : Type 0 where
@@ -31,4 +34,14 @@ pub record Cuts (m n : State) (at to : Cursor) (found : FoundPair) : Type 0 wher
       ⊎ ((found ≡ no_pair absent_status) × (drop (passed itself m at) m.walk ≡ []) × (n ≡ m) × (to ≡ at))
   pub before : take (passed itself n to) n.walk ≡ take (passed itself m at) m.walk
   pub same : passed itself n to ≡ passed itself m at
+  pub state : n ≡ with_walk m n.walk
+
+-- of the next 64 pairs of the walk from the cursor on, those whose bit is set stay, and the cursor is behind them. So many others were removed: their keys are absent, and each other key has its value. If no pair is left, the cursor stays
+pub record Keeps (m n : State) (at to : Cursor) (marks removed : ℕ) : Type 0 where
+  pub walk : n.walk ≡ take (passed itself m at) m.walk ++ (kept_by marks (next_pairs itself m.walk m.capacity at) ++ drop (passed itself m at + 64) m.walk)
+  pub behind : passed itself n to ≡ passed itself m at + length (kept_by marks (next_pairs itself m.walk m.capacity at))
+  pub stays : next_pairs itself m.walk m.capacity at ≡ [] → to ≡ at
+  pub removed_count : removed ≡ length (dropped_by marks (next_pairs itself m.walk m.capacity at))
+  pub bindings : (q : ℕ) → bound_to n q ≡ cond (list_any (λ pair. same_key itself q pair.0) (dropped_by marks (next_pairs itself m.walk m.capacity at))) None (bound_to m q)
+  pub len : length n.walk + removed ≡ length m.walk
   pub state : n ≡ with_walk m n.walk

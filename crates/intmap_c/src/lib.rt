@@ -10,6 +10,7 @@
 mod answer;
 mod figures;
 mod handle;
+mod keep;
 mod lent;
 mod make;
 mod pairs;
