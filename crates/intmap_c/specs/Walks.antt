@@ -41,7 +41,7 @@ pub record Keeps (m n : State) (at to : Cursor) (marks removed : ℕ) : Type 0 w
   pub walk : n.walk ≡ take (passed itself m at) m.walk ++ (kept_by marks (next_pairs itself m.walk m.capacity at) ++ drop (passed itself m at + 64) m.walk)
   pub behind : passed itself n to ≡ passed itself m at + length (kept_by marks (next_pairs itself m.walk m.capacity at))
   pub stays : next_pairs itself m.walk m.capacity at ≡ [] → to ≡ at
-  pub removed_count : removed ≡ length (dropped_by marks (next_pairs itself m.walk m.capacity at))
+  pub count : removed ≡ length (dropped_by marks (next_pairs itself m.walk m.capacity at))
   pub bindings : (q : ℕ) → bound_to n q ≡ cond (list_any (λ pair. same_key itself q pair.0) (dropped_by marks (next_pairs itself m.walk m.capacity at))) None (bound_to m q)
   pub len : length n.walk + removed ≡ length m.walk
   pub state : n ≡ with_walk m n.walk

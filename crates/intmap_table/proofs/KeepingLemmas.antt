@@ -1,8 +1,8 @@
 -- What bits of a word that are read in turn leave of lists.
-use Rattle.std.proofs.Common.{◌≡◌, ℕ, zero, suc, inl, inr, ◌+◌, ◌/◌, ◌%◌, ◌<◌, ◌≤◌, ◌==◌, Bool, true, cond, count_ones, List, [], ◌∷◌, ◌++◌, length, take, drop, refl, sym, ap, ◌∙◌, arith, append-nil, append_assoc, length-append}
+use Rattle.std.proofs.Common.{◌≡◌, ℕ, zero, suc, inl, inr, ◌+◌, ◌-◌, ◌/◌, ◌%◌, ◌<◌, ◌≤◌, ◌==◌, Bool, true, cond, count_ones, List, [], ◌∷◌, ◌++◌, length, take, drop, min, refl, sym, ap, ◌∙◌, arith, append-nil, append_assoc, length-append}
 use Rattle.std.specs.Int.Count.{ones}
 use Rattle.std.proofs.lemmas.Bool.{cases_lt}
-use Rattle.std.proofs.lemmas.List.{take_at, drop_at, take_all, drop_all, drop-drop, take-append-drop, length-take-le, nil_from_length}
+use Rattle.std.proofs.lemmas.List.{take_at, drop_at, take_all, drop_all, drop-drop, length-drop, length-take, length-take-le, nil_from_length}
 use Rattle.std.proofs.lemmas.Nat.{div-add-mod', ones_cat}
 use Rattle.intmap_table.specs.Keeping.{kept_by}
 use Rattle.intmap_table.specs.Retaining.{Retains}
@@ -42,17 +42,14 @@ module _ {P : Type 0} where
       (Retains-kept_from Says (λ (f : KeepBits) (word : ℕ). f.word ≡ word) (λ word _. word % 2 == 1) (λ word _. word / 2)
       (λ f x b g word own said. (said.is ∙ ap (λ n. n % 2 == 1) own, said.word ∙ ap (λ n. n / 2) own)) f.word f g L M refl r).0
 
-  -- no element was gone over
-  pub Keeps-none : (f : KeepBits) (L : List P) (i : ℕ) → Keeps f L i f L i
-  Keeps-none f L i = record { asked = []; kept = []; rest = drop i L; old = refl; told = (refl, refl); new = sym (take-append-drop i L); on = omega arith }
-
-  -- no more elements are left than there were
-  pub length-Keeps : (f g : KeepBits) (L M : List P) (i j : ℕ) → Keeps f L i g M j → length M ≤ length L
-  length-Keeps f g L M i j k =
-      let old = ap length (take-append-drop i L) in let parts = length-append (take i L) (drop i L) in
-      let left = ap length k.old in let left_parts = length-append k.asked k.rest in let few = length-Retains Says f g k.asked k.kept k.told in
-      let new = ap length k.new in let new_parts = length-append (take i L) (k.kept ++ k.rest) in let stay_parts = length-append k.kept k.rest in
-      omega (arith, old, parts, left, left_parts, few, new, new_parts, stay_parts)
+  -- how long the parts are
+  pub lengths-Keeps : (f g : KeepBits) (L M : List P) (i j : ℕ) (k : Keeps f L i g M j)
+      → (length k.asked + length k.rest ≡ length L - i) × (length M ≡ min i (length L) + (length k.kept + length k.rest)) × (length k.kept ≤ length k.asked)
+  lengths-Keeps f g L M i j k = (
+    sym (length-append k.asked k.rest) ∙ ap length (sym k.old) ∙ length-drop i L,
+    ap length k.new ∙ length-append (take i L) (k.kept ++ k.rest) ∙ (λ h. length-take i L h + length-append k.kept k.rest h),
+    length-Retains Says f g k.asked k.kept k.told,
+  )
 
   -- elements at the front were removed
   pub Keeps-gone : (f g : KeepBits) (L gone left : List P) → L ≡ gone ++ left → Retains Says f gone [] g → Keeps f L 0 g left 0
@@ -84,7 +81,7 @@ module _ {P : Type 0} where
     pub drop-Keeps : drop j M ≡ one.rest
     drop-Keeps = ap (drop j) whole ∙ drop_at (take i L ++ one.kept) one.rest j front
 
-    pub reached-Keeps : length M ≡ j + length one.rest
+    reached-Keeps : length M ≡ j + length one.rest
     reached-Keeps = let sum = length-append (take i L ++ one.kept) one.rest in let all = ap length whole in omega (arith, sum, all, front)
 
     -- one walk goes on where another stopped

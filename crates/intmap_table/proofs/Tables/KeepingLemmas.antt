@@ -3,16 +3,15 @@ use Rattle.std.proofs.Common.{◌≡◌, inl, inr, ℕ, ◌+◌, ◌-◌, ◌<�
 use Rattle.std.specs.Prelude.{All}
 use Rattle.std.proofs.Math.Seq.{take-append_seam}
 use Rattle.std.proofs.lemmas.Bool.{cases_lt}
-use Rattle.std.proofs.lemmas.List.{get_or-append_right, get_or_past, length-drop, length-take}
+use Rattle.std.proofs.lemmas.List.{get_or-append_right, get_or_past}
 use Rattle.std.proofs.lemmas.List.Elements.{All-drop, All-get_or, All-take}
 use Rattle.intmap_table.specs.Classes.{slot_number}
-use Rattle.intmap_table.specs.Tables.Keeping.{Says, Keeps, KeepsRows}
+use Rattle.intmap_table.specs.Tables.Keeping.{Keeps, KeepsRows}
 use Rattle.intmap_table.specs.Tables.Rows.{IsTable}
 use Rattle.intmap_table.specs.Tables.Slots.{joined, count_before}
 use Rattle.intmap_table.specs.declared.linked.keep.KeepBits.{KeepBits}
 use Rattle.intmap_table.specs.declared.table.walk.Cursor.{Cursor}
-use Rattle.intmap_table.proofs.KeepingLemmas.{Keeps-then, left-Says}
-use Rattle.intmap_table.proofs.RetainLemmas.{length-Retains}
+use Rattle.intmap_table.proofs.KeepingLemmas.{Keeps-then, left-Says, lengths-Keeps}
 use Rattle.intmap_table.proofs.Tables.AroundLemmas.{joined-around, joined-before, left-same, length-around, taken-same}
 use Rattle.intmap_table.proofs.Tables.CursorLemmas.{before-past, drop-before, take-before}
 use Rattle.intmap_table.proofs.Tables.FilledLemmas.{row-within}
@@ -59,12 +58,7 @@ module _ {P : Type 0} (f g : KeepBits) (R S : List (List P)) (i j k : ℕ) (left
       ∙ sym (append_assoc front (take j (get_or R i [])) (row.kept ++ (row.rest ++ behind))) ∙ ap (λ Z. Z ++ (row.kept ++ (row.rest ++ behind))) (sym (take-before R i j))
 
   pub reached : count_before S i k ≡ count_before R i j + length row.kept
-  reached =
-      let before = ap length front-left in let few = length-Retains Says f g row.asked row.kept row.told in
-      let old = ap length row.old in let old_sum = length-append row.asked row.rest in let drop_len = length-drop j (get_or R i []) in
-      let new = ap length row.new in let new_sum = length-append (take j (get_or R i [])) (row.kept ++ row.rest) in let more = length-append row.kept row.rest in
-      let take_len = length-take j (get_or R i []) in
-      omega (arith, before, few, old, old_sum, drop_len, new, new_sum, more, take_len, row.on)
+  reached = let before = ap length front-left in let parts = lengths-Keeps f g (get_or R i []) (get_or S i []) j k row in omega (arith, before, parts, row.on)
 
   -- as a part of all
   abbrev pub Keeps-row : Keeps f (joined R) (count_before R i j) g (joined S) (count_before S i k)
@@ -81,27 +75,19 @@ module _ {P : Type 0} (f g : KeepBits) (R S : List (List P)) (i j k : ℕ) (left
 module _ {P : Type 0} (f g : KeepBits) (L M : List P) (i j : ℕ) (k : Keeps f L i g M j) where
   -- if an element was gone over, the place is within the list, or at its end
   pub within-Keeps : 0 < length k.asked → j ≤ length M
-  within-Keeps some =
-      let old = ap length k.old in let old_sum = length-append k.asked k.rest in let drop_len = length-drop i L in
-      let new = ap length k.new in let new_sum = length-append (take i L) (k.kept ++ k.rest) in let more = length-append k.kept k.rest in
-      let take_len = length-take i L in
-      omega (arith, some, old, old_sum, drop_len, new, new_sum, more, take_len, k.on)
+  within-Keeps some = let parts = lengths-Keeps f g L M i j k in omega (arith, some, parts, k.on)
 
   -- otherwise the place stays
   pub stays-Keeps : k.asked ≡ [] → j ≡ i
-  stays-Keeps none = let few = length-Retains Says f g k.asked k.kept k.told in let e = ap length none in omega (arith, few, e, k.on)
+  stays-Keeps none = let parts = lengths-Keeps f g L M i j k in let e = ap length none in omega (arith, parts, e, k.on)
 
   -- with a bit and an element one was gone over
-  pub some-Keeps : (0 < g.left → length M ≤ j) → 0 < f.left → i < length L → 0 < length k.asked
+  some-Keeps : (0 < g.left → length M ≤ j) → 0 < f.left → i < length L → 0 < length k.asked
   some-Keeps ends some below = elim (cases_lt 0 (length k.asked)) as (λ _. 0 < length k.asked) [
     | inl more ↦ more
     | inr none ↦
-        let few = length-Retains Says f g k.asked k.kept k.told in let count = left-Says f g k.asked k.kept k.told in
-        let end = ends (omega (arith, some, none, count)) in
-        let old = ap length k.old in let old_sum = length-append k.asked k.rest in let drop_len = length-drop i L in
-        let new = ap length k.new in let new_sum = length-append (take i L) (k.kept ++ k.rest) in let rest_sum = length-append k.kept k.rest in
-        let take_len = length-take i L in
-        omega (arith, none, few, end, old, old_sum, drop_len, new, new_sum, rest_sum, take_len, k.on, below)
+        let count = left-Says f g k.asked k.kept k.told in let end = ends (omega (arith, some, none, count)) in let parts = lengths-Keeps f g L M i j k in
+        omega (arith, none, end, parts, k.on, below)
   ]
 
 module _ {K X : Type 0} (number : K → ℕ) where
@@ -111,8 +97,8 @@ module _ {K X : Type 0} (number : K → ℕ) where
   KeepsRows-row f g R S at k table left_table left row = record {
     pairs = Keeps-row f g R S at.slot at.place k left row;
     slot = λ p some.
-        let old = ap length row.old in let old_sum = length-append row.asked row.rest in let drop_len = length-drop at.place (get_or R at.slot []) in
-        let below = row-within R at.slot (omega (arith, some, old, old_sum, drop_len)) in
+        let parts = lengths-Keeps f g (get_or R at.slot []) (get_or S at.slot []) at.place k row in
+        let below = row-within R at.slot (omega (arith, some, parts)) in
         let Own = λ (q : K × X). slot_number number q.0 (length R) ≡ at.slot in
         let all : All Own (row.asked ++ row.rest) = subst (All Own) row.old (All-drop Own at.place (get_or R at.slot []) (table.in_place at.slot below)) in
         let own : All Own row.asked = subst (All Own) (take-append_seam row.asked row.rest) (All-take Own (length row.asked) (row.asked ++ row.rest) all) in

@@ -2,7 +2,7 @@ use Rattle.std.proofs.Common.{length, false, cond, set, ap, arith}
 use Rattle.std.proofs.lemmas.List.{length-map}
 use Rattle.intmap_table.specs.Classes.{slot_number}
 use Rattle.intmap_table.specs.Tables.Nodes.{is_empty, rows_in, row_in}
-use Rattle.intmap_table.proofs.KeepingLemmas.{length-Keeps}
+use Rattle.intmap_table.proofs.KeepingLemmas.{lengths-Keeps}
 use Rattle.intmap_table.proofs.Nodes.HomeLemmas.{Home-kept, Rows-table}
 use Rattle.intmap_table.proofs.Nodes.LinkedLemmas.{HaveRows, IsRow, Row-here, Row-of, Row-shrunk}
 use Rattle.intmap_table.proofs.table.slots.Slots.keep_at.Goals as goal
@@ -18,10 +18,10 @@ row g c =
 done : (g : _) (c : After-keep g) → IsRow g.K.IntKey.number_of c.self.inside.slots.items c.self.inside.pool (rows_in c.self.inside.slots.items c.self.inside.pool.nodes) c.args.index c.index_mut-slot.result.now
     → HaveRows g.K.IntKey.number_of (set c.self.inside.slots.items c.args.index c.keep.new.slot) c.keep.new.pool (cond (is_empty c.keep.new.slot) (set c.self.inside.bits c.args.index false) c.self.inside.bits) c.self.inside.mask (set (rows_in c.self.inside.slots.items c.self.inside.pool.nodes) c.args.index (row_in c.keep.new.pool.nodes c.keep.new.slot))
 done g c r =
-    let len = ap length r.is in let few = length-Keeps _ _ _ _ _ _ c.keep.ensures.pairs in
+    let len = ap length r.is in let parts = lengths-Keeps _ _ _ _ _ _ c.keep.ensures.pairs in
     Row-shrunk g.K.IntKey.number_of c.self.inside.slots.items c.self.inside.pool c.self.inside.bits c.self.inside.mask c.args.index c.index_mut-slot.result.now (λ ps. row_in c.keep.new.pool.nodes c.keep.new.slot) c.keep.new.pool c.keep.new.slot c.self.invariant r c.keep.ensures.slot
     (Home-kept (λ p. slot_number g.K.IntKey.number_of p.0 (length c.self.inside.slots.items)) c.args.index _ _ _ _ _ _ c.keep.ensures.pairs r.own)
-    (λ some. omega (arith, some, few, len))
+    (λ some. omega (arith, some, parts, len))
 
 pub returns-then-index-self-clause-table : goal.returns-then-index-self-clause-table
 returns-then-index-self-clause-table g c = rw (← c.self.view_is) (Rows-table _ _ _ _ _ c.self.invariant)
