@@ -30,7 +30,7 @@
 //     grep -v '^// Compilers: ' intmap.c | sha256sum
 //
 // Compilers: rattle-kit-13b logic dac8208d650f15bf; clang version 22.1.8
-// Sources: 260c969aaa9a440d6dad8d7c57acbcc9e71e52c9cdd3ae45d287ff4c7f26abce
+// Sources: f992b5eb701acdb5e84dfe70a6d35a6566ff2e1b4472d91c707e93f44bc58aec
 //
 // SPDX-License-Identifier: MIT
 //
@@ -166,6 +166,13 @@ static inline void store_address(char *at, char *x) {
     memcpy(at, &x, 8);
 }
 #endif
+
+// Loads the low bytes of a number, at most 8.
+static inline uint64_t load_bytes(const char *at, size_t count) {
+    uint64_t x = 0;
+    memcpy(&x, at, count);
+    return LOW_FIRST_64(x);
+}
 
 // Stores the low bytes of a number, at most 8.
 static inline void store_bytes(char *at, uint64_t x, size_t count) {
@@ -340,22 +347,22 @@ static inline struct byte_address made_byte_address(uint8_t first, char *second)
     made.second = second;
     return made;
 }
-struct word_word {
-    uint64_t first;
-    uint64_t second;
-};
-static inline struct word_word made_word_word(uint64_t first, uint64_t second) {
-    struct word_word made;
-    made.first = first;
-    made.second = second;
-    return made;
-}
 struct byte_word {
     uint8_t first;
     uint64_t second;
 };
 static inline struct byte_word made_byte_word(uint8_t first, uint64_t second) {
     struct byte_word made;
+    made.first = first;
+    made.second = second;
+    return made;
+}
+struct word_word {
+    uint64_t first;
+    uint64_t second;
+};
+static inline struct word_word made_word_word(uint64_t first, uint64_t second) {
+    struct word_word made;
     made.first = first;
     made.second = second;
     return made;
@@ -523,6 +530,14 @@ enum {
     FOUND_PAIR_STATUS = 16,
     FOUND_PAIR_SIZE = 24
 };
+// Result<bool, Refused<u64>>
+enum {
+    MADE_BOOL_HAS_FAILED = 0,
+    MADE_BOOL_MADE = 1,
+    MADE_BOOL_VALUE = 8,
+    MADE_BOOL_CAUSE = 16,
+    MADE_BOOL_SIZE = 24
+};
 // Result<Option<u64>, Refused<u64>>
 enum {
     MADE_OPTION_2_HAS_FAILED = 0,
@@ -554,6 +569,13 @@ enum {
     NODE_VALUE = 16,
     NODE_SIZE = 24
 };
+// Option, in Rattle's library
+enum {
+    OPTION_HAS = 0,
+    OPTION_KEY = 8,
+    OPTION_VALUE = 16,
+    OPTION_SIZE = 24
+};
 // Vec, in Rattle's library
 enum {
     VEC_ADDRESS = 0,
@@ -569,6 +591,20 @@ enum {
     CURSOR_PLACE = 8,
     CURSOR_SIZE = 16
 };
+// Bits for the next pairs, as many as are left: those of the word, from its lowest one up.
+// KeepBits, in crates/intmap_table/src/linked/keep.rt
+enum {
+    KEEP_BITS_WORD = 0,
+    KEEP_BITS_LEFT = 8,
+    KEEP_BITS_SIZE = 16
+};
+// The marks of one word that a walk hasn't passed yet, and the place of this word.
+// MarksLeft, in crates/intmap_table/src/bits.rt
+enum {
+    MARKS_LEFT_AT = 0,
+    MARKS_LEFT_WORD = 8,
+    MARKS_LEFT_SIZE = 16
+};
 // (Stored<u64>, Kept<u64>)
 enum {
     PAIR_SIZE = 16
@@ -576,9 +612,9 @@ enum {
 // Numbers that the sources name. Statuses are those of intmap.h, without a sign.
 
 #define MULTIPLIER UINT64_C(11400714819323198549)
-#define NODE_LIMIT UINT64_C(281470681743360)
 #define NOWHERE_HIGH 65535
 #define NOWHERE UINT64_C(281474976710655)
+#define NODE_LIMIT UINT64_C(281470681743360)
 #define NOWHERE_LOW 4294967295u
 #define NO_MEMORY 4294967295u
 #define TOO_LARGE 4294967294u
@@ -655,52 +691,71 @@ static ALWAYS_INLINE struct byte_address intmap_get_counted(char *map, uint64_t 
     return made_byte_address(1, node_2 + NODE_VALUE);
 }
 
-// The last node of a chain (no node if there is no pair), and the number of pairs.
-// intmap_table::linked::chain::last_in, in crates/intmap_table/src/linked/chain.rt
-static ALWAYS_INLINE struct word_word chain_last_in(char *pool, uint64_t from) {
-    if (from >= NODE_LIMIT) {
-        return made_word_word(NOWHERE, 0);
+// A link that leads through the pairs of the cursor's slot from its place on, but for the first one of the slot.
+// intmap_table::table::slots::reached::link_to, in crates/intmap_table/src/table/slots/reached.rt
+static ALWAYS_INLINE uint64_t reached_link_to(char *slots, uint64_t slots_len, char *pool, uint64_t at_slot, uint64_t at_place) {
+    if (!((slots_len > at_slot) & (at_place != 0))) {
+        return NOWHERE;
+    }
+    char *node = slots + (at_slot * NODE_SIZE);
+    if (load8(node + NODE_HAS_PAIR) != 1) {
+        return NOWHERE;
+    }
+    uint16_t high = load16(node + NODE_HIGH);
+    uint64_t link = link_of(high, load32(node + NODE_LOW));
+    uint64_t r2 = at_place - 1;
+    if (!((r2 != 0) & (high != NOWHERE_HIGH))) {
+        return link;
     }
     char *nodes = load_address(pool + POOL_NODES);
-    uint64_t place = 0;
-    uint64_t at = from;
+    uint64_t r2_2 = r2;
+    uint64_t at = link;
     for (;;) {
-        char *node = nodes + (at * NODE_SIZE);
-        if (load8(node + NODE_HAS_PAIR) != 1) {
+        char *node_2 = nodes + (at * NODE_SIZE);
+        if (load8(node_2 + NODE_HAS_PAIR) != 1) {
             abort(); // The proof excludes this.
         }
-        uint16_t high = load16(node + NODE_HIGH);
-        uint64_t next_place = place + 1;
-        if (high == NOWHERE_HIGH) {
-            return made_word_word(at, next_place);
+        uint16_t high_2 = load16(node_2 + NODE_HIGH);
+        uint64_t link_2 = link_of(high_2, load32(node_2 + NODE_LOW));
+        uint64_t r2_3 = r2_2 - 1;
+        if (!((r2_3 != 0) & (high_2 != NOWHERE_HIGH))) {
+            return link_2;
         }
-        place = next_place;
-        at = link_of(high, load32(node + NODE_LOW));
+        r2_2 = r2_3;
+        at = link_2;
     }
 }
 
-// The node at a place of a chain.
-// intmap_table::linked::chain::seek, in crates/intmap_table/src/linked/chain.rt
-static ALWAYS_INLINE uint64_t chain_seek(char *pool, uint64_t from, uint64_t place) {
-    if (place == 0) {
-        return from;
-    }
-    char *nodes = load_address(pool + POOL_NODES);
-    uint64_t at = from;
-    uint64_t place_2 = 0;
-    for (;;) {
-        char *node = nodes + (at * NODE_SIZE);
-        if (load8(node + NODE_HAS_PAIR) != 1) {
-            abort(); // The proof excludes this.
+// The first marked index from `_from` on.
+// intmap_table::bits::Bits::next_in, in crates/intmap_table/src/bits.rt
+static ALWAYS_INLINE struct byte_word bits_next_in(char *bits, char *left) {
+    uint64_t at_4, r18;
+    uint64_t word = load64(left + MARKS_LEFT_WORD);
+    uint64_t at = load64(left + MARKS_LEFT_AT);
+    if (word == 0) {
+        uint64_t at_2 = at;
+        for (;;) {
+            uint64_t at_3 = at_2 + 1;
+            if (load64(bits + BITS_WORDS_LEN) <= at_3) {
+                return made_byte_word(0, 0);
+            }
+            uint64_t bits_2 = load64(load_address(bits + BITS_WORDS) + (at_3 << 3));
+            store64(left + MARKS_LEFT_WORD, bits_2);
+            store64(left + MARKS_LEFT_AT, at_3);
+            if (bits_2 != 0) {
+                at_4 = at_3;
+                r18 = bits_2;
+                break;
+            }
+            at_2 = at_3;
         }
-        uint64_t link = link_of(load16(node + NODE_HIGH), load32(node + NODE_LOW));
-        uint64_t next_place = place_2 + 1;
-        if (next_place == place) {
-            return link;
-        }
-        at = link;
-        place_2 = next_place;
+    } else {
+        at_4 = at;
+        r18 = word;
     }
+    uint64_t lowest = place_of_lowest_1(r18);
+    store64(left + MARKS_LEFT_WORD, (r18 - 1) & r18);
+    return made_byte_word(1, (at_4 << 6) | lowest);
 }
 
 // Removes the pair of a node, which is used again before any other one that is free.
@@ -812,6 +867,256 @@ static ALIGNED NOINLINE void slots_add_empty(char *slots, uint64_t count) {
         }
         at = next_at;
     }
+}
+
+// Removes the pair at a place of a slot, if there is one.
+// intmap_table::table::slots::Slots::remove_at, in crates/intmap_table/src/table/slots/pairs.rt
+static ALWAYS_INLINE void slots_remove_at(char *result, char *map, uint64_t index, uint64_t place) {
+    uint8_t has_pair_2;
+    uint64_t has, key_3, value_3;
+    if (load64(map + INT_MAP_MASK) < index) {
+        memset(result, 0, OPTION_SIZE);
+        return;
+    }
+    char *node = load_address(map + INT_MAP_SLOTS) + (index * NODE_SIZE);
+    uint8_t has_pair = load8(node + NODE_HAS_PAIR);
+    if (has_pair == 1) {
+        uint64_t r2, key_2, value_2;
+        uint16_t high = load16(node + NODE_HIGH);
+        uint64_t link = link_of(high, load32(node + NODE_LOW));
+        if (place == 0) {
+            struct word_word pop_front_of_several;
+            if (high == NOWHERE_HIGH) {
+                uint64_t key = load64(node + NODE_KEY);
+                uint64_t value = load64(node + NODE_VALUE);
+                memset(node, 0, NODE_SIZE);
+                pop_front_of_several = made_word_word(key, value);
+            } else {
+                struct word_word pop_front_of_several_2 = removal_pop_front_of_several(node, link, map + INT_MAP_NODES);
+                pop_front_of_several = pop_front_of_several_2;
+            }
+            r2 = 1;
+            key_2 = pop_front_of_several.first;
+            value_2 = pop_front_of_several.second;
+        } else {
+            uint64_t r40 = place - 1;
+            uint64_t nodes_len = load64(map + INT_MAP_NODES_LEN);
+            if (nodes_len > link) {
+                char *nodes = load_address(map + INT_MAP_NODES);
+                uint64_t place_2 = 0;
+                uint64_t at = link;
+                uint64_t at_2 = NOWHERE;
+                for (;;) {
+                    char *node_2 = nodes + (at * NODE_SIZE);
+                    if (load8(node_2 + NODE_HAS_PAIR) != 1) {
+                        r2 = 0;
+                        key_2 = 0;
+                        value_2 = 0;
+                        break;
+                    }
+                    if (place_2 == r40) {
+                        uint16_t high_2 = load16(node_2 + NODE_HIGH);
+                        uint32_t low = load32(node_2 + NODE_LOW);
+                        struct word_word release = pool_release(map + INT_MAP_NODES, at);
+                        if (at_2 >= NODE_LIMIT) {
+                            if (load8(node + NODE_HAS_PAIR) != 1) {
+                                abort(); // The proof excludes this.
+                            }
+                            store16(node + NODE_HIGH, high_2);
+                            store32(node + NODE_LOW, low);
+                        } else {
+                            char *node_3 = load_address(map + INT_MAP_NODES) + (at_2 * NODE_SIZE);
+                            if (load8(node_3 + NODE_HAS_PAIR) != 1) {
+                                abort(); // The proof excludes this.
+                            }
+                            store16(node_3 + NODE_HIGH, high_2);
+                            store32(node_3 + NODE_LOW, low);
+                        }
+                        r2 = 1;
+                        key_2 = release.first;
+                        value_2 = release.second;
+                        break;
+                    }
+                    uint64_t link_2 = link_of(load16(node_2 + NODE_HIGH), load32(node_2 + NODE_LOW));
+                    if (nodes_len <= link_2) {
+                        r2 = 0;
+                        key_2 = 0;
+                        value_2 = 0;
+                        break;
+                    }
+                    place_2 = place_2 + 1;
+                    at_2 = at;
+                    at = link_2;
+                }
+            } else {
+                r2 = 0;
+                key_2 = 0;
+                value_2 = 0;
+            }
+        }
+        has_pair_2 = load8(node + NODE_HAS_PAIR);
+        has = r2;
+        key_3 = key_2;
+        value_3 = value_2;
+    } else {
+        has_pair_2 = has_pair;
+        has = 0;
+        key_3 = 0;
+        value_3 = 0;
+    }
+    if (has_pair_2 == 0) {
+        char *word_at = load_address(map + INT_MAP_WORDS) + ((index >> 3) & UINT64_C(0x1FFFFFFFFFFFFFF8));
+        store64(word_at, load64(word_at) & (~((uint64_t)1 << (index & 63))));
+    }
+    store64(result + OPTION_HAS, has);
+    store64(result + OPTION_KEY, key_3);
+    store64(result + OPTION_VALUE, value_3);
+}
+
+// Keeps or removes pairs behind the first one of a slot, from the place on, each as its bit says.
+// intmap_table::linked::keep::keep_behind, in crates/intmap_table/src/linked/keep.rt
+static ALIGNED NOINLINE void keep_keep_behind(char *slot, char *pool, char *place, char *bits) {
+    if (load8(slot + NODE_HAS_PAIR) != 1) {
+        return;
+    }
+    uint64_t link = link_of(load16(slot + NODE_HIGH), load32(slot + NODE_LOW));
+    uint64_t r27 = load64(place) - 1;
+    uint64_t nodes_len = load64(pool + POOL_NODES_LEN);
+    if (nodes_len <= link) {
+        return;
+    }
+    char *nodes = load_address(pool + POOL_NODES);
+    uint64_t place_2 = 0;
+    uint64_t at = link;
+    uint64_t at_2 = NOWHERE;
+    for (;;) {
+        char *node = nodes + (at * NODE_SIZE);
+        if (load8(node + NODE_HAS_PAIR) != 1) {
+            return;
+        }
+        if (place_2 == r27) {
+            uint64_t left = load64(bits + KEEP_BITS_LEFT);
+            if (left == 0) {
+                return;
+            }
+            uint64_t left_2 = left;
+            uint64_t at_3 = at_2;
+            uint64_t at_4 = at;
+            for (;;) {
+                uint64_t at_5;
+                if (load64(pool + POOL_NODES_LEN) <= at_4) {
+                    return;
+                }
+                uint64_t offset = at_4 * NODE_SIZE;
+                char *node_2 = load_address(pool + POOL_NODES) + offset;
+                if (load8(node_2 + NODE_HAS_PAIR) != 1) {
+                    return;
+                }
+                uint64_t link_2 = link_of(load16(node_2 + NODE_HIGH), load32(node_2 + NODE_LOW));
+                uint64_t word = load64(bits + KEEP_BITS_WORD);
+                store64(bits + KEEP_BITS_WORD, word >> 1);
+                store64(bits + KEEP_BITS_LEFT, left_2 - 1);
+                if ((word & 1) == 0) {
+                    char *node_3 = load_address(pool + POOL_NODES) + offset;
+                    if (load8(node_3 + NODE_HAS_PAIR) != 1) {
+                        abort(); // The proof excludes this.
+                    }
+                    uint16_t high = load16(node_3 + NODE_HIGH);
+                    uint32_t low = load32(node_3 + NODE_LOW);
+                    pool_release(pool, at_4);
+                    if (at_3 >= NODE_LIMIT) {
+                        if (load8(slot + NODE_HAS_PAIR) != 1) {
+                            abort(); // The proof excludes this.
+                        }
+                        store16(slot + NODE_HIGH, high);
+                        store32(slot + NODE_LOW, low);
+                        at_5 = at_3;
+                    } else {
+                        char *node_4 = load_address(pool + POOL_NODES) + (at_3 * NODE_SIZE);
+                        if (load8(node_4 + NODE_HAS_PAIR) != 1) {
+                            abort(); // The proof excludes this.
+                        }
+                        store16(node_4 + NODE_HIGH, high);
+                        store32(node_4 + NODE_LOW, low);
+                        at_5 = at_3;
+                    }
+                } else {
+                    store64(place, load64(place) + 1);
+                    at_5 = at_4;
+                }
+                uint64_t left_3 = load64(bits + KEEP_BITS_LEFT);
+                if (left_3 == 0) {
+                    return;
+                }
+                left_2 = left_3;
+                at_3 = at_5;
+                at_4 = link_2;
+            }
+        }
+        uint64_t link_3 = link_of(load16(node + NODE_HIGH), load32(node + NODE_LOW));
+        if (nodes_len <= link_3) {
+            return;
+        }
+        place_2 = place_2 + 1;
+        at_2 = at;
+        at = link_3;
+    }
+}
+
+// Keeps or removes pairs of a slot, from the place on, each as its bit says, in their order.
+// intmap_table::table::slots::Slots::keep_at, in crates/intmap_table/src/table/slots/keep.rt
+static ALWAYS_INLINE void slots_keep_at(char *map, uint64_t index, char *place, char *bits) {
+    uint8_t has_pair_3;
+    if (load64(map + INT_MAP_MASK) < index) {
+        return;
+    }
+    char *node = load_address(map + INT_MAP_SLOTS) + (index * NODE_SIZE);
+    if (load64(place) == 0) {
+        uint64_t left = load64(bits + KEEP_BITS_LEFT);
+        if (left != 0) {
+            uint64_t left_2 = left;
+            for (;;) {
+                uint8_t has_pair = load8(node + NODE_HAS_PAIR);
+                if (has_pair != 1) {
+                    has_pair_3 = has_pair;
+                    goto after_keep_keep_2;
+                }
+                uint16_t high = load16(node + NODE_HIGH);
+                uint64_t link = link_of(high, load32(node + NODE_LOW));
+                uint64_t word = load64(bits + KEEP_BITS_WORD);
+                store64(bits + KEEP_BITS_WORD, word >> 1);
+                store64(bits + KEEP_BITS_LEFT, left_2 - 1);
+                if ((word & 1) != 0) {
+                    store64(place, 1);
+                    keep_keep_behind(node, map + INT_MAP_NODES, place, bits);
+                    break;
+                }
+                if (high == NOWHERE_HIGH) {
+                    uint8_t has_pair_2 = load8(node + NODE_HAS_PAIR);
+                    memset(node, 0, NODE_SIZE);
+                    if (has_pair_2 != 1) {
+                        abort(); // The proof excludes this.
+                    }
+                } else {
+                    removal_pop_front_of_several(node, link, map + INT_MAP_NODES);
+                }
+                uint64_t left_3 = load64(bits + KEEP_BITS_LEFT);
+                if (left_3 == 0) {
+                    break;
+                }
+                left_2 = left_3;
+            }
+        }
+    } else {
+        keep_keep_behind(node, map + INT_MAP_NODES, place, bits);
+    }
+    has_pair_3 = load8(node + NODE_HAS_PAIR);
+after_keep_keep_2:;
+    if (has_pair_3 != 0) {
+        return;
+    }
+    char *word_at = load_address(map + INT_MAP_WORDS) + ((index >> 3) & UINT64_C(0x1FFFFFFFFFFFFFF8));
+    store64(word_at, load64(word_at) & (~((uint64_t)1 << (index & 63))));
 }
 
 // Removes the key's pair from a slot that holds several.
@@ -1076,6 +1381,8 @@ static ALIGNED NOINLINE struct byte_word clone_clone_chain(char *pool, uint64_t 
 static ALWAYS_INLINE void slots_clone(char *result, char *map) {
     char *address;
     char *dangling = (char *)no_bytes;
+    uint64_t marks_left_room[2];
+    char *marks_left = (char *)marks_left_room;
     uint64_t vec_room[3];
     char *vec = (char *)vec_room;
     uint64_t pool_room[5];
@@ -1142,87 +1449,71 @@ arm_1:;
         } else {
             bits = load64(load_address(map + INT_MAP_WORDS));
         }
-        uint64_t word = 0;
-        uint64_t bits_2 = bits;
-        for (;;) {
-            uint64_t word_4, bits_4;
-            uint16_t high_2;
-            uint32_t low;
-            if (bits_2 == 0) {
-                uint64_t words_len_2 = load64(map + INT_MAP_WORDS_LEN);
-                uint64_t word_2 = word;
-                for (;;) {
-                    uint64_t word_3 = word_2 + 1;
-                    if (words_len_2 <= word_3) {
-                        slots_add_empty(vec, slots_len_2);
-                        uint64_t mask = load64(map + INT_MAP_MASK);
-                        store8(result + MADE_SLOTS_HAS_FAILED, 0);
-                        store64(result + MADE_SLOTS_MASK, mask);
-                        store_address(result + MADE_SLOTS_WORDS, words);
-                        store64(result + MADE_SLOTS_WORDS_LEN, words_len);
-                        store64(result + MADE_SLOTS_WORDS_ROOM, words_room);
-                        memcpy(result + MADE_SLOTS_SLOTS, vec, VEC_SIZE);
-                        memcpy(result + MADE_SLOTS_NODES, pool, POOL_SIZE);
+        store64(marks_left + MARKS_LEFT_AT, 0);
+        store64(marks_left + MARKS_LEFT_WORD, bits);
+        struct byte_word next_in = bits_next_in(map + INT_MAP_WORDS, marks_left);
+        if (next_in.first == 1) {
+            struct byte_word at = next_in;
+            for (;;) {
+                uint16_t high_2;
+                uint32_t low;
+                if (load64(vec + VEC_LEN) <= at.second) {
+                    uint64_t least = lesser(at.second + 64, slots_len_2);
+                    slots_add_empty(vec, least);
+                }
+                uint64_t offset = at.second * NODE_SIZE;
+                char *node = slots + offset;
+                if (load8(node + NODE_HAS_PAIR) != 1) {
+                    abort(); // The proof excludes this.
+                }
+                uint16_t high = load16(node + NODE_HIGH);
+                uint64_t value = load64(node + NODE_VALUE);
+                uint64_t key = load64(node + NODE_KEY);
+                if (high == NOWHERE_HIGH) {
+                    high_2 = NOWHERE_HIGH;
+                    low = NOWHERE_LOW;
+                } else {
+                    struct byte_word clone_chain = clone_clone_chain(map + INT_MAP_NODES, link_of(high, load32(node + NODE_LOW)), pool);
+                    if (clone_chain.first != 0) {
+                        if (load64(pool + POOL_NODES_ROOM) != 0) {
+                            rattle_dealloc(load_address(pool + POOL_NODES));
+                        }
+                        if (words_room != 0) {
+                            rattle_dealloc(words);
+                        }
+                        if (load64(vec + VEC_ROOM) != 0) {
+                            rattle_dealloc(load_address(vec + VEC_ADDRESS));
+                        }
+                        store8(result + MADE_SLOTS_HAS_FAILED, 1);
+                        memset(result + MADE_SLOTS_MASK, 0, SLOTS_SIZE);
                         return;
                     }
-                    uint64_t bits_3 = load64(load_address(map + INT_MAP_WORDS) + (word_3 << 3));
-                    if (bits_3 != 0) {
-                        word_4 = word_3;
-                        bits_4 = bits_3;
-                        break;
-                    }
-                    word_2 = word_3;
+                    high_2 = (uint16_t)(clone_chain.second >> 32);
+                    low = (uint32_t)clone_chain.second;
                 }
-            } else {
-                word_4 = word;
-                bits_4 = bits_2;
-            }
-            uint64_t lowest = place_of_lowest_1(bits_4);
-            uint64_t at = lowest | (word_4 << 6);
-            uint64_t bits_5 = (bits_4 - 1) & bits_4;
-            if (load64(vec + VEC_LEN) <= at) {
-                uint64_t least = lesser(at + 64, slots_len_2);
-                slots_add_empty(vec, least);
-            }
-            uint64_t offset = at * NODE_SIZE;
-            char *node = slots + offset;
-            if (load8(node + NODE_HAS_PAIR) != 1) {
-                abort(); // The proof excludes this.
-            }
-            uint16_t high = load16(node + NODE_HIGH);
-            uint64_t value = load64(node + NODE_VALUE);
-            uint64_t key = load64(node + NODE_KEY);
-            if (high == NOWHERE_HIGH) {
-                high_2 = NOWHERE_HIGH;
-                low = NOWHERE_LOW;
-            } else {
-                struct byte_word clone_chain = clone_clone_chain(map + INT_MAP_NODES, link_of(high, load32(node + NODE_LOW)), pool);
-                if (clone_chain.first != 0) {
-                    if (load64(pool + POOL_NODES_ROOM) != 0) {
-                        rattle_dealloc(load_address(pool + POOL_NODES));
-                    }
-                    if (words_room != 0) {
-                        rattle_dealloc(words);
-                    }
-                    if (load64(vec + VEC_ROOM) != 0) {
-                        rattle_dealloc(load_address(vec + VEC_ADDRESS));
-                    }
-                    store8(result + MADE_SLOTS_HAS_FAILED, 1);
-                    memset(result + MADE_SLOTS_MASK, 0, SLOTS_SIZE);
-                    return;
+                char *node_2 = load_address(vec + VEC_ADDRESS) + offset;
+                store16(node_2 + NODE_HAS_PAIR, 1);
+                store16(node_2 + NODE_HIGH, high_2);
+                store32(node_2 + NODE_LOW, low);
+                store64(node_2 + NODE_KEY, key);
+                store64(node_2 + NODE_VALUE, value);
+                struct byte_word next_in_2 = bits_next_in(map + INT_MAP_WORDS, marks_left);
+                if (next_in_2.first != 1) {
+                    break;
                 }
-                high_2 = (uint16_t)(clone_chain.second >> 32);
-                low = (uint32_t)clone_chain.second;
+                at = next_in_2;
             }
-            char *node_2 = load_address(vec + VEC_ADDRESS) + offset;
-            store16(node_2 + NODE_HAS_PAIR, 1);
-            store16(node_2 + NODE_HIGH, high_2);
-            store32(node_2 + NODE_LOW, low);
-            store64(node_2 + NODE_KEY, key);
-            store64(node_2 + NODE_VALUE, value);
-            word = word_4;
-            bits_2 = bits_5;
         }
+        slots_add_empty(vec, slots_len_2);
+        uint64_t mask = load64(map + INT_MAP_MASK);
+        store8(result + MADE_SLOTS_HAS_FAILED, 0);
+        store64(result + MADE_SLOTS_MASK, mask);
+        store_address(result + MADE_SLOTS_WORDS, words);
+        store64(result + MADE_SLOTS_WORDS_LEN, words_len);
+        store64(result + MADE_SLOTS_WORDS_ROOM, words_room);
+        memcpy(result + MADE_SLOTS_SLOTS, vec, VEC_SIZE);
+        memcpy(result + MADE_SLOTS_NODES, pool, POOL_SIZE);
+        return;
     }
 arm_9:;
     if (words_room != 0) {
@@ -1458,6 +1749,30 @@ static ALIGNED NOINLINE struct byte_address handle_make_first(void) {
     return made_byte_address(0, NULL);
 }
 
+// The node at a place of a chain.
+// intmap_table::linked::chain::seek, in crates/intmap_table/src/linked/chain.rt
+static ALWAYS_INLINE uint64_t chain_seek(char *pool, uint64_t from, uint64_t place) {
+    if (place == 0) {
+        return from;
+    }
+    char *nodes = load_address(pool + POOL_NODES);
+    uint64_t at = from;
+    uint64_t place_2 = 0;
+    for (;;) {
+        char *node = nodes + (at * NODE_SIZE);
+        if (load8(node + NODE_HAS_PAIR) != 1) {
+            abort(); // The proof excludes this.
+        }
+        uint64_t link = link_of(load16(node + NODE_HIGH), load32(node + NODE_LOW));
+        uint64_t next_place = place_2 + 1;
+        if (next_place == place) {
+            return link;
+        }
+        at = link;
+        place_2 = next_place;
+    }
+}
+
 // Whether the map needn't grow for one more pair.
 // intmap::map::IntMap::takes_one_more, in crates/intmap/src/map/insert.rt
 static ALWAYS_INLINE bool intmap_takes_one_more(char *map) {
@@ -1637,6 +1952,30 @@ static ALIGNED NOINLINE void growth_put_behind_first(char *slot, char *pool, uin
     store32(slot + NODE_LOW, (uint32_t)link);
 }
 
+// The last node of a chain (no node if there is no pair), and the number of pairs.
+// intmap_table::linked::chain::last_in, in crates/intmap_table/src/linked/chain.rt
+static ALWAYS_INLINE struct word_word chain_last_in(char *pool, uint64_t from) {
+    if (from >= NODE_LIMIT) {
+        return made_word_word(NOWHERE, 0);
+    }
+    char *nodes = load_address(pool + POOL_NODES);
+    uint64_t place = 0;
+    uint64_t at = from;
+    for (;;) {
+        char *node = nodes + (at * NODE_SIZE);
+        if (load8(node + NODE_HAS_PAIR) != 1) {
+            abort(); // The proof excludes this.
+        }
+        uint16_t high = load16(node + NODE_HIGH);
+        uint64_t next_place = place + 1;
+        if (high == NOWHERE_HIGH) {
+            return made_word_word(at, next_place);
+        }
+        place = next_place;
+        at = link_of(high, load32(node + NODE_LOW));
+    }
+}
+
 // Puts a pair last, and returns its place.
 // intmap_table::linked::row::insertion::push_further, in crates/intmap_table/src/linked/row/insertion.rt
 static ALIGNED NOINLINE void insertion_push_further(char *result, char *slot, char *pool, uint64_t pair_key, uint64_t pair_value) {
@@ -1749,6 +2088,8 @@ static ALIGNED uint8_t slots_enlarge(char *map, uint64_t capacity, uint64_t room
     char *address;
     uint64_t words_len;
     char *dangling = (char *)no_bytes;
+    uint64_t marks_left_room[2];
+    char *marks_left = (char *)marks_left_room;
     uint64_t bits_room[3];
     char *bits = (char *)bits_room;
     uint64_t pool_room[5];
@@ -1808,102 +2149,86 @@ static ALIGNED uint8_t slots_enlarge(char *map, uint64_t capacity, uint64_t room
         } else {
             bits_2 = load64(load_address(map + INT_MAP_WORDS));
         }
-        uint64_t a3 = ~mask;
-        uint64_t x = a3 & mask_2;
-        uint64_t x_2 = a3 & mask_2;
-        uint64_t word = 0;
-        uint64_t bits_3 = bits_2;
-        for (;;) {
-            uint64_t word_4, bits_5;
-            if (bits_3 == 0) {
-                uint64_t words_len_2 = load64(map + INT_MAP_WORDS_LEN);
-                uint64_t word_2 = word;
-                for (;;) {
-                    uint64_t word_3 = word_2 + 1;
-                    if (words_len_2 <= word_3) {
-                        store64(map + INT_MAP_MASK, mask_2);
-                        char *words = load_address(map + INT_MAP_WORDS);
-                        uint64_t words_room_2 = load64(map + INT_MAP_WORDS_ROOM);
-                        memcpy(map + INT_MAP_WORDS, bits, BITS_SIZE);
-                        if (words_room_2 != 0) {
-                            rattle_dealloc(words);
-                        }
-                        char *nodes_2 = load_address(map + INT_MAP_NODES);
-                        uint64_t nodes_room = load64(map + INT_MAP_NODES_ROOM);
-                        memcpy(map + INT_MAP_NODES, pool, POOL_SIZE);
-                        if (nodes_room == 0) {
-                            return 0;
-                        }
-                        rattle_dealloc(nodes_2);
-                        return 0;
-                    }
-                    uint64_t bits_4 = load64(load_address(map + INT_MAP_WORDS) + (word_3 << 3));
-                    if (bits_4 != 0) {
-                        word_4 = word_3;
-                        bits_5 = bits_4;
-                        break;
-                    }
-                    word_2 = word_3;
+        store64(marks_left + MARKS_LEFT_AT, 0);
+        store64(marks_left + MARKS_LEFT_WORD, bits_2);
+        struct byte_word next_in = bits_next_in(map + INT_MAP_WORDS, marks_left);
+        if (next_in.first == 1) {
+            uint64_t a3 = ~mask;
+            uint64_t x = a3 & mask_2;
+            uint64_t x_2 = a3 & mask_2;
+            struct byte_word at = next_in;
+            for (;;) {
+                char *node = load_address(map + INT_MAP_SLOTS) + (at.second * NODE_SIZE);
+                if (load8(node + NODE_HAS_PAIR) != 1) {
+                    abort(); // The proof excludes this.
                 }
-            } else {
-                word_4 = word;
-                bits_5 = bits_3;
-            }
-            uint64_t lowest = place_of_lowest_1(bits_5);
-            uint64_t at = lowest | (word_4 << 6);
-            uint64_t bits_6 = (bits_5 - 1) & bits_5;
-            char *node = load_address(map + INT_MAP_SLOTS) + (at * NODE_SIZE);
-            if (load8(node + NODE_HAS_PAIR) != 1) {
-                abort(); // The proof excludes this.
-            }
-            uint16_t high = load16(node + NODE_HIGH);
-            uint32_t low = load32(node + NODE_LOW);
-            uint64_t key = load64(node + NODE_KEY);
-            uint64_t index = (key * MULTIPLIER) & x;
-            uint64_t value = load64(node + NODE_VALUE);
-            memset(node, 0, NODE_SIZE);
-            refill_put_at(map + INT_MAP_SLOTS, bits, pool, index + at, 0, key, value);
-            if (high != NOWHERE_HIGH) {
-                uint64_t at_2 = NOWHERE;
-                uint64_t at_3 = link_of(high, low);
-                for (;;) {
-                    char *node_2 = load_address(map + INT_MAP_NODES) + (at_3 * NODE_SIZE);
-                    if (load8(node_2 + NODE_HAS_PAIR) != 1) {
-                        abort(); // The proof excludes this.
-                    }
-                    uint16_t high_2 = load16(node_2 + NODE_HIGH);
-                    uint64_t link = link_of(high_2, load32(node_2 + NODE_LOW));
-                    store16(node_2 + NODE_HIGH, (uint16_t)(at_2 >> 32));
-                    store32(node_2 + NODE_LOW, (uint32_t)at_2);
-                    if (high_2 == NOWHERE_HIGH) {
-                        if (at_3 >= NODE_LIMIT) {
-                            break;
+                uint16_t high = load16(node + NODE_HIGH);
+                uint32_t low = load32(node + NODE_LOW);
+                uint64_t key = load64(node + NODE_KEY);
+                uint64_t index = (key * MULTIPLIER) & x;
+                uint64_t value = load64(node + NODE_VALUE);
+                memset(node, 0, NODE_SIZE);
+                refill_put_at(map + INT_MAP_SLOTS, bits, pool, index + at.second, 0, key, value);
+                if (high != NOWHERE_HIGH) {
+                    uint64_t at_2 = NOWHERE;
+                    uint64_t at_3 = link_of(high, low);
+                    for (;;) {
+                        char *node_2 = load_address(map + INT_MAP_NODES) + (at_3 * NODE_SIZE);
+                        if (load8(node_2 + NODE_HAS_PAIR) != 1) {
+                            abort(); // The proof excludes this.
                         }
-                        uint64_t at_4 = at_3;
-                        for (;;) {
-                            char *node_3 = load_address(map + INT_MAP_NODES) + (at_4 * NODE_SIZE);
-                            if (load8(node_3 + NODE_HAS_PAIR) != 1) {
-                                abort(); // The proof excludes this.
+                        uint16_t high_2 = load16(node_2 + NODE_HIGH);
+                        uint64_t link = link_of(high_2, load32(node_2 + NODE_LOW));
+                        store16(node_2 + NODE_HIGH, (uint16_t)(at_2 >> 32));
+                        store32(node_2 + NODE_LOW, (uint32_t)at_2);
+                        if (high_2 == NOWHERE_HIGH) {
+                            if (at_3 >= NODE_LIMIT) {
+                                break;
                             }
-                            uint64_t index_2 = (load64(node_3 + NODE_KEY) * MULTIPLIER) & x_2;
-                            uint16_t high_3 = load16(node_3 + NODE_HIGH);
-                            uint64_t link_2 = link_of(high_3, load32(node_3 + NODE_LOW));
-                            struct word_word release = pool_release(map + INT_MAP_NODES, at_4);
-                            refill_put_at(map + INT_MAP_SLOTS, bits, pool, index_2 + at, (uint8_t)(index == index_2), release.first, release.second);
-                            if (high_3 == NOWHERE_HIGH) {
-                                goto loop_2_backedge;
+                            uint64_t at_4 = at_3;
+                            for (;;) {
+                                char *node_3 = load_address(map + INT_MAP_NODES) + (at_4 * NODE_SIZE);
+                                if (load8(node_3 + NODE_HAS_PAIR) != 1) {
+                                    abort(); // The proof excludes this.
+                                }
+                                uint64_t index_2 = (load64(node_3 + NODE_KEY) * MULTIPLIER) & x_2;
+                                uint16_t high_3 = load16(node_3 + NODE_HIGH);
+                                uint64_t link_2 = link_of(high_3, load32(node_3 + NODE_LOW));
+                                struct word_word release = pool_release(map + INT_MAP_NODES, at_4);
+                                refill_put_at(map + INT_MAP_SLOTS, bits, pool, index_2 + at.second, (uint8_t)(index == index_2), release.first, release.second);
+                                if (high_3 == NOWHERE_HIGH) {
+                                    goto loop_2_loopexit;
+                                }
+                                at_4 = link_2;
                             }
-                            at_4 = link_2;
                         }
+                        at_2 = at_3;
+                        at_3 = link;
                     }
-                    at_2 = at_3;
-                    at_3 = link;
                 }
+            loop_2_loopexit:;
+                struct byte_word next_in_2 = bits_next_in(map + INT_MAP_WORDS, marks_left);
+                if (next_in_2.first != 1) {
+                    break;
+                }
+                at = next_in_2;
             }
-        loop_2_backedge:;
-            word = word_4;
-            bits_3 = bits_6;
         }
+        store64(map + INT_MAP_MASK, mask_2);
+        char *words = load_address(map + INT_MAP_WORDS);
+        uint64_t words_room_2 = load64(map + INT_MAP_WORDS_ROOM);
+        memcpy(map + INT_MAP_WORDS, bits, BITS_SIZE);
+        if (words_room_2 != 0) {
+            rattle_dealloc(words);
+        }
+        char *nodes_2 = load_address(map + INT_MAP_NODES);
+        uint64_t nodes_room = load64(map + INT_MAP_NODES_ROOM);
+        memcpy(map + INT_MAP_NODES, pool, POOL_SIZE);
+        if (nodes_room == 0) {
+            return 0;
+        }
+        rattle_dealloc(nodes_2);
+        return 0;
     }
 arm_6_2:;
     if (!capacity_is_0) {
@@ -1994,6 +2319,159 @@ after_Slots_needed:;
     store64(result + MADE_LOCATION_PLACE, place);
 }
 
+// Inserts the pair of a key and a value as `insert_checked` does, if the first place of the slot doesn't settle it.
+// intmap::map::IntMap::insert_checked_otherwise, in crates/intmap/src/map/insert.rt
+static ALIGNED NOINLINE void intmap_insert_checked_otherwise(char *result, char *map, uint64_t slot, uint64_t key_key, uint64_t key_number, uint64_t value) {
+    uint64_t value_2, value_3, r20_2, r24_2;
+    uint8_t slot_or_cause, has_failed, made, slot_or_cause_2, has_failed_2, has_failed_4, slot_or_cause_3, r24_3;
+    uint64_t made_location_room[4];
+    char *made_location = (char *)made_location_room;
+    uint64_t made_usize_room[3];
+    char *made_usize = (char *)made_usize_room;
+    uint64_t r16_room[1];
+    char *r16 = (char *)r16_room;
+    uint64_t r20_room[1];
+    char *r20 = (char *)r20_room;
+    uint64_t r24_room[1];
+    char *r24 = (char *)r24_room;
+    memset(r16, 0, 7);
+    memset(r24, 0, 7);
+    bool takes_one_more = intmap_takes_one_more(map);
+    char *node = load_address(map + INT_MAP_SLOTS) + (slot * NODE_SIZE);
+    if (load8(node + NODE_HAS_PAIR) == 1) {
+        uint64_t at;
+        uint64_t link = link_of(load16(node + NODE_HIGH), load32(node + NODE_LOW));
+        uint64_t nodes_len = load64(map + INT_MAP_NODES_LEN);
+        if (nodes_len > link) {
+            char *nodes = load_address(map + INT_MAP_NODES);
+            char *node_2 = nodes + (link * NODE_SIZE);
+            if (load8(node_2 + NODE_HAS_PAIR) == 1) {
+                char *node_3 = node_2;
+                uint64_t link_2 = link;
+                for (;;) {
+                    if (load64(node_3 + NODE_KEY) == key_number) {
+                        value_2 = 0;
+                        slot_or_cause = 0;
+                        has_failed = 0;
+                        made = 0;
+                        goto join_4;
+                    }
+                    uint64_t link_3 = link_of(load16(node_3 + NODE_HIGH), load32(node_3 + NODE_LOW));
+                    if (nodes_len <= link_3) {
+                        at = link_2;
+                        break;
+                    }
+                    char *node_4 = nodes + (link_3 * NODE_SIZE);
+                    if (load8(node_4 + NODE_HAS_PAIR) != 1) {
+                        at = link_2;
+                        break;
+                    }
+                    node_3 = node_4;
+                    link_2 = link_3;
+                }
+            } else {
+                at = NOWHERE;
+            }
+        } else {
+            at = NOWHERE;
+        }
+        if (takes_one_more) {
+            uint64_t link_4;
+            uint64_t spare = load64(map + INT_MAP_SPARE);
+            if (spare == 0) {
+                pool_add_new(made_usize, map + INT_MAP_NODES, NOWHERE, key_key, value);
+                if (load8(made_usize + MADE_USIZE_HAS_FAILED) != 0) {
+                    value_3 = load64(made_usize + MADE_USIZE_VALUE);
+                    goto arm_2_2;
+                }
+                link_4 = load64(made_usize + MADE_USIZE_MADE_OR_KEY);
+            } else {
+                uint64_t free = load64(map + INT_MAP_FREE);
+                char *node_5 = load_address(map + INT_MAP_NODES) + (free * NODE_SIZE);
+                if (load8(node_5 + NODE_HAS_PAIR) != 0) {
+                    abort(); // The proof excludes this.
+                }
+                store64(map + INT_MAP_FREE, link_of(load16(node_5 + NODE_HIGH), load32(node_5 + NODE_LOW)));
+                store64(map + INT_MAP_SPARE, spare - 1);
+                uint8_t has_pair = load8(node_5 + NODE_HAS_PAIR);
+                store16(node_5 + NODE_HAS_PAIR, 1);
+                store16(node_5 + NODE_HIGH, NOWHERE_HIGH);
+                store32(node_5 + NODE_LOW, NOWHERE_LOW);
+                store64(node_5 + NODE_KEY, key_key);
+                store64(node_5 + NODE_VALUE, value);
+                if (has_pair != 0) {
+                    abort(); // The proof excludes this.
+                }
+                link_4 = free;
+            }
+            if (at >= NODE_LIMIT) {
+                if (load8(node + NODE_HAS_PAIR) != 1) {
+                    abort(); // The proof excludes this.
+                }
+                store16(node + NODE_HIGH, (uint16_t)(link_4 >> 32));
+                store32(node + NODE_LOW, (uint32_t)link_4);
+            } else {
+                char *node_6 = load_address(map + INT_MAP_NODES) + (at * NODE_SIZE);
+                if (load8(node_6 + NODE_HAS_PAIR) != 1) {
+                    abort(); // The proof excludes this.
+                }
+                store16(node_6 + NODE_HIGH, (uint16_t)(link_4 >> 32));
+                store32(node_6 + NODE_LOW, (uint32_t)link_4);
+            }
+            store64(map + INT_MAP_LEN, load64(map + INT_MAP_LEN) + 1);
+            value_2 = 0;
+            slot_or_cause = 0;
+            has_failed = 0;
+            made = 1;
+            goto join_4;
+        }
+        value_3 = value;
+    } else {
+        value_3 = value;
+    }
+arm_2_2:;
+    memset(made_location, 0, MADE_LOCATION_SIZE);
+    if (takes_one_more) {
+        memset(r20, 0, 7);
+        slot_or_cause_2 = 0;
+        r20_2 = value_3;
+        has_failed_2 = 1;
+    } else {
+        intmap_add_growing(made_location, map, slot, key_key, key_number, value_3);
+        uint8_t has_failed_3 = load8(made_location + MADE_LOCATION_HAS_FAILED);
+        if (has_failed_3 == 0) {
+            has_failed_4 = 0;
+            r24_2 = 0;
+            slot_or_cause_3 = 0;
+            r24_3 = 1;
+            goto join_10;
+        }
+        uint64_t key_or_value = load64(made_location + MADE_LOCATION_KEY_OR_VALUE);
+        uint8_t slot_or_cause_4 = load8(made_location + MADE_LOCATION_SLOT_OR_CAUSE);
+        memcpy(r20, made_location + MADE_LOCATION_SLOT_OR_CAUSE + 1, 7);
+        slot_or_cause_2 = slot_or_cause_4;
+        r20_2 = key_or_value;
+        has_failed_2 = has_failed_3;
+    }
+    memcpy(r24, r20, 7);
+    has_failed_4 = has_failed_2;
+    r24_2 = r20_2;
+    slot_or_cause_3 = slot_or_cause_2;
+    r24_3 = 0;
+join_10:;
+    memcpy(r16, r24, 7);
+    value_2 = r24_2;
+    slot_or_cause = slot_or_cause_3;
+    has_failed = has_failed_4;
+    made = r24_3;
+join_4:;
+    store8(result + MADE_BOOL_HAS_FAILED, has_failed);
+    store8(result + MADE_BOOL_MADE, made);
+    store64(result + MADE_BOOL_VALUE, value_2);
+    store8(result + MADE_BOOL_CAUSE, slot_or_cause);
+    memcpy(result + MADE_BOOL_CAUSE + 1, r16, 7);
+}
+
 // Removes the first pair of a slot with this link that holds others.
 // intmap_table::linked::row::insertion::replace_first_of_several, in crates/intmap_table/src/linked/row/insertion.rt
 static COLD uint64_t insertion_replace_first_of_several(char *slot, uint64_t link, char *pool, uint64_t new_key, uint64_t new_value) {
@@ -2018,7 +2496,7 @@ static COLD uint64_t insertion_replace_first_of_several(char *slot, uint64_t lin
 // Puts the pair of a key and a value last in a slot whose first pair, if there is one, has another key.
 // intmap_table::linked::row::insertion::put, in crates/intmap_table/src/linked/row/insertion.rt
 static ALWAYS_INLINE void insertion_put(char *result, char *slot, char *pool, uint64_t key_key, uint64_t key_number, uint64_t value, bool adds) {
-    uint64_t has_failed, value_3, value_4, at_2, spare, link_4;
+    uint64_t has_failed, value_3, value_4, at_2;
     uint64_t made_usize_room[3];
     char *made_usize = (char *)made_usize_room;
     if (load8(slot + NODE_HAS_PAIR) != 1) {
@@ -2087,59 +2565,60 @@ static ALWAYS_INLINE void insertion_put(char *result, char *slot, char *pool, ui
     } else {
         at_2 = NOWHERE;
     }
-    if (!adds) {
-        store64(result + MADE_OPTION_HAS_FAILED, 1);
-        store64(result + MADE_OPTION_HAS_MADE_OR_VALUE, value);
-        store64(result + MADE_OPTION_VALUE, 0);
-        return;
-    }
-    spare = load64(pool + POOL_SPARE);
-    if (spare == 0) {
-        pool_add_new(made_usize, pool, NOWHERE, key_key, value);
-        if (load8(made_usize + MADE_USIZE_HAS_FAILED) != 0) {
-            has_failed = 1;
-            value_3 = load64(made_usize + MADE_USIZE_VALUE);
+    if (adds) {
+        uint64_t link_4;
+        uint64_t spare = load64(pool + POOL_SPARE);
+        if (spare == 0) {
+            pool_add_new(made_usize, pool, NOWHERE, key_key, value);
+            if (load8(made_usize + MADE_USIZE_HAS_FAILED) != 0) {
+                has_failed = 1;
+                value_3 = load64(made_usize + MADE_USIZE_VALUE);
+                value_4 = 0;
+                goto join_7_2;
+            }
+            link_4 = load64(made_usize + MADE_USIZE_MADE_OR_KEY);
+        } else {
+            uint64_t free = load64(pool + POOL_FREE);
+            char *node_6 = load_address(pool + POOL_NODES) + (free * NODE_SIZE);
+            if (load8(node_6 + NODE_HAS_PAIR) != 0) {
+                abort(); // The proof excludes this.
+            }
+            store64(pool + POOL_FREE, link_of(load16(node_6 + NODE_HIGH), load32(node_6 + NODE_LOW)));
+            store64(pool + POOL_SPARE, spare - 1);
+            uint8_t has_pair = load8(node_6 + NODE_HAS_PAIR);
+            store16(node_6 + NODE_HAS_PAIR, 1);
+            store16(node_6 + NODE_HIGH, NOWHERE_HIGH);
+            store32(node_6 + NODE_LOW, NOWHERE_LOW);
+            store64(node_6 + NODE_KEY, key_key);
+            store64(node_6 + NODE_VALUE, value);
+            if (has_pair != 0) {
+                abort(); // The proof excludes this.
+            }
+            link_4 = free;
+        }
+        if (at_2 >= NODE_LIMIT) {
+            if (load8(slot + NODE_HAS_PAIR) != 1) {
+                abort(); // The proof excludes this.
+            }
+            store16(slot + NODE_HIGH, (uint16_t)(link_4 >> 32));
+            store32(slot + NODE_LOW, (uint32_t)link_4);
+            has_failed = 0;
+            value_3 = 0;
             value_4 = 0;
-            goto join_7_2;
+        } else {
+            char *node_7 = load_address(pool + POOL_NODES) + (at_2 * NODE_SIZE);
+            if (load8(node_7 + NODE_HAS_PAIR) != 1) {
+                abort(); // The proof excludes this.
+            }
+            store16(node_7 + NODE_HIGH, (uint16_t)(link_4 >> 32));
+            store32(node_7 + NODE_LOW, (uint32_t)link_4);
+            has_failed = 0;
+            value_3 = 0;
+            value_4 = 0;
         }
-        link_4 = load64(made_usize + MADE_USIZE_MADE_OR_KEY);
     } else {
-        uint64_t free = load64(pool + POOL_FREE);
-        char *node_6 = load_address(pool + POOL_NODES) + (free * NODE_SIZE);
-        if (load8(node_6 + NODE_HAS_PAIR) != 0) {
-            abort(); // The proof excludes this.
-        }
-        store64(pool + POOL_FREE, link_of(load16(node_6 + NODE_HIGH), load32(node_6 + NODE_LOW)));
-        store64(pool + POOL_SPARE, spare - 1);
-        uint8_t has_pair = load8(node_6 + NODE_HAS_PAIR);
-        store16(node_6 + NODE_HAS_PAIR, 1);
-        store16(node_6 + NODE_HIGH, NOWHERE_HIGH);
-        store32(node_6 + NODE_LOW, NOWHERE_LOW);
-        store64(node_6 + NODE_KEY, key_key);
-        store64(node_6 + NODE_VALUE, value);
-        if (has_pair != 0) {
-            abort(); // The proof excludes this.
-        }
-        link_4 = free;
-    }
-    if (at_2 >= NODE_LIMIT) {
-        if (load8(slot + NODE_HAS_PAIR) != 1) {
-            abort(); // The proof excludes this.
-        }
-        store16(slot + NODE_HIGH, (uint16_t)(link_4 >> 32));
-        store32(slot + NODE_LOW, (uint32_t)link_4);
-        has_failed = 0;
-        value_3 = 0;
-        value_4 = 0;
-    } else {
-        char *node_7 = load_address(pool + POOL_NODES) + (at_2 * NODE_SIZE);
-        if (load8(node_7 + NODE_HAS_PAIR) != 1) {
-            abort(); // The proof excludes this.
-        }
-        store16(node_7 + NODE_HIGH, (uint16_t)(link_4 >> 32));
-        store32(node_7 + NODE_LOW, (uint32_t)link_4);
-        has_failed = 0;
-        value_3 = 0;
+        has_failed = 1;
+        value_3 = value;
         value_4 = 0;
     }
 join_7_2:;
@@ -2156,7 +2635,6 @@ static ALIGNED NOINLINE void intmap_insert_otherwise(char *result, char *map, ui
     char *made_option = (char *)made_option_room;
     uint64_t made_location_room[4];
     char *made_location = (char *)made_location_room;
-    memset(made_location, 0, MADE_LOCATION_SIZE);
     bool takes_one_more = intmap_takes_one_more(map);
     memset(made_option, 0, MADE_OPTION_SIZE);
     insertion_put(made_option, load_address(map + INT_MAP_SLOTS) + (slot * NODE_SIZE), map + INT_MAP_NODES, key_key, key_number, value, takes_one_more);
@@ -2173,18 +2651,25 @@ static ALIGNED NOINLINE void intmap_insert_otherwise(char *result, char *map, ui
             made_or_cause = 0;
         }
     } else {
+        uint8_t has_failed_2;
+        uint64_t r24, r24_2;
+        memset(made_location, 0, MADE_LOCATION_SIZE);
         if (takes_one_more) {
-            store64(result + MADE_OPTION_2_HAS_FAILED, 1);
-            store64(result + MADE_OPTION_2_HAS_MADE_OR_VALUE, has_made_or_value);
-            store64(result + MADE_OPTION_2_MADE_OR_CAUSE, 0);
-            return;
+            has_failed_2 = 1;
+            r24 = has_made_or_value;
+            r24_2 = 0;
+        } else {
+            intmap_add_growing(made_location, map, slot, key_key, key_number, has_made_or_value);
+            uint8_t has_failed_3 = load8(made_location + MADE_LOCATION_HAS_FAILED);
+            bool has_failed_is_0 = has_failed_3 == 0;
+            has_failed_2 = has_failed_3;
+            r24 = has_failed_is_0 ? 0 : load64(made_location + MADE_LOCATION_KEY_OR_VALUE);
+            r24_2 = (has_failed_is_0 ? 0 : (((uint64_t)((uint64_t)load_bytes(made_location + MADE_LOCATION_SLOT_OR_CAUSE + 1, 7))) << 8)) | ((uint64_t)(has_failed_is_0 ? 0 : load8(made_location + MADE_LOCATION_SLOT_OR_CAUSE)));
         }
-        intmap_add_growing(made_location, map, slot, key_key, key_number, has_made_or_value);
-        uint8_t has_failed_2 = load8(made_location + MADE_LOCATION_HAS_FAILED);
-        bool has_failed_is_0 = has_failed_2 == 0;
+        bool has_failed_is_0_2 = has_failed_2 == 0;
         has_failed = (uint64_t)has_failed_2;
-        has_made_or_value_2 = has_failed_is_0 ? 0 : load64(made_location + MADE_LOCATION_KEY_OR_VALUE);
-        made_or_cause = has_failed_is_0 ? 0 : load64(made_location + MADE_LOCATION_SLOT_OR_CAUSE);
+        has_made_or_value_2 = has_failed_is_0_2 ? 0 : r24;
+        made_or_cause = has_failed_is_0_2 ? 0 : r24_2;
     }
     store64(result + MADE_OPTION_2_HAS_FAILED, has_failed);
     store64(result + MADE_OPTION_2_HAS_MADE_OR_VALUE, has_made_or_value_2);
@@ -2269,6 +2754,111 @@ static ALWAYS_INLINE bool do_intmap_contains_key(char *word, uint64_t key) {
     }
     struct byte_address get_counted = intmap_get_counted(map, key);
     return (get_counted.first & 1) != 0;
+}
+
+// Copies the pairs of the walk from the cursor on to the front of an array, and moves the cursor behind them.
+// intmap_copy_pairs, in crates/intmap_c/src/read.rt
+static ALWAYS_INLINE uint64_t do_intmap_copy_pairs(char *word, char *at, char *pairs, uint64_t pairs_len) {
+    uint64_t r0, place_2, slot_2, pairs_len_2;
+    uint64_t r3_room[10];
+    char *r3 = (char *)r3_room;
+    char *r4 = pairs + ((pairs == NULL) ? 4096 : 0);
+    char *map = load_address(word);
+    if (map == NULL) {
+        return 0;
+    }
+    uint64_t slot = load64(at + CURSOR_SLOT);
+    uint64_t place = load64(at + CURSOR_PLACE);
+    uint64_t sum = sum_or_most(slot, 1);
+    uint64_t chosen = (place == 0) ? slot : sum;
+    char *slots = load_address(map + INT_MAP_SLOTS);
+    uint64_t slots_len = load64(map + INT_MAP_SLOTS_LEN);
+    uint64_t link_to = reached_link_to(slots, slots_len, map + INT_MAP_NODES, slot, place);
+    uint64_t word_2 = chosen >> 6;
+    if (load64(map + INT_MAP_WORDS_LEN) > word_2) {
+        r0 = load64(load_address(map + INT_MAP_WORDS) + (word_2 << 3)) & (UINT64_MAX << (chosen & 63));
+    } else {
+        r0 = 0;
+    }
+    store64(r3, slot);
+    store64(r3 + 8, place);
+    store64(r3 + 16, link_to);
+    store64(r3 + 24, chosen);
+    store64(r3 + 32, word_2);
+    store64(r3 + 40, r0);
+    store_address(r3 + 48, map + INT_MAP_WORDS);
+    store_address(r3 + 56, slots);
+    store64(r3 + 64, slots_len);
+    store_address(r3 + 72, map + INT_MAP_NODES);
+    if (pairs_len == 0) {
+        place_2 = place;
+        slot_2 = slot;
+        pairs_len_2 = 0;
+    } else {
+        uint64_t slot_3 = slot;
+        uint64_t place_3 = place;
+        uint64_t r21 = link_to;
+        uint64_t r3_2 = 0;
+        for (;;) {
+            uint64_t slot_4, next_place_2, link_2, link_3;
+            char *r61, *r61_2;
+            struct byte_word next_in;
+            char *r19 = load_address(r3 + 72);
+            if (load64(r19 + 8) > r21) {
+                char *r11 = load_address(r19) + (r21 * 24);
+                if (load8(r11) == 1) {
+                    uint64_t link = link_of(load16(r11 + 2), load32(r11 + 4));
+                    store64(r3 + 16, link);
+                    uint64_t next_place = place_3 + 1;
+                    store64(r3 + 8, next_place);
+                    slot_4 = slot_3;
+                    next_place_2 = next_place;
+                    link_2 = link;
+                    r61 = r11;
+                    goto arm_6_2;
+                }
+            }
+            next_in = bits_next_in(load_address(r3 + 48), r3 + 32);
+            if (next_in.first != 1) {
+                place_2 = load64(r3 + 8);
+                slot_2 = load64(r3);
+                pairs_len_2 = r3_2;
+                break;
+            }
+            r61_2 = load_address(r3 + 56) + (next_in.second * 24);
+            if (load8(r61_2) != 1) {
+                abort(); // The proof excludes this.
+            }
+            link_3 = link_of(load16(r61_2 + 2), load32(r61_2 + 4));
+            store64(r3, next_in.second);
+            store64(r3 + 8, 1);
+            store64(r3 + 16, link_3);
+            store64(r3 + 24, next_in.second + 1);
+            slot_4 = next_in.second;
+            next_place_2 = 1;
+            link_2 = link_3;
+            r61 = r61_2;
+        arm_6_2:;
+            char *r63 = r4 + (r3_2 << 4);
+            uint64_t r48 = load64(r61 + 16);
+            store64(r63, load64(r61 + 8));
+            store64(r63 + 8, r48);
+            uint64_t r70 = r3_2 + 1;
+            if (r70 == pairs_len) {
+                place_2 = next_place_2;
+                slot_2 = slot_4;
+                pairs_len_2 = pairs_len;
+                break;
+            }
+            slot_3 = slot_4;
+            place_3 = next_place_2;
+            r21 = link_2;
+            r3_2 = r70;
+        }
+    }
+    store64(at + CURSOR_SLOT, slot_2);
+    store64(at + CURSOR_PLACE, place_2);
+    return pairs_len_2;
 }
 
 // Whether the same keys have the same values in both maps.
@@ -2453,95 +3043,68 @@ static ALWAYS_INLINE struct word_word do_intmap_get(char *word, uint64_t key) {
 static ALWAYS_INLINE char *do_intmap_step(char *result, char *word, char *at) {
     uint64_t key, value;
     uint32_t status;
+    uint64_t r1_room[10];
+    char *r1 = (char *)r1_room;
     char *map = load_address(word);
     if (map == NULL) {
         key = 0;
         value = 0;
         status = 0;
     } else {
-        char *node_3, *node_4, *node_7;
-        uint64_t sum, word_2, words_len, word_3, bits, word_4, lowest, at_4;
+        uint64_t r0, place_2, slot_2;
+        char *node_2, *r61;
+        struct byte_word next_in;
         uint64_t slot = load64(at + CURSOR_SLOT);
         uint64_t place = load64(at + CURSOR_PLACE);
-        if (slot <= load64(map + INT_MAP_MASK)) {
-            uint64_t offset = slot * NODE_SIZE;
-            char *node = load_address(map + INT_MAP_SLOTS) + offset;
+        uint64_t sum = sum_or_most(slot, 1);
+        uint64_t chosen = (place == 0) ? slot : sum;
+        char *slots = load_address(map + INT_MAP_SLOTS);
+        uint64_t slots_len = load64(map + INT_MAP_SLOTS_LEN);
+        uint64_t at_2 = reached_link_to(slots, slots_len, map + INT_MAP_NODES, slot, place);
+        uint64_t word_2 = chosen >> 6;
+        if (load64(map + INT_MAP_WORDS_LEN) > word_2) {
+            r0 = load64(load_address(map + INT_MAP_WORDS) + (word_2 << 3)) & (UINT64_MAX << (chosen & 63));
+        } else {
+            r0 = 0;
+        }
+        store64(r1, slot);
+        store64(r1 + 8, place);
+        store64(r1 + 16, at_2);
+        store64(r1 + 24, chosen);
+        store64(r1 + 32, word_2);
+        store64(r1 + 40, r0);
+        store_address(r1 + 48, map + INT_MAP_WORDS);
+        store_address(r1 + 56, slots);
+        store64(r1 + 64, slots_len);
+        store_address(r1 + 72, map + INT_MAP_NODES);
+        if (load64(map + INT_MAP_NODES_LEN) > at_2) {
+            char *node = load_address(map + INT_MAP_NODES) + (at_2 * NODE_SIZE);
             if (load8(node + NODE_HAS_PAIR) == 1) {
-                struct word_word last_in = chain_last_in(map + INT_MAP_NODES, link_of(load16(node + NODE_HIGH), load32(node + NODE_LOW)));
-                if (place < (last_in.second + 1)) {
-                    store64(at + CURSOR_PLACE, place + 1);
-                    char *node_2 = load_address(map + INT_MAP_SLOTS) + offset;
-                    if (load8(node_2 + NODE_HAS_PAIR) != 1) {
-                        goto arm_2_4;
-                    }
-                    if (place == 0) {
-                        node_3 = node_2;
-                        node_4 = node_2;
-                        goto arm_5;
-                    }
-                    uint64_t link = link_of(load16(node_2 + NODE_HIGH), load32(node_2 + NODE_LOW));
-                    uint64_t place_2 = place - 1;
-                    uint64_t at_2 = chain_seek(map + INT_MAP_NODES, link, place_2);
-                    char *nodes = load_address(map + INT_MAP_NODES);
-                    char *node_5 = nodes + (at_2 * NODE_SIZE);
-                    if (load8(node_5 + NODE_HAS_PAIR) != 1) {
-                        abort(); // The proof excludes this.
-                    }
-                    uint64_t at_3 = chain_seek(map + INT_MAP_NODES, link, place_2);
-                    char *node_6 = nodes + (at_3 * NODE_SIZE);
-                    if (load8(node_6 + NODE_HAS_PAIR) != 1) {
-                        abort(); // The proof excludes this.
-                    }
-                    node_3 = node_5;
-                    node_4 = node_6;
-                    goto arm_5;
-                }
+                place_2 = place + 1;
+                slot_2 = slot;
+                node_2 = node;
+                goto arm_5;
             }
         }
-        sum = sum_or_most(slot, 1);
-        word_2 = sum >> 6;
-        words_len = load64(map + INT_MAP_WORDS_LEN);
-        if (words_len > word_2) {
-            uint64_t r33 = load64(load_address(map + INT_MAP_WORDS) + (word_2 << 3)) & (UINT64_MAX << (sum & 63));
-            if (r33 != 0) {
-                word_3 = word_2;
-                bits = r33;
-                goto join_3_thread;
-            }
+        next_in = bits_next_in(map + INT_MAP_WORDS, r1 + 32);
+        if (next_in.first != 1) {
+            key = 0;
+            value = 0;
+            status = 0;
+            goto after_read_intmap_step;
         }
-        word_4 = word_2;
-        for (;;) {
-            uint64_t next_word = word_4 + 1;
-            if (words_len <= next_word) {
-                key = 0;
-                value = 0;
-                status = 0;
-                goto after_read_intmap_step;
-            }
-            uint64_t bits_2 = load64(load_address(map + INT_MAP_WORDS) + (next_word << 3));
-            if (bits_2 != 0) {
-                word_3 = next_word;
-                bits = bits_2;
-                break;
-            }
-            word_4 = next_word;
+        r61 = load_address(r1 + 56) + (next_in.second * 24);
+        if (load8(r61) != 1) {
+            abort(); // The proof excludes this.
         }
-    join_3_thread:;
-        lowest = place_of_lowest_1(bits);
-        at_4 = lowest | (word_3 << 6);
-        store64(at + CURSOR_SLOT, at_4);
-        store64(at + CURSOR_PLACE, 1);
-        node_7 = load_address(map + INT_MAP_SLOTS) + (at_4 * NODE_SIZE);
-        if (load8(node_7 + NODE_HAS_PAIR) == 1) {
-            node_3 = node_7;
-            node_4 = node_7;
-            goto arm_5;
-        }
-    arm_2_4:;
-        abort(); // The proof excludes this.
+        place_2 = 1;
+        slot_2 = next_in.second;
+        node_2 = r61;
     arm_5:;
-        key = load64(node_3 + NODE_KEY);
-        value = load64(node_4 + NODE_VALUE);
+        store64(at + CURSOR_SLOT, slot_2);
+        store64(at + CURSOR_PLACE, place_2);
+        key = load64(node_2 + 8);
+        value = load64(node_2 + 16);
         status = 1;
     }
 after_read_intmap_step:;
@@ -2673,6 +3236,10 @@ static ALWAYS_INLINE void do_intmap_clear(char *handle) {
 static ALWAYS_INLINE char *do_intmap_cut(char *result, char *handle, char *at) {
     uint64_t key, value;
     uint32_t status;
+    uint64_t marks_left_room[2];
+    char *marks_left = (char *)marks_left_room;
+    uint64_t option_room[3];
+    char *option = (char *)option_room;
     uint64_t map_address = load64(handle);
     store64(handle, 0);
     char *map = (char *)(uintptr_t)map_address;
@@ -2681,152 +3248,62 @@ static ALWAYS_INLINE char *do_intmap_cut(char *result, char *handle, char *at) {
         value = 0;
         status = 0;
     } else {
-        uint64_t link_2, r307091, slot_2, sum, word, words_len, word_2, bits, word_3, x12, x13, lowest, at_5, slot_3;
-        uint16_t high_2, high_4;
-        char *node_2, *pool, *node_6, *node_7, *word_at;
-        struct word_word release_2, r25, r25_2, pop_front_of_several;
+        uint64_t key_2, value_2, key_4, value_4;
         uint32_t r8;
-        uint64_t slot = load64(at + CURSOR_SLOT);
-        uint64_t place = load64(at + CURSOR_PLACE);
-        if (slot <= load64(map + INT_MAP_MASK)) {
-            char *node = load_address(map + INT_MAP_SLOTS) + (slot * NODE_SIZE);
-            if (load8(node + NODE_HAS_PAIR) == 1) {
-                uint16_t high = load16(node + NODE_HIGH);
-                uint64_t link = link_of(high, load32(node + NODE_LOW));
-                struct word_word last_in = chain_last_in(map + INT_MAP_NODES, link);
-                if (place < (last_in.second + 1)) {
-                    char *nodes, *nodes_2, *node_3;
-                    uint64_t at_2, at_3, at_4;
-                    switch (place) {
-                    case 0:
-                        link_2 = link;
-                        high_2 = high;
-                        r307091 = slot;
-                        node_2 = node;
-                        pool = map + INT_MAP_NODES;
-                        goto then_6;
-                    case 1:
-                        nodes = load_address(map + INT_MAP_NODES);
-                        at_2 = link;
-                        at_3 = NOWHERE;
-                        break;
-                    default:
-                        at_4 = chain_seek(map + INT_MAP_NODES, link, place - 2);
-                        nodes_2 = load_address(map + INT_MAP_NODES);
-                        node_3 = nodes_2 + (at_4 * NODE_SIZE);
-                        if (load8(node_3 + NODE_HAS_PAIR) != 1) {
-                            abort(); // The proof excludes this.
-                        }
-                        nodes = nodes_2;
-                        at_2 = link_of(load16(node_3 + NODE_HIGH), load32(node_3 + NODE_LOW));
-                        at_3 = at_4;
-                        break;
-                    }
-                    char *node_4 = nodes + (at_2 * NODE_SIZE);
-                    if (load8(node_4 + NODE_HAS_PAIR) != 1) {
-                        abort(); // The proof excludes this.
-                    }
-                    uint16_t high_3 = load16(node_4 + NODE_HIGH);
-                    uint32_t low = load32(node_4 + NODE_LOW);
-                    struct word_word release = pool_release(map + INT_MAP_NODES, at_2);
-                    if (at_3 >= NODE_LIMIT) {
-                        if (load8(node + NODE_HAS_PAIR) != 1) {
-                            abort(); // The proof excludes this.
-                        }
-                        store16(node + NODE_HIGH, high_3);
-                        store32(node + NODE_LOW, low);
-                        release_2 = release;
-                        goto x11;
-                    }
-                    char *node_5 = load_address(map + INT_MAP_NODES) + (at_3 * NODE_SIZE);
-                    if (load8(node_5 + NODE_HAS_PAIR) != 1) {
-                        abort(); // The proof excludes this.
-                    }
-                    store16(node_5 + NODE_HIGH, high_3);
-                    store32(node_5 + NODE_LOW, low);
-                    slot_2 = slot;
-                    node_6 = node;
-                    r25 = release;
-                    goto after_removal_remove_2;
-                }
+        memset(option, 0, OPTION_SIZE);
+        slots_remove_at(option, map, load64(at + CURSOR_SLOT), load64(at + CURSOR_PLACE));
+        if (load8(option + OPTION_HAS) == 1) {
+            key_2 = load64(option + OPTION_KEY);
+            value_2 = load64(option + OPTION_VALUE);
+        } else {
+            uint64_t word;
+            struct word_word pop_front_of_several;
+            uint64_t sum = sum_or_most(load64(at + CURSOR_SLOT), 1);
+            uint64_t at_2 = sum >> 6;
+            if (load64(map + INT_MAP_WORDS_LEN) > at_2) {
+                word = load64(load_address(map + INT_MAP_WORDS) + (at_2 << 3)) & (UINT64_MAX << (sum & 63));
+            } else {
+                word = 0;
             }
-        }
-        sum = sum_or_most(slot, 1);
-        word = sum >> 6;
-        words_len = load64(map + INT_MAP_WORDS_LEN);
-        if (words_len > word) {
-            uint64_t r33 = load64(load_address(map + INT_MAP_WORDS) + (word << 3)) & (UINT64_MAX << (sum & 63));
-            if (r33 != 0) {
-                word_2 = word;
-                bits = r33;
-                goto join_3_4;
-            }
-        }
-        word_3 = word;
-        for (;;) {
-            uint64_t next_word = word_3 + 1;
-            if (words_len <= next_word) {
-                x12 = 0;
+            store64(marks_left + MARKS_LEFT_AT, at_2);
+            store64(marks_left + MARKS_LEFT_WORD, word);
+            struct byte_word at_3 = bits_next_in(map + INT_MAP_WORDS, marks_left);
+            if (at_3.first != 1) {
+                key_4 = 0;
                 r8 = 0;
-                x13 = 0;
+                value_4 = 0;
                 goto after_walk_cut;
             }
-            uint64_t bits_2 = load64(load_address(map + INT_MAP_WORDS) + (next_word << 3));
-            if (bits_2 != 0) {
-                word_2 = next_word;
-                bits = bits_2;
-                break;
+            store64(at + CURSOR_SLOT, at_3.second);
+            store64(at + CURSOR_PLACE, 0);
+            char *node = load_address(map + INT_MAP_SLOTS) + (at_3.second * NODE_SIZE);
+            if (load8(node + NODE_HAS_PAIR) != 1) {
+                abort(); // The proof excludes this.
             }
-            word_3 = next_word;
+            uint16_t high = load16(node + NODE_HIGH);
+            if (high == NOWHERE_HIGH) {
+                uint64_t offset = (at_3.second >> 3) & UINT64_C(0x1FFFFFFFFFFFFFF8);
+                uint64_t bits = load64(load_address(map + INT_MAP_WORDS) + offset);
+                uint64_t key_3 = load64(node + NODE_KEY);
+                uint64_t value_3 = load64(node + NODE_VALUE);
+                memset(node, 0, NODE_SIZE);
+                store64(load_address(map + INT_MAP_WORDS) + offset, bits & (~((uint64_t)1 << (at_3.second & 63))));
+                pop_front_of_several = made_word_word(key_3, value_3);
+            } else {
+                struct word_word pop_front_of_several_2 = removal_pop_front_of_several(node, link_of(high, load32(node + NODE_LOW)), map + INT_MAP_NODES);
+                pop_front_of_several = pop_front_of_several_2;
+            }
+            key_2 = pop_front_of_several.first;
+            value_2 = pop_front_of_several.second;
         }
-    join_3_4:;
-        lowest = place_of_lowest_1(bits);
-        at_5 = lowest | (word_2 << 6);
-        store64(at + CURSOR_SLOT, at_5);
-        store64(at + CURSOR_PLACE, 0);
-        node_7 = load_address(map + INT_MAP_SLOTS) + (at_5 * NODE_SIZE);
-        if (load8(node_7 + NODE_HAS_PAIR) != 1) {
-            abort(); // The proof excludes this.
-        }
-        high_4 = load16(node_7 + NODE_HIGH);
-        link_2 = link_of(high_4, load32(node_7 + NODE_LOW));
-        high_2 = high_4;
-        r307091 = at_5;
-        node_2 = node_7;
-        pool = map + INT_MAP_NODES;
-    then_6:;
-        if (high_2 == NOWHERE_HIGH) {
-            uint64_t key_2 = load64(node_2 + NODE_KEY);
-            uint64_t value_2 = load64(node_2 + NODE_VALUE);
-            memset(node_2, 0, NODE_SIZE);
-            slot_3 = r307091;
-            r25_2 = made_word_word(key_2, value_2);
-            goto then_1_3;
-        }
-        pop_front_of_several = removal_pop_front_of_several(node_2, link_2, pool);
-        slot_2 = r307091;
-        node_6 = node_2;
-        r25 = pop_front_of_several;
-    after_removal_remove_2:;
-        if (load8(node_6 + NODE_HAS_PAIR) != 0) {
-            release_2 = r25;
-            goto x11;
-        }
-        slot_3 = slot_2;
-        r25_2 = r25;
-    then_1_3:;
-        word_at = load_address(map + INT_MAP_WORDS) + ((slot_3 >> 3) & UINT64_C(0x1FFFFFFFFFFFFFF8));
-        store64(word_at, load64(word_at) & (~((uint64_t)1 << (slot_3 & 63))));
-        release_2 = r25_2;
-    x11:;
         store64(map + INT_MAP_LEN, load64(map + INT_MAP_LEN) - 1);
-        x12 = release_2.first;
+        key_4 = key_2;
         r8 = 1;
-        x13 = release_2.second;
+        value_4 = value_2;
     after_walk_cut:;
         store64(handle, map_address);
-        key = x12;
-        value = x13;
+        key = key_4;
+        value = value_4;
         status = r8;
     }
     store64(result + FOUND_PAIR_KEY, key);
@@ -2862,6 +3339,68 @@ static ALWAYS_INLINE void do_intmap_free(char *handle) {
         return;
     }
     rattle_dealloc(nodes);
+}
+
+// Keeps the pairs whose bit is set among the next 64 of the walk from the cursor on, removes the others, and returns
+// how many these are.
+// intmap_keep_marked, in crates/intmap_c/src/keep.rt
+static ALWAYS_INLINE uint64_t do_intmap_keep_marked(char *handle, char *at, uint64_t marks) {
+    uint64_t word, left_2;
+    uint64_t marks_left_room[2];
+    char *marks_left = (char *)marks_left_room;
+    uint64_t keep_bits_room[2];
+    char *keep_bits = (char *)keep_bits_room;
+    uint64_t map_address = load64(handle);
+    store64(handle, 0);
+    char *map = (char *)(uintptr_t)map_address;
+    if (map_address == 0) {
+        return 0;
+    }
+    store64(keep_bits + KEEP_BITS_WORD, marks);
+    store64(keep_bits + KEEP_BITS_LEFT, 64);
+    slots_keep_at(map, load64(at + CURSOR_SLOT), at + CURSOR_PLACE, keep_bits);
+    uint64_t sum = sum_or_most(load64(at + CURSOR_SLOT), 1);
+    uint64_t at_2 = sum >> 6;
+    if (load64(map + INT_MAP_WORDS_LEN) > at_2) {
+        word = load64(load_address(map + INT_MAP_WORDS) + (at_2 << 3)) & (UINT64_MAX << (sum & 63));
+    } else {
+        word = 0;
+    }
+    store64(marks_left + MARKS_LEFT_AT, at_2);
+    store64(marks_left + MARKS_LEFT_WORD, word);
+    uint64_t left = load64(keep_bits + KEEP_BITS_LEFT);
+    if (left == 0) {
+        left_2 = 0;
+    } else {
+        struct byte_word next_in = bits_next_in(map + INT_MAP_WORDS, marks_left);
+        if (next_in.first == 1) {
+            struct byte_word next_in_2 = next_in;
+            for (;;) {
+                store64(at + CURSOR_SLOT, next_in_2.second);
+                store64(at + CURSOR_PLACE, 0);
+                slots_keep_at(map, next_in_2.second, at + CURSOR_PLACE, keep_bits);
+                uint64_t left_3 = load64(keep_bits + KEEP_BITS_LEFT);
+                if (left_3 == 0) {
+                    left_2 = 0;
+                    break;
+                }
+                struct byte_word next_in_3 = bits_next_in(map + INT_MAP_WORDS, marks_left);
+                if (next_in_3.first != 1) {
+                    left_2 = left_3;
+                    break;
+                }
+                next_in_2 = next_in_3;
+            }
+        } else {
+            left_2 = left;
+        }
+    }
+    uint64_t ones = ones_in(marks);
+    uint64_t ones_2 = ones_in(load64(keep_bits + KEEP_BITS_WORD));
+    uint64_t r33 = (uint64_t)64 - (left_2 + ((ones - ones_2) & UINT64_C(0xFFFFFFFF)));
+    store64(map + INT_MAP_LEN, load64(map + INT_MAP_LEN) - r33);
+    store64(handle, map_address);
+    return r33;
 }
 
 // Removes the pair of the key, and returns its value.
@@ -3166,12 +3705,10 @@ after_pairs_add_or_insert:;
 // intmap_find_or_insert, in crates/intmap_c/src/pairs.rt
 static ALWAYS_INLINE uint32_t do_intmap_find_or_insert(char *handle, uint64_t key, uint64_t value) {
     char *map;
-    uint32_t status;
     bool takes_one_more;
-    uint64_t made_usize_room[3];
-    char *made_usize = (char *)made_usize_room;
-    uint64_t made_location_room[4];
-    char *made_location = (char *)made_location_room;
+    uint32_t r4;
+    uint64_t made_bool_room[3];
+    char *made_bool = (char *)made_bool_room;
     uint64_t map_address = load64(handle);
     store64(handle, 0);
     if (map_address == 0) {
@@ -3184,41 +3721,13 @@ static ALWAYS_INLINE uint32_t do_intmap_find_or_insert(char *handle, uint64_t ke
         map = (char *)(uintptr_t)map_address;
     }
     uint64_t map_address_2 = (uint64_t)(uintptr_t)map;
+    memset(made_bool, 0, MADE_BOOL_SIZE);
     uint64_t index = load64(map + INT_MAP_MASK) & (key * MULTIPLIER);
     char *node = load_address(map + INT_MAP_SLOTS) + (index * NODE_SIZE);
-    uint8_t has_pair = load8(node + NODE_HAS_PAIR);
-    if (has_pair == 1) {
-        uint64_t link = link_of(load16(node + NODE_HIGH), load32(node + NODE_LOW));
-        if (load64(node + NODE_KEY) == key) {
-            status = 1;
-            goto after_pairs_find_or_insert;
-        }
-        uint64_t nodes_len = load64(map + INT_MAP_NODES_LEN);
-        if (nodes_len > link) {
-            char *nodes = load_address(map + INT_MAP_NODES);
-            uint64_t at = link;
-            for (;;) {
-                char *node_2 = nodes + (at * NODE_SIZE);
-                if (load8(node_2 + NODE_HAS_PAIR) != 1) {
-                    break;
-                }
-                if (load64(node_2 + NODE_KEY) == key) {
-                    status = 1;
-                    goto after_pairs_find_or_insert;
-                }
-                uint64_t link_2 = link_of(load16(node_2 + NODE_HIGH), load32(node_2 + NODE_LOW));
-                if (nodes_len <= link_2) {
-                    break;
-                }
-                at = link_2;
-            }
-        }
-    }
-    memset(made_location, 0, MADE_LOCATION_SIZE);
-    takes_one_more = intmap_takes_one_more(map);
-    if (takes_one_more) {
-        memset(made_usize, 0, MADE_USIZE_SIZE);
-        if (has_pair == 0) {
+    switch (load8(node + NODE_HAS_PAIR)) {
+    case 0:
+        takes_one_more = intmap_takes_one_more(map);
+        if (takes_one_more) {
             uint64_t offset = (index >> 3) & UINT64_C(0x1FFFFFFFFFFFFFF8);
             uint64_t bits = load64(load_address(map + INT_MAP_WORDS) + offset);
             store16(node + NODE_HAS_PAIR, 1);
@@ -3227,30 +3736,25 @@ static ALWAYS_INLINE uint32_t do_intmap_find_or_insert(char *handle, uint64_t ke
             store64(node + NODE_KEY, key);
             store64(node + NODE_VALUE, value);
             store64(load_address(map + INT_MAP_WORDS) + offset, bits | ((uint64_t)1 << (index & 63)));
-        } else {
-            insertion_push_further(made_usize, node, map + INT_MAP_NODES, key, value);
-            if (load8(made_usize + MADE_USIZE_HAS_FAILED) != 0) {
-                goto x11;
-            }
+            store64(map + INT_MAP_LEN, load64(map + INT_MAP_LEN) + 1);
+            r4 = 0;
+            goto after_pairs_find_or_insert;
         }
-        store64(map + INT_MAP_LEN, load64(map + INT_MAP_LEN) + 1);
-        status = 0;
-        goto after_pairs_find_or_insert;
+        break;
+    case 1:
+        if (load64(node + NODE_KEY) == key) {
+            r4 = 1;
+            goto after_pairs_find_or_insert;
+        }
+        break;
+    default:
+        break;
     }
-    intmap_add_growing(made_location, map, index, key, key, value);
-    if (load8(made_location + MADE_LOCATION_HAS_FAILED) == 0) {
-        status = 0;
-        goto after_pairs_find_or_insert;
-    }
-    if (load8(made_location + MADE_LOCATION_SLOT_OR_CAUSE) != 0) {
-        status = TOO_LARGE;
-        goto after_pairs_find_or_insert;
-    }
-x11:;
-    status = NO_MEMORY;
+    intmap_insert_checked_otherwise(made_bool, map, index, key, key, value);
+    r4 = (load8(made_bool + MADE_BOOL_HAS_FAILED) == 0) ? ((uint32_t)((uint8_t)(((uint8_t)(load8(made_bool + MADE_BOOL_MADE) & 1)) ^ 1))) : ((load8(made_bool + MADE_BOOL_CAUSE) == 0) ? NO_MEMORY : TOO_LARGE);
 after_pairs_find_or_insert:;
     store64(handle, map_address_2);
-    return status;
+    return r4;
 }
 
 // Inserts the pair of the key and the value at the end of its slot, and returns the value before.
@@ -3582,7 +4086,7 @@ intmap_status intmap_set_load_factor(intmap *map, size_t thousandths) INTMAP_CAL
     return STATUS(do_intmap_set_load_factor(BYTES(map), thousandths));
 }
 
-// The next two read and write structs of the caller by address, with the low byte first.
+// The next three read and write structs of the caller by address, with the low byte first.
 
 static inline void turn_cursor(intmap_cursor *at) {
     if (HIGH_BYTE_FIRST) {
@@ -3608,12 +4112,32 @@ ALIGNED intmap_found_pair intmap_step(const intmap *map, intmap_cursor *at) INTM
     return turned(found);
 }
 
+ALIGNED size_t intmap_copy_pairs(const intmap *map, intmap_cursor *at, intmap_pair *pairs,
+                                 size_t room) INTMAP_CALL {
+    size_t copied;
+    turn_cursor(at);
+    copied = do_intmap_copy_pairs(BYTES(map), BYTES(at), BYTES(pairs), room);
+    turn_cursor(at);
+    for (size_t i = 0; HIGH_BYTE_FIRST && i < copied; i++) {
+        pairs[i].key = LOW_FIRST_64(pairs[i].key);
+        pairs[i].value = LOW_FIRST_64(pairs[i].value);
+    }
+    return copied;
+}
+
 ALIGNED intmap_found_pair intmap_cut(intmap *map, intmap_cursor *at) INTMAP_CALL {
     intmap_found_pair found;
     turn_cursor(at);
     do_intmap_cut(BYTES(&found), BYTES(map), BYTES(at));
     turn_cursor(at);
     return turned(found);
+}
+
+ALIGNED size_t intmap_keep_marked(intmap *map, intmap_cursor *at, uint64_t marks) INTMAP_CALL {
+    turn_cursor(at);
+    size_t removed = (size_t)do_intmap_keep_marked(BYTES(map), BYTES(at), marks);
+    turn_cursor(at);
+    return removed;
 }
 
 bool intmap_equal(const intmap *map, const intmap *other) INTMAP_CALL {
