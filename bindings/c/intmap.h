@@ -609,10 +609,10 @@ INTMAP_NONNULL size_t intmap_keep_marked(intmap *map, intmap_cursor *at, uint64_
 // Calls `keep` with each pair, in the order of the walk, and removes the pairs for which it returns
 // false. It returns how many it removed. The other pairs stay in the same order, and the number of
 // slots stays. `keep` is handed `argument`, which may be null. `keep` may make calls that only read
-// the map, and none that changes it. Such a call may still find pairs that `keep` refused: they are
-// removed behind the 64th pair since the last removal, and behind the last pair of the map.
-// intmap_retain requests no memory. It takes the time of a walk by intmap_copy_pairs and
-// intmap_keep_marked, 64 pairs at a time.
+// the map, and none that changes it. Such a call may still find pairs that `keep` refused, also if
+// it freed what their values point to: pairs are removed after each 64 calls of `keep`, and after
+// the last one. intmap_retain requests no memory. It takes the time of intmap_copy_pairs and
+// intmap_keep_marked on 64 pairs at a time.
 INTMAP_NONNULL_TWO static inline size_t intmap_retain(intmap *map,
                                                       bool (*keep)(intmap_pair pair,
                                                                    void *argument),
