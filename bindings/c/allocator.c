@@ -55,9 +55,15 @@ void *pool_realloc(void *block, size_t size) {
 enum { STACK_WORDS = 1 << 15, PAINT = 0x5A };
 static uint64_t stack[STACK_WORDS] __attribute__((aligned(1 << 16)));
 
+static bool is_odd(intmap_pair pair, void *argument) {
+    (void)argument;
+    return pair.value % 2 > 0;
+}
+
 // Makes calls that take much stack, with and without pairs that share a slot. Then it writes how
-// many bytes were used below its own frame.
+// many bytes were used below its own frame. So intmap_retain may not become a part of this frame.
 static void *make_calls(void *taken) {
+    size_t (*volatile retain)(intmap *, bool (*)(intmap_pair, void *), void *) = intmap_retain;
     uint64_t failed = 0, key;
     for (int kind = 0; kind < 3; kind++) {
         intmap map = INTMAP_INIT, copy = INTMAP_INIT;
@@ -67,6 +73,7 @@ static void *make_calls(void *taken) {
         }
         failed += intmap_failed(intmap_clone(&map, &copy));
         failed += intmap_failed(intmap_set_load_factor(&copy, 200));
+        failed += retain(&copy, is_odd, NULL) != 200;
         failed += intmap_failed(intmap_shrink_to_fit(&copy));
         intmap_free(&map);
         intmap_free(&copy);
