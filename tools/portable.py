@@ -20,8 +20,8 @@ APART = (
     *("IntMap::get_counted", "IntMap::get_mut", "IntMap::fit", "load::wanted_capacity"),
     *("IntMap::takes_one_more", "insertion::put", "refill::put_at", "Pool::add_new", "Pool::release"),
     *("Slots::clone", "Bits::clone", "copy_drop::copy_bits"),
-    *("chain::last_in", "chain::seek", "reached::link_to", "Slots::remove_at", "Slots::keep_at", "Bits::next_in"),
-    *("Vec::reserve_exact", "Vec::shrink_to_fit"),
+    *("chain::last_in", "chain::seek", "reached::link_to", "Slots::remove_at", "Bits::next_in"),
+    *("removal::unlink", "keep::drop_front", "Vec::reserve_exact", "Vec::shrink_to_fit"),
 )
 # How clang prints a module, with names: as it is given, and behind the optimiser. Vectors have no form in C, and unrolled
 # loops are longer and no faster.

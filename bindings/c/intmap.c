@@ -778,25 +778,44 @@ static ALWAYS_INLINE struct word_word pool_release(char *pool, uint64_t at) {
     return made_word_word(key, value);
 }
 
-// Removes the first pair of a slot that holds others, which move up by one place.
-// intmap_table::linked::row::removal::pop_front_of_several, in crates/intmap_table/src/linked/row/removal.rt
-static ALIGNED NOINLINE struct word_word removal_pop_front_of_several(char *slot, uint64_t link, char *pool) {
-    char *node = load_address(pool + POOL_NODES) + (link * NODE_SIZE);
+// Removes the pair of node `at`, which is behind the first pair of a slot.
+// intmap_table::linked::row::removal::unlink, in crates/intmap_table/src/linked/row/removal.rt
+static ALWAYS_INLINE struct word_word removal_unlink(char *slot, char *pool, uint64_t before, uint64_t at) {
+    char *node = load_address(pool + POOL_NODES) + (at * NODE_SIZE);
     if (load8(node + NODE_HAS_PAIR) != 1) {
         abort(); // The proof excludes this.
     }
     uint16_t high = load16(node + NODE_HIGH);
     uint32_t low = load32(node + NODE_LOW);
-    struct word_word release = pool_release(pool, link);
+    struct word_word release = pool_release(pool, at);
+    if (before >= NODE_LIMIT) {
+        if (load8(slot + NODE_HAS_PAIR) != 1) {
+            abort(); // The proof excludes this.
+        }
+        store16(slot + NODE_HIGH, high);
+        store32(slot + NODE_LOW, low);
+        return release;
+    }
+    char *node_2 = load_address(pool + POOL_NODES) + (before * NODE_SIZE);
+    if (load8(node_2 + NODE_HAS_PAIR) != 1) {
+        abort(); // The proof excludes this.
+    }
+    store16(node_2 + NODE_HIGH, high);
+    store32(node_2 + NODE_LOW, low);
+    return release;
+}
+
+// Removes the first pair of a slot that holds others, which move up by one place.
+// intmap_table::linked::row::removal::pop_front_of_several, in crates/intmap_table/src/linked/row/removal.rt
+static ALIGNED NOINLINE struct word_word removal_pop_front_of_several(char *slot, uint64_t link, char *pool) {
+    struct word_word unlink = removal_unlink(slot, pool, NOWHERE, link);
     if (load8(slot + NODE_HAS_PAIR) != 1) {
         abort(); // The proof excludes this.
     }
-    store16(slot + NODE_HIGH, high);
-    store32(slot + NODE_LOW, low);
     uint64_t key = load64(slot + NODE_KEY);
     uint64_t value = load64(slot + NODE_VALUE);
-    store64(slot + NODE_KEY, release.first);
-    store64(slot + NODE_VALUE, release.second);
+    store64(slot + NODE_KEY, unlink.first);
+    store64(slot + NODE_VALUE, unlink.second);
     return made_word_word(key, value);
 }
 
@@ -915,26 +934,10 @@ static ALWAYS_INLINE void slots_remove_at(char *result, char *map, uint64_t inde
                         break;
                     }
                     if (place_2 == r40) {
-                        uint16_t high_2 = load16(node_2 + NODE_HIGH);
-                        uint32_t low = load32(node_2 + NODE_LOW);
-                        struct word_word release = pool_release(map + INT_MAP_NODES, at);
-                        if (at_2 >= NODE_LIMIT) {
-                            if (load8(node + NODE_HAS_PAIR) != 1) {
-                                abort(); // The proof excludes this.
-                            }
-                            store16(node + NODE_HIGH, high_2);
-                            store32(node + NODE_LOW, low);
-                        } else {
-                            char *node_3 = load_address(map + INT_MAP_NODES) + (at_2 * NODE_SIZE);
-                            if (load8(node_3 + NODE_HAS_PAIR) != 1) {
-                                abort(); // The proof excludes this.
-                            }
-                            store16(node_3 + NODE_HIGH, high_2);
-                            store32(node_3 + NODE_LOW, low);
-                        }
+                        struct word_word unlink = removal_unlink(node, map + INT_MAP_NODES, at_2, at);
                         r2 = 1;
-                        key_2 = release.first;
-                        value_2 = release.second;
+                        key_2 = unlink.first;
+                        value_2 = unlink.second;
                         break;
                     }
                     uint64_t link_2 = link_of(load16(node_2 + NODE_HIGH), load32(node_2 + NODE_LOW));
@@ -973,6 +976,43 @@ static ALWAYS_INLINE void slots_remove_at(char *result, char *map, uint64_t inde
     store64(result + OPTION_VALUE, value_3);
 }
 
+// Removes pairs from the front of a slot, up to the first one whose bit is set.
+// intmap_table::linked::keep::drop_front, in crates/intmap_table/src/linked/keep.rt
+static ALWAYS_INLINE bool keep_drop_front(char *slot, char *pool, char *bits) {
+    uint64_t left = load64(bits + KEEP_BITS_LEFT);
+    if (left == 0) {
+        return false;
+    }
+    uint64_t left_2 = left;
+    for (;;) {
+        if (load8(slot + NODE_HAS_PAIR) != 1) {
+            return false;
+        }
+        uint16_t high = load16(slot + NODE_HIGH);
+        uint64_t link = link_of(high, load32(slot + NODE_LOW));
+        uint64_t word = load64(bits + KEEP_BITS_WORD);
+        store64(bits + KEEP_BITS_WORD, word >> 1);
+        store64(bits + KEEP_BITS_LEFT, left_2 - 1);
+        if ((word & 1) != 0) {
+            return true;
+        }
+        if (high == NOWHERE_HIGH) {
+            uint8_t has_pair = load8(slot + NODE_HAS_PAIR);
+            memset(slot, 0, NODE_SIZE);
+            if (has_pair != 1) {
+                abort(); // The proof excludes this.
+            }
+        } else {
+            removal_pop_front_of_several(slot, link, pool);
+        }
+        uint64_t left_3 = load64(bits + KEEP_BITS_LEFT);
+        if (left_3 == 0) {
+            return false;
+        }
+        left_2 = left_3;
+    }
+}
+
 // Keeps or removes pairs behind the first one of a slot, from the place on, each as its bit says.
 // intmap_table::linked::keep::keep_behind, in crates/intmap_table/src/linked/keep.rt
 static ALIGNED NOINLINE void keep_keep_behind(char *slot, char *pool, char *place, char *bits) {
@@ -1007,8 +1047,7 @@ static ALIGNED NOINLINE void keep_keep_behind(char *slot, char *pool, char *plac
                 if (load64(pool + POOL_NODES_LEN) <= at_4) {
                     return;
                 }
-                uint64_t offset = at_4 * NODE_SIZE;
-                char *node_2 = load_address(pool + POOL_NODES) + offset;
+                char *node_2 = load_address(pool + POOL_NODES) + (at_4 * NODE_SIZE);
                 if (load8(node_2 + NODE_HAS_PAIR) != 1) {
                     return;
                 }
@@ -1017,29 +1056,8 @@ static ALIGNED NOINLINE void keep_keep_behind(char *slot, char *pool, char *plac
                 store64(bits + KEEP_BITS_WORD, word >> 1);
                 store64(bits + KEEP_BITS_LEFT, left_2 - 1);
                 if ((word & 1) == 0) {
-                    char *node_3 = load_address(pool + POOL_NODES) + offset;
-                    if (load8(node_3 + NODE_HAS_PAIR) != 1) {
-                        abort(); // The proof excludes this.
-                    }
-                    uint16_t high = load16(node_3 + NODE_HIGH);
-                    uint32_t low = load32(node_3 + NODE_LOW);
-                    pool_release(pool, at_4);
-                    if (at_3 >= NODE_LIMIT) {
-                        if (load8(slot + NODE_HAS_PAIR) != 1) {
-                            abort(); // The proof excludes this.
-                        }
-                        store16(slot + NODE_HIGH, high);
-                        store32(slot + NODE_LOW, low);
-                        at_5 = at_3;
-                    } else {
-                        char *node_4 = load_address(pool + POOL_NODES) + (at_3 * NODE_SIZE);
-                        if (load8(node_4 + NODE_HAS_PAIR) != 1) {
-                            abort(); // The proof excludes this.
-                        }
-                        store16(node_4 + NODE_HIGH, high);
-                        store32(node_4 + NODE_LOW, low);
-                        at_5 = at_3;
-                    }
+                    removal_unlink(slot, pool, at_3, at_4);
+                    at_5 = at_3;
                 } else {
                     store64(place, load64(place) + 1);
                     at_5 = at_4;
@@ -1063,62 +1081,6 @@ static ALIGNED NOINLINE void keep_keep_behind(char *slot, char *pool, char *plac
     }
 }
 
-// Keeps or removes pairs of a slot, from the place on, each as its bit says, in their order.
-// intmap_table::table::slots::Slots::keep_at, in crates/intmap_table/src/table/slots/keep.rt
-static ALWAYS_INLINE void slots_keep_at(char *map, uint64_t index, char *place, char *bits) {
-    uint8_t has_pair_3;
-    if (load64(map + INT_MAP_MASK) < index) {
-        return;
-    }
-    char *node = load_address(map + INT_MAP_SLOTS) + (index * NODE_SIZE);
-    if (load64(place) == 0) {
-        uint64_t left = load64(bits + KEEP_BITS_LEFT);
-        if (left != 0) {
-            uint64_t left_2 = left;
-            for (;;) {
-                uint8_t has_pair = load8(node + NODE_HAS_PAIR);
-                if (has_pair != 1) {
-                    has_pair_3 = has_pair;
-                    goto after_keep_keep_2;
-                }
-                uint16_t high = load16(node + NODE_HIGH);
-                uint64_t link = link_of(high, load32(node + NODE_LOW));
-                uint64_t word = load64(bits + KEEP_BITS_WORD);
-                store64(bits + KEEP_BITS_WORD, word >> 1);
-                store64(bits + KEEP_BITS_LEFT, left_2 - 1);
-                if ((word & 1) != 0) {
-                    store64(place, 1);
-                    keep_keep_behind(node, map + INT_MAP_NODES, place, bits);
-                    break;
-                }
-                if (high == NOWHERE_HIGH) {
-                    uint8_t has_pair_2 = load8(node + NODE_HAS_PAIR);
-                    memset(node, 0, NODE_SIZE);
-                    if (has_pair_2 != 1) {
-                        abort(); // The proof excludes this.
-                    }
-                } else {
-                    removal_pop_front_of_several(node, link, map + INT_MAP_NODES);
-                }
-                uint64_t left_3 = load64(bits + KEEP_BITS_LEFT);
-                if (left_3 == 0) {
-                    break;
-                }
-                left_2 = left_3;
-            }
-        }
-    } else {
-        keep_keep_behind(node, map + INT_MAP_NODES, place, bits);
-    }
-    has_pair_3 = load8(node + NODE_HAS_PAIR);
-after_keep_keep_2:;
-    if (has_pair_3 != 0) {
-        return;
-    }
-    char *word_at = load_address(map + INT_MAP_WORDS) + ((index >> 3) & UINT64_C(0x1FFFFFFFFFFFFFF8));
-    store64(word_at, load64(word_at) & (~((uint64_t)1 << (index & 63))));
-}
-
 // Removes the key's pair from a slot that holds several.
 // intmap_table::linked::row::removal::remove_of_several, in crates/intmap_table/src/linked/row/removal.rt
 static ALIGNED NOINLINE struct byte_word removal_remove_of_several(char *slot, uint64_t link, char *pool, uint64_t key_number) {
@@ -1126,62 +1088,41 @@ static ALIGNED NOINLINE struct byte_word removal_remove_of_several(char *slot, u
         abort(); // The proof excludes this.
     }
     if (load64(slot + NODE_KEY) == key_number) {
-        struct word_word release_2, release_4;
-        uint32_t low_2;
+        uint64_t before, at;
         char *nodes = load_address(pool + POOL_NODES);
         char *node = nodes + (link * NODE_SIZE);
         if (load8(node + NODE_HAS_PAIR) != 1) {
             abort(); // The proof excludes this.
         }
         uint16_t high = load16(node + NODE_HIGH);
-        uint32_t low = load32(node + NODE_LOW);
         if (high == NOWHERE_HIGH) {
-            struct word_word release = pool_release(pool, link);
-            release_2 = release;
-            low_2 = low;
+            before = NOWHERE;
+            at = link;
         } else {
-            uint64_t at = link_of(high, low);
-            uint64_t at_2 = link;
+            uint64_t at_2 = link_of(high, load32(node + NODE_LOW));
+            uint64_t r2 = link;
             for (;;) {
-                char *node_2 = nodes + (at * NODE_SIZE);
+                char *node_2 = nodes + (at_2 * NODE_SIZE);
                 if (load8(node_2 + NODE_HAS_PAIR) != 1) {
                     abort(); // The proof excludes this.
                 }
                 uint16_t high_2 = load16(node_2 + NODE_HIGH);
-                uint32_t low_3 = load32(node_2 + NODE_LOW);
                 if (high_2 == NOWHERE_HIGH) {
-                    struct word_word release_3 = pool_release(pool, at);
-                    if (at_2 >= NODE_LIMIT) {
-                        release_2 = release_3;
-                        low_2 = low_3;
-                        break;
-                    }
-                    char *node_3 = load_address(pool + POOL_NODES) + (at_2 * NODE_SIZE);
-                    if (load8(node_3 + NODE_HAS_PAIR) != 1) {
-                        abort(); // The proof excludes this.
-                    }
-                    store16(node_3 + NODE_HIGH, NOWHERE_HIGH);
-                    store32(node_3 + NODE_LOW, low_3);
-                    if (load8(slot + NODE_HAS_PAIR) != 1) {
-                        abort(); // The proof excludes this.
-                    }
-                    release_4 = release_3;
-                    goto after_removal_swap_remove_first;
+                    before = r2;
+                    at = at_2;
+                    break;
                 }
-                at_2 = at;
-                at = link_of(high_2, low_3);
+                r2 = at_2;
+                at_2 = link_of(high_2, load32(node_2 + NODE_LOW));
             }
         }
+        struct word_word unlink = removal_unlink(slot, pool, before, at);
         if (load8(slot + NODE_HAS_PAIR) != 1) {
             abort(); // The proof excludes this.
         }
-        store16(slot + NODE_HIGH, NOWHERE_HIGH);
-        store32(slot + NODE_LOW, low_2);
-        release_4 = release_2;
-    after_removal_swap_remove_first:;
         uint64_t value = load64(slot + NODE_VALUE);
-        store64(slot + NODE_KEY, release_4.first);
-        store64(slot + NODE_VALUE, release_4.second);
+        store64(slot + NODE_KEY, unlink.first);
+        store64(slot + NODE_VALUE, unlink.second);
         return made_byte_word(1, value);
     }
     uint64_t nodes_len = load64(pool + POOL_NODES_LEN);
@@ -1193,71 +1134,49 @@ static ALIGNED NOINLINE struct byte_word removal_remove_of_several(char *slot, u
     uint64_t at_4 = NOWHERE;
     for (;;) {
         uint64_t offset = at_3 * NODE_SIZE;
-        char *node_4 = nodes_2 + offset;
-        if (load8(node_4 + NODE_HAS_PAIR) != 1) {
+        char *node_3 = nodes_2 + offset;
+        if (load8(node_3 + NODE_HAS_PAIR) != 1) {
             return made_byte_word(0, 0);
         }
-        if (load64(node_4 + NODE_KEY) == key_number) {
-            uint32_t low_5;
-            uint64_t at_5, at_6;
-            struct word_word release_6;
-            uint16_t high_3 = load16(node_4 + NODE_HIGH);
-            uint32_t low_4 = load32(node_4 + NODE_LOW);
+        uint16_t high_3 = load16(node_3 + NODE_HIGH);
+        if (load64(node_3 + NODE_KEY) == key_number) {
+            struct word_word unlink_3;
             if (high_3 == NOWHERE_HIGH) {
-                low_5 = low_4;
-                at_5 = at_4;
-                at_6 = at_3;
+                struct word_word unlink_2 = removal_unlink(slot, pool, at_4, at_3);
+                unlink_3 = unlink_2;
             } else {
-                uint64_t at_7 = link_of(high_3, low_4);
-                uint64_t at_8 = at_3;
+                uint64_t at_5 = link_of(high_3, load32(node_3 + NODE_LOW));
+                uint64_t at_6 = at_3;
                 for (;;) {
-                    char *node_5 = nodes_2 + (at_7 * NODE_SIZE);
-                    if (load8(node_5 + NODE_HAS_PAIR) != 1) {
+                    char *node_4 = nodes_2 + (at_5 * NODE_SIZE);
+                    if (load8(node_4 + NODE_HAS_PAIR) != 1) {
                         abort(); // The proof excludes this.
                     }
-                    uint16_t high_4 = load16(node_5 + NODE_HIGH);
-                    uint32_t low_6 = load32(node_5 + NODE_LOW);
+                    uint16_t high_4 = load16(node_4 + NODE_HIGH);
                     if (high_4 == NOWHERE_HIGH) {
-                        low_5 = low_6;
-                        at_5 = at_8;
-                        at_6 = at_7;
+                        struct word_word unlink_4 = removal_unlink(slot, pool, at_6, at_5);
+                        if (at_5 == at_3) {
+                            unlink_3 = unlink_4;
+                            break;
+                        }
+                        char *node_5 = load_address(pool + POOL_NODES) + offset;
+                        if (load8(node_5 + NODE_HAS_PAIR) != 1) {
+                            abort(); // The proof excludes this.
+                        }
+                        uint64_t key = load64(node_5 + NODE_KEY);
+                        uint64_t value_2 = load64(node_5 + NODE_VALUE);
+                        store64(node_5 + NODE_KEY, unlink_4.first);
+                        store64(node_5 + NODE_VALUE, unlink_4.second);
+                        unlink_3 = made_word_word(key, value_2);
                         break;
                     }
-                    at_8 = at_7;
-                    at_7 = link_of(high_4, low_6);
+                    at_6 = at_5;
+                    at_5 = link_of(high_4, load32(node_4 + NODE_LOW));
                 }
             }
-            struct word_word release_5 = pool_release(pool, at_6);
-            if (at_5 >= NODE_LIMIT) {
-                if (load8(slot + NODE_HAS_PAIR) != 1) {
-                    abort(); // The proof excludes this.
-                }
-                store16(slot + NODE_HIGH, NOWHERE_HIGH);
-                store32(slot + NODE_LOW, low_5);
-            } else {
-                char *node_6 = load_address(pool + POOL_NODES) + (at_5 * NODE_SIZE);
-                if (load8(node_6 + NODE_HAS_PAIR) != 1) {
-                    abort(); // The proof excludes this.
-                }
-                store16(node_6 + NODE_HIGH, NOWHERE_HIGH);
-                store32(node_6 + NODE_LOW, low_5);
-            }
-            if (at_6 == at_3) {
-                release_6 = release_5;
-            } else {
-                char *node_7 = load_address(pool + POOL_NODES) + offset;
-                if (load8(node_7 + NODE_HAS_PAIR) != 1) {
-                    abort(); // The proof excludes this.
-                }
-                uint64_t key = load64(node_7 + NODE_KEY);
-                uint64_t value_2 = load64(node_7 + NODE_VALUE);
-                store64(node_7 + NODE_KEY, release_5.first);
-                store64(node_7 + NODE_VALUE, release_5.second);
-                release_6 = made_word_word(key, value_2);
-            }
-            return made_byte_word(1, release_6.second);
+            return made_byte_word(1, unlink_3.second);
         }
-        uint64_t link_2 = link_of(load16(node_4 + NODE_HIGH), load32(node_4 + NODE_LOW));
+        uint64_t link_2 = link_of(high_3, load32(node_3 + NODE_LOW));
         if (nodes_len <= link_2) {
             return made_byte_word(0, 0);
         }
@@ -3358,7 +3277,23 @@ static ALWAYS_INLINE uint64_t do_intmap_keep_marked(char *handle, char *at, uint
     }
     store64(keep_bits + KEEP_BITS_WORD, marks);
     store64(keep_bits + KEEP_BITS_LEFT, 64);
-    slots_keep_at(map, load64(at + CURSOR_SLOT), at + CURSOR_PLACE, keep_bits);
+    uint64_t slot = load64(at + CURSOR_SLOT);
+    if (load64(map + INT_MAP_MASK) >= slot) {
+        char *node = load_address(map + INT_MAP_SLOTS) + (slot * NODE_SIZE);
+        if (load64(at + CURSOR_PLACE) == 0) {
+            bool drop_front = keep_drop_front(node, map + INT_MAP_NODES, keep_bits);
+            if (drop_front) {
+                store64(at + CURSOR_PLACE, 1);
+                keep_keep_behind(node, map + INT_MAP_NODES, at + CURSOR_PLACE, keep_bits);
+            }
+        } else {
+            keep_keep_behind(node, map + INT_MAP_NODES, at + CURSOR_PLACE, keep_bits);
+        }
+        if (load8(node + NODE_HAS_PAIR) == 0) {
+            char *word_at = load_address(map + INT_MAP_WORDS) + ((slot >> 3) & UINT64_C(0x1FFFFFFFFFFFFFF8));
+            store64(word_at, load64(word_at) & (~((uint64_t)1 << (slot & 63))));
+        }
+    }
     uint64_t sum = sum_or_most(load64(at + CURSOR_SLOT), 1);
     uint64_t at_2 = sum >> 6;
     if (load64(map + INT_MAP_WORDS_LEN) > at_2) {
@@ -3374,22 +3309,33 @@ static ALWAYS_INLINE uint64_t do_intmap_keep_marked(char *handle, char *at, uint
     } else {
         struct byte_word next_in = bits_next_in(map + INT_MAP_WORDS, marks_left);
         if (next_in.first == 1) {
-            struct byte_word next_in_2 = next_in;
+            struct byte_word at_3 = next_in;
             for (;;) {
-                store64(at + CURSOR_SLOT, next_in_2.second);
+                store64(at + CURSOR_SLOT, at_3.second);
                 store64(at + CURSOR_PLACE, 0);
-                slots_keep_at(map, next_in_2.second, at + CURSOR_PLACE, keep_bits);
+                if (load64(map + INT_MAP_MASK) >= at_3.second) {
+                    char *node_2 = load_address(map + INT_MAP_SLOTS) + (at_3.second * NODE_SIZE);
+                    bool drop_front_2 = keep_drop_front(node_2, map + INT_MAP_NODES, keep_bits);
+                    if (drop_front_2) {
+                        store64(at + CURSOR_PLACE, 1);
+                        keep_keep_behind(node_2, map + INT_MAP_NODES, at + CURSOR_PLACE, keep_bits);
+                    }
+                    if (load8(node_2 + NODE_HAS_PAIR) == 0) {
+                        char *word_at_2 = load_address(map + INT_MAP_WORDS) + ((at_3.second >> 3) & UINT64_C(0x1FFFFFFFFFFFFFF8));
+                        store64(word_at_2, load64(word_at_2) & (~((uint64_t)1 << (at_3.second & 63))));
+                    }
+                }
                 uint64_t left_3 = load64(keep_bits + KEEP_BITS_LEFT);
                 if (left_3 == 0) {
                     left_2 = 0;
                     break;
                 }
-                struct byte_word next_in_3 = bits_next_in(map + INT_MAP_WORDS, marks_left);
-                if (next_in_3.first != 1) {
+                struct byte_word next_in_2 = bits_next_in(map + INT_MAP_WORDS, marks_left);
+                if (next_in_2.first != 1) {
                     left_2 = left_3;
                     break;
                 }
-                next_in_2 = next_in_3;
+                at_3 = next_in_2;
             }
         } else {
             left_2 = left;
