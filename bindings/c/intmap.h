@@ -38,7 +38,7 @@
 //     INTMAP_FOR_EACH                                     loops over all pairs
 //     intmap_walk_begin, intmap_walk_next                 are for loops of other forms
 //     intmap_start, intmap_step, intmap_copy_pairs        go on from a cursor, by one pair or many
-//     intmap_cut, intmap_retain                           remove pairs on the way
+//     intmap_cut, intmap_keep_marked, intmap_retain       remove pairs on the way
 //     intmap_len, intmap_capacity, intmap_filled_slots    count pairs, slots, slots with a pair
 //     intmap_load_factor, intmap_set_load_factor          say how many pairs a slot is to have
 //     intmap_shrink_to_fit, intmap_free                   give memory back
@@ -76,8 +76,9 @@
 //   with the map, whatever that call does.
 // - There is enough stack. A call takes less than 2,000 bytes of it if intmap.c is compiled with
 //   -O1, -O2, -O3 or -Os, and less than 8,000 otherwise, besides what functions of the C library
-//   take. `make check` measures this with -O2 and with -O0. On x86-64, calls took some 800 bytes
-//   with gcc 12 -O2, 600 with clang 14 -O2, 2,300 with gcc 12 -O0 and 3,200 with clang 14 -O0. A
+//   take. `make check` measures this with -O2 and with -O0. On x86-64, calls took at most 1,440
+//   bytes with the first four flags, by gcc 12 and by clang 14. With -O0 they took 2,968 bytes by
+//   gcc 12 and 4,192 by clang 14. intmap_retain takes the most, since it has 64 pairs there. A
 //   sanitizer makes them take more.
 //
 // THREADS. Any number of threads may make calls with `const intmap *` at once, as long as no other

@@ -114,7 +114,7 @@ intmap_status intmap_set_load_factor(intmap *map, size_t thousandths) INTMAP_CAL
     return STATUS(do_intmap_set_load_factor(BYTES(map), thousandths));
 }
 
-// The next three read and write structs of the caller by address, with the low byte first.
+// The next four read and write structs of the caller by address, with the low byte first.
 
 static inline void turn_cursor(intmap_cursor *at) {
     if (HIGH_BYTE_FIRST) {

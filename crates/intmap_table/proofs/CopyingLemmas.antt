@@ -4,7 +4,6 @@ use Rattle.std.specs.List.{AllZip}
 use Rattle.std.proofs.lemmas.List.{drop-set-lt, length-drop, take_more, take_more_set}
 use Rattle.std.proofs.lemmas.Grind.{drop_more_same}
 use Rattle.std.proofs.Math.Seq.{drop-cons}
-use Rattle.intmap_table.specs.Copying.{AreCopied}
 use Rattle.intmap_table.proofs.Nodes.AlongLemmas.{same_first}
 use Rattle.intmap_table.proofs.Tables.CloneLemmas.{AllZip-append}
 
@@ -17,10 +16,7 @@ module _ {X Y : Type 0} (R : X → Y → Type 0) (L : List X) (A : List Y) where
     pub copied : AllZip R (take n L) (take n B)
     pub others : drop n B ≡ drop n A
 
-  pub Copying-none : AreCopying A 0
-  Copying-none = record { few = omega arith; within = omega arith; len = refl; copied = tt; others = refl }
-
-  -- and the next one
+  -- the next one is copied
   pub Copying-one : (B : List Y) (n : ℕ) (x : X) (xs : List X) (y : Y) → AreCopying B n → drop n L ≡ x ∷ xs → n < length B → R x y → AreCopying (set B n y) (n + 1)
   Copying-one B n x xs y c next room r =
       let long = ap length next in
@@ -37,12 +33,3 @@ module _ {X Y : Type 0} (R : X → Y → Type 0) (L : List X) (A : List Y) where
             (AllZip-append R (take n L) (x ∷ []) (take n B) (y ∷ []) c.copied (r, tt)));
         others = drop-set-lt (n + 1) B n y (omega arith) ∙ drop_more_same B A n c.others;
       }
-
-  -- there is no room for more, or no element is left
-  pub Copying-full : (B : List Y) (n : ℕ) → AreCopying B n → length B ≤ n → AreCopied R L A B n
-  Copying-full B n c full = record { count = omega (arith, c.few, c.within, full, c.len); len = c.len; copied = c.copied; others = c.others }
-
-  pub Copying-all : (B : List Y) (n : ℕ) → AreCopying B n → drop n L ≡ [] → AreCopied R L A B n
-  Copying-all B n c none =
-      let left = ap length none in let long = length-drop n L in
-      record { count = omega (arith, c.few, c.within, left, long, c.len); len = c.len; copied = c.copied; others = c.others }
