@@ -622,12 +622,15 @@ INTMAP_NONNULL_TWO static inline size_t intmap_retain(intmap *map,
     intmap_pair pairs[64];
     size_t count, removed = 0;
     while ((count = intmap_copy_pairs(map, &next, pairs, 64)) > 0) {
-        uint64_t marks = 0;
+        uint64_t refused = 0;
         for (size_t i = 0; i < count; i++) {
-            marks |= (uint64_t)keep(pairs[i], argument) << i;
+            refused |= (uint64_t)!keep(pairs[i], argument) << i;
         }
-        removed += intmap_keep_marked(map, &at, marks);
-        next = at;
+        if (refused != 0) {
+            removed += intmap_keep_marked(map, &at, ~refused);
+            next = at;
+        }
+        at = next;
     }
     return removed;
 }
