@@ -30,7 +30,7 @@
 //     grep -v '^// Compilers: ' intmap.c | sha256sum
 //
 // Compilers: rattle-kit-13b logic dac8208d650f15bf; clang version 22.1.8
-// Sources: f992b5eb701acdb5e84dfe70a6d35a6566ff2e1b4472d91c707e93f44bc58aec
+// Sources: eb7a7e2a4186dfeb286712b20a5f55950cc51500438783d4a517921d6f56e306
 //
 // SPDX-License-Identifier: MIT
 //
@@ -3534,7 +3534,7 @@ static ALWAYS_INLINE uint32_t do_intmap_with_slots(char *handle, uint64_t slots)
 // intmap_add_or_insert, in crates/intmap_c/src/pairs.rt
 static ALWAYS_INLINE struct word_word do_intmap_add_or_insert(char *handle, uint64_t key, uint64_t more) {
     char *map;
-    uint64_t status, value_3;
+    uint64_t value_2, status;
     bool takes_one_more;
     uint64_t made_usize_room[3];
     char *made_usize = (char *)made_usize_room;
@@ -3556,10 +3556,11 @@ static ALWAYS_INLINE struct word_word do_intmap_add_or_insert(char *handle, uint
     char *node = load_address(map + INT_MAP_SLOTS) + (index * NODE_SIZE);
     uint8_t has_pair = load8(node + NODE_HAS_PAIR);
     if (has_pair == 1) {
-        uint64_t value_2;
-        char *node_5;
+        char *node_2;
         uint64_t link = link_of(load16(node + NODE_HIGH), load32(node + NODE_LOW));
-        if (load64(node + NODE_KEY) != key) {
+        if (load64(node + NODE_KEY) == key) {
+            node_2 = node;
+        } else {
             uint64_t nodes_len = load64(map + INT_MAP_NODES_LEN);
             if (nodes_len <= link) {
                 goto arm_2_2;
@@ -3568,30 +3569,24 @@ static ALWAYS_INLINE struct word_word do_intmap_add_or_insert(char *handle, uint
             uint64_t place = 0;
             uint64_t at = link;
             for (;;) {
-                char *node_2 = nodes + (at * NODE_SIZE);
-                if (load8(node_2 + NODE_HAS_PAIR) != 1) {
+                char *node_3 = nodes + (at * NODE_SIZE);
+                if (load8(node_3 + NODE_HAS_PAIR) != 1) {
                     goto arm_2_2;
                 }
-                if (load64(node_2 + NODE_KEY) == key) {
+                if (load64(node_3 + NODE_KEY) == key) {
                     if (place == UINT64_MAX) {
+                        node_2 = node;
                         break;
                     }
                     uint64_t at_2 = chain_seek(map + INT_MAP_NODES, link, place);
-                    char *node_3 = nodes + (at_2 * NODE_SIZE);
-                    if (load8(node_3 + NODE_HAS_PAIR) != 1) {
-                        abort(); // The proof excludes this.
-                    }
-                    uint64_t value = load64(node_3 + NODE_VALUE);
-                    uint64_t at_3 = chain_seek(map + INT_MAP_NODES, link, place);
-                    char *node_4 = nodes + (at_3 * NODE_SIZE);
+                    char *node_4 = nodes + (at_2 * NODE_SIZE);
                     if (load8(node_4 + NODE_HAS_PAIR) != 1) {
                         abort(); // The proof excludes this.
                     }
-                    value_2 = value;
-                    node_5 = node_4;
-                    goto after_OccupiedEntry_insert;
+                    node_2 = node_4;
+                    break;
                 }
-                uint64_t link_2 = link_of(load16(node_2 + NODE_HIGH), load32(node_2 + NODE_LOW));
+                uint64_t link_2 = link_of(load16(node_3 + NODE_HIGH), load32(node_3 + NODE_LOW));
                 if (nodes_len <= link_2) {
                     goto arm_2_2;
                 }
@@ -3599,12 +3594,10 @@ static ALWAYS_INLINE struct word_word do_intmap_add_or_insert(char *handle, uint
                 at = link_2;
             }
         }
-        value_2 = load64(node + NODE_VALUE);
-        node_5 = node;
-    after_OccupiedEntry_insert:;
-        store64(node_5 + NODE_VALUE, value_2 + more);
+        uint64_t value = load64(node_2 + NODE_VALUE);
+        store64(node_2 + NODE_VALUE, value + more);
+        value_2 = value;
         status = 1;
-        value_3 = value_2;
         goto after_pairs_add_or_insert;
     }
 arm_2_2:;
@@ -3624,27 +3617,27 @@ arm_2_2:;
         } else {
             insertion_push_further(made_usize, node, map + INT_MAP_NODES, key, more);
             if (load8(made_usize + MADE_USIZE_HAS_FAILED) != 0) {
+                value_2 = 0;
                 status = NO_MEMORY;
-                value_3 = 0;
                 goto after_pairs_add_or_insert;
             }
         }
         store64(map + INT_MAP_LEN, load64(map + INT_MAP_LEN) + 1);
+        value_2 = 0;
         status = 0;
-        value_3 = 0;
     } else {
         intmap_add_growing(made_location, map, index, key, key, more);
         if (load8(made_location + MADE_LOCATION_HAS_FAILED) == 0) {
+            value_2 = 0;
             status = 0;
-            value_3 = 0;
         } else {
+            value_2 = 0;
             status = (load8(made_location + MADE_LOCATION_SLOT_OR_CAUSE) == 0) ? NO_MEMORY : TOO_LARGE;
-            value_3 = 0;
         }
     }
 after_pairs_add_or_insert:;
     store64(handle, map_address_2);
-    return made_word_word(value_3, status);
+    return made_word_word(value_2, status);
 }
 
 // Finds the key, or inserts the pair if the key is absent, and returns whether the key was present.

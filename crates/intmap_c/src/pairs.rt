@@ -62,10 +62,10 @@ fn add_or_insert(map: &mut IntMap<u64, u64>, key: u64, more: u64) -> FoundValue
     ensures { AddsOrInserts map.old map.new key more result }
 {
     match map.entry(key) {
-        Entry::Occupied(mut entry) => {
-            let old = *entry.get();
-            let _ = entry.insert(old.wrapping_add(more));
-            entry.leave();
+        Entry::Occupied(entry) => {
+            let place = entry.into_mut();
+            let old = *place;
+            *place = old.wrapping_add(more);
             FoundValue::of(Some(old))
         }
         Entry::Vacant(entry) => match entry.insert_entry(more) {

@@ -1,16 +1,19 @@
-use Rattle.std.proofs.Common.{rules, inl, inr, sym, subst, ap, ◌∙◌}
+use Rattle.std.proofs.Common.{◌+◌, ◌%◌, ◌^◌, rules, inl, inr, sym, subst, ap, ◌∙◌}
 use Rattle.std.proofs.Math.Facts.{to_z-of_z}
 use Rattle.intmap_c.specs.Calls.{Binds, FailsToBind}
 use Rattle.intmap_c.proofs.AnswerLemmas.{Binds-new, Fails-due}
 use Rattle.intmap_c.proofs.pairs.add_or_insert.Goals as goal
 
 pub returns-in-Occupied : goal.returns-in-Occupied
-returns-in-Occupied c = inl (search rules, record { told = search rules; bound = search rules; missing = search rules; updates = search rules; len = search rules })
+returns-in-Occupied c =
+    let o = c.in-Occupied.ensures in let made = c.into_mut-place.ensures in let v = (c.into_mut-place.result.now + c.args.more) % 2 ^ 64 in
+    let updates = made.updates v in let len = made.len v in
+    inl (search rules, record { told = search rules; bound = search rules; missing = search rules; updates = λ present. search (rules, updates); len = search (rules, len) })
 
 pub returns-in-Ok : goal.returns-in-Ok
 returns-in-Ok c =
     let v = c.in-Vacant.ensures in let made = c.in-Ok.ensures in
-    let name = sym v.same_reference ∙ sym made.written.same_reference in let left = c.leave-in-Ok.ensures.state in
+    let name = sym v.same_reference ∙ sym made.written.same_reference in let left = c.leave.ensures.state in
     inr (inl (
       c.of-in-Ok.ensures,
       v.occupied,
