@@ -192,6 +192,8 @@ def vector_answer(it, call, refuses):
         return called(it, refuses, *numbers)
     except NoMemory:
         return "Memory"
+    except TooLarge:
+        return "TooLarge"
 
 
 def pairs_text(it, before, between, after):
@@ -203,6 +205,7 @@ VECTOR_CALLS = {
     ("add", 2): lambda it, refuses, place, more: add(it, place, more, refuses),
     ("set_below", 2): lambda it, _, count, value: each_below(it, count, lambda it, place: put(it, place, value, False)),
     ("add_below", 2): lambda it, _, count, more: each_below(it, count, lambda it, place: add(it, place, more, False)),
+    ("reserve_insertions", 1): lambda it, refuses, n: it.reserve_pairs(n, refuses, n) or "done",
     ("get", 1): lambda it, _, place: str(it.get(place) or 0),
     ("len", 0): lambda it, _: str(len(it.pairs)),
     ("is_empty", 0): lambda it, _: truth(not it.pairs),

@@ -77,7 +77,7 @@ class Definitions:
 
 
 def calls_of_laws(files):
-    """By crate and law: links to a file that calls it and to an answer of that crate that applies it, callers first."""
+    """By crate and law: links to a file that calls it and to an answer of that file that applies it, callers first."""
     calls, applied = {}, {}
     for path in sorted(files, key=lambda it: (not it.startswith(CALLERS), it)):
         if path.endswith(".rt") and "laws::" in files[path]:
@@ -86,10 +86,11 @@ def calls_of_laws(files):
                     calls.setdefault((crate, name), []).append(path)
         elif path.endswith("/Answers.antt"):
             for name in APPLIED.findall(files[path]):
-                applied.setdefault((path.split("/")[1], name), path)
+                applied.setdefault(name, []).append(path)
     found = {}
     for law, paths in calls.items():
-        answers = [applied[of, law[1]] for of in (it.split("/")[1] for it in paths) if (of, law[1]) in applied]
+        proofs = tuple(re.sub(r"(/(lib|main))?\.rt$", "/", it).replace("/src/", "/proofs/") for it in paths)
+        answers = [it for it in applied.get(law[1], []) if it.startswith(proofs)]
         links = [f"{how} in [{it[0]}]({TOP}{it[0]})" for how, it in (("Called", paths), ("applied", answers)) if it]
         found[law] = f"{', '.join(links)}."
     return found

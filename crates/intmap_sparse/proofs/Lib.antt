@@ -1,3 +1,4 @@
 pub mod SumLemmas
 pub mod ValueLemmas
 pub mod CallLemmas
+pub mod RoomLemmas

@@ -1,16 +1,19 @@
 -- Sparse vectors of integers: the value at a place, the product of two vectors, and when two are the same.
-use Rattle.std.specs.Prelude.{◌≡◌, ◌≢◌, ℕ, zero, suc, ◌+◌, ◌^◌, ◌<◌, Bool, cond, not, ◌&&◌, nat_lt, List, length, map, take, Some, unwrap_or, ℤ, pos, ◌+ℤ◌, ◌*ℤ◌, FitsSigned, MatchBool}
+use Rattle.std.specs.Prelude.{◌≡◌, ◌≢◌, ℕ, zero, suc, ◌+◌, ◌^◌, ◌<◌, ◌≤◌, ◌==◌, Bool, cond, not, ◌&&◌, nat_lt, List, length, map, take, Some, unwrap_or, ℤ, pos, ◌+ℤ◌, ◌*ℤ◌, FitsSigned, MatchBool}
 use Rattle.std.specs.List.{fold, list_all, All}
 use Rattle.std.specs.Ordering.{int_eq}
 use Rattle.std.specs.Int.{w128}
 use Rattle.intmap.specs.Bindings.{value_of, HasDistinctKeys, put_pair, take_key}
-use Rattle.intmap.specs.Map.{IsOutOfRange, IsCapacityAfter, first_factor}
+use Rattle.intmap.specs.Growing.{MeetsFactor}
+use Rattle.intmap.specs.Map.{MapState, IsMap, IsOutOfRange, IsCapacityAfter, first_factor, in_slots, still_reserved}
 use Rattle.intmap.specs.Walk.{walk_of}
 
--- a sparse vector: the stored places with their values, in the order of the walk, and the number of slots
+-- a sparse vector: the stored places with their values, in the order of the walk; the number of slots; and `reserved`, for how many places
+-- behind the first ones of their slots there surely is memory
 pub record Vector : Type 0 where
   pub walk : List (ℕ × ℤ)
   pub capacity : ℕ
+  pub reserved : ℕ
 
 -- the value at a place: the stored one, or otherwise 0
 abbrev pub value_at : List (ℕ × ℤ) → ℕ → ℤ
@@ -84,12 +87,34 @@ HasWideSum zs = (i : ℕ) × (FitsSigned w128 (partial_sum zs i) → ⊥)
 abbrev pub load_factor : ℕ
 load_factor = first_factor
 
+-- the vector that a map from places to values is
+abbrev pub vector_of : MapState ℕ ℤ → Vector
+vector_of m = record { walk = m.walk; capacity = m.capacity; reserved = m.reserved }
+
+-- the map from each stored place to its value, with nothing counted
+abbrev pub as_map : Vector → MapState ℕ ℤ
+as_map v = record { walk = v.walk; capacity = v.capacity; factor = load_factor; placed = 0; compared = 0; reserved = v.reserved }
+
+-- what holds of every vector: its walk may be that of a vector, and its stored places with their values are a map
+pub record IsSparseVec (v : Vector) : Type 0 where
+  pub vector : IsVector v.walk
+  pub map : IsMap (λ key. key) (λ key. key < 2 ^ 64) (as_map v)
+
+-- room was made for so many further places, which took the vector v to w: the same places, in slots that meet the load factor with all of
+-- them
+pub record IsRoomMade (v : Vector) (additional : ℕ) (w : Vector) : Type 0 where
+  pub count : length v.walk + additional < 2 ^ 64
+  pub meets : MeetsFactor v.capacity (length v.walk + additional) load_factor w.capacity
+  pub state : w ≡ vector_of (in_slots (λ key. key) (as_map v) w.capacity w.reserved)
+  pub reserved : still_reserved (λ key. key) (as_map v) w.capacity ≤ w.reserved
+
 -- the vector with z as the value of the place, in D slots: if z isn't 0, the place is stored with it as a map inserts a key,
--- and otherwise it is removed as a map removes a key
+-- and otherwise it is removed as a map removes a key; if D is another number of slots, nothing is reserved any more
 abbrev pub with_value : Vector → ℕ → ℤ → ℕ → Vector
 with_value v place z D = record {
   walk = walk_of (λ key. key) (cond (is_nonzero z) (put_pair (λ key. key) v.walk v.capacity place z) (take_key (λ key. key) v.walk v.capacity place)) D;
   capacity = D;
+  reserved = cond (D == v.capacity) v.reserved 0;
 }
 
 -- D is the number of slots after z became the value of the place: `IsCapacityAfter` if z isn't 0, and otherwise the same
@@ -107,3 +132,4 @@ pub record IsAssignment (v : Vector) (place : ℕ) (z : ℤ) (w : Vector) : Type
   pub state : w ≡ with_value v place z w.capacity
   pub sets : SetsValue v.walk w.walk place z
   pub len : length w.walk + cond (is_nonzero (value_at v.walk place)) 1 0 ≡ length v.walk + cond (is_nonzero z) 1 0
+  pub valid : IsSparseVec w

@@ -1,10 +1,12 @@
 //! The vector: a map from places to values other than 0.
-ghost use Rattle.std.specs.Prelude.{◌≡◌, ◌≢◌, ◌↔◌, ◌+◌, ◌<◌, ◌==◌, ℕ, ℤ, pos, ◌+ℤ◌, FitsSigned, IfOk, IfErr, IfSome, OnOk, OnErr, IsErrOf, IsNone, IsTrue, length, []};
+ghost use Rattle.std.specs.Prelude.{◌≡◌, ◌≢◌, ◌↔◌, ◌+◌, ◌<◌, ◌==◌, ℕ, ℤ, pos, ◌+ℤ◌, Err, FitsSigned, IfOk, IfErr, IfSome, IsOk, OnOk, OnErr, IsErrOf, IsNone, IsTrue, length, []};
 ghost use Rattle.std.specs.Int.{w64};
 ghost use Rattle.intmap.specs.Reach.{class_size};
 ghost use Rattle.intmap.specs.Growth.{IsNext};
+ghost use Rattle.intmap.specs.Growing.{NeedsTooMuchRoom};
+ghost use Rattle.intmap.specs.Room.{HasRoom, HasRoomInRow};
 ghost use Rattle.intmap.specs.Iterating.{GivesEach, ShowsEach, shown_pair};
-ghost use Rattle.intmap_sparse.specs.Vectors.{value_at, IsAssignment, IsVector, HaveSameValues, IsBeyondRange, load_factor, product, products, products_along, HasWideSum, count_of_nonzero};
+ghost use Rattle.intmap_sparse.specs.Vectors.{as_map, value_at, IsAssignment, IsRoomMade, IsSparseVec, IsVector, HaveSameValues, IsBeyondRange, load_factor, product, products, products_along, HasWideSum, count_of_nonzero};
 
 mod equal;
 
@@ -19,7 +21,8 @@ use std::marker::Model;
 ///
 /// It stores exactly the places whose value isn't 0. Contracts see it as a
 /// [`Vector`](../specs/Vectors.antt): its walk, which has these places with their values in
-/// iteration order, and its number of slots. The value at a place is `value_at` of the walk.
+/// iteration order, its number of slots, and for how many places that share a slot there surely is
+/// memory. The value at a place is `value_at` of the walk.
 #[derive(Drop)]
 pub struct SparseVec<A: Allocator + Copy = Global> {
     values: IntMap<u64, i64, A>,
@@ -28,14 +31,11 @@ pub struct SparseVec<A: Allocator + Copy = Global> {
 // Invariant: no stored value is 0, and the load factor is that of every vector.
 impl<A: Allocator + Copy> Model for SparseVec<A> {
     ghost use Rattle.std.specs.Prelude.{◌≡◌};
-    ghost use Rattle.intmap_sparse.specs.Vectors.{Vector, HasNoZeros, load_factor};
+    ghost use Rattle.intmap_sparse.specs.Vectors.{Vector, HasNoZeros, load_factor, vector_of};
 
     ghost Value = { Vector };
 
-    ghost view = { λ vector. record {
-      walk = vector.values.walk;
-      capacity = vector.values.capacity;
-    } };
+    ghost view = { λ vector. vector_of vector.values };
 
     ghost invariant = { λ vector. HasNoZeros vector.values.walk
         × (vector.values.factor ≡ load_factor) };
@@ -47,6 +47,7 @@ impl<A: Allocator + Copy> SparseVec<A> {
     pub fn new(alloc: A) -> Result<SparseVec<A>, Cause>
         ensures walk { IfOk result (λ made. made.walk ≡ []) }
         ensures capacity { IfOk result (λ made. made.capacity ≡ 4) }
+        ensures reserved { IfOk result (λ made. made.reserved ≡ 0) }
         ensures memory { IfErr result (λ cause. cause ≡ Cause.Memory) }
     {
         Ok(SparseVec {
@@ -64,6 +65,7 @@ impl<A: Allocator + Copy> SparseVec<A> {
     /// ```
     pub fn get(&self, place: u64) -> i64
         ensures value { result ≡ value_at self.now.walk place }
+        ensures valid { IsSparseVec self.now }
     {
         self.values.get(place).copied().unwrap_or(0)
     }
@@ -97,6 +99,10 @@ impl<A: Allocator + Copy> SparseVec<A> {
         ensures memory { IsErrOf result Cause.Memory
             → IsNext self.old.capacity (length self.old.walk + 1) load_factor self.old.capacity
             → 0 < class_size (λ key. key) self.old.walk self.old.capacity place }
+        ensures has_room { HasRoom (λ key. key) (as_map self.old) 1 → IsOk result }
+
+        ensures valid { IsSparseVec self.old }
+        ensures valid_after { IsSparseVec self.new }
     {
         if value == 0 {
             return Ok(self.values.remove(place).unwrap_or(0));
@@ -138,12 +144,55 @@ impl<A: Allocator + Copy> SparseVec<A> {
         ensures memory { IsErrOf result SparseCause.Memory
             → IsNext self.old.capacity (length self.old.walk + 1) load_factor self.old.capacity
             → 0 < class_size (λ key. key) self.old.walk self.old.capacity place }
+        ensures has_room { HasRoom (λ key. key) (as_map self.old) 1
+            → FitsSigned w64 (value_at self.old.walk place +ℤ delta) → IsOk result }
+
+        ensures valid { IsSparseVec self.old }
+        ensures valid_after { IsSparseVec self.new }
     {
         let Some(sum) = self.get(place).checked_add(delta) else {
             return Err(SparseCause::Overflow);
         };
         self.set(place, sum)?;
         Ok(sum)
+    }
+
+    /// Makes room for `additional` places more, whichever they are: the number of slots becomes the
+    /// least of itself and its doublings that meets the load factor with these places, and there is
+    /// memory for as many places that share a slot with another. The next `additional` calls of
+    /// [`set`](SparseVec::set) and [`add`](SparseVec::add) that store a place then allocate nothing,
+    /// so none of them fails, except an `add` whose sum isn't an `i64`.
+    ///
+    /// Contracts say so by `HasRoom` of the map that the vector stands for: a `set` in a vector that
+    /// has room for a place doesn't fail (its clause `has_room`), and
+    /// [`insertions_leave_room`](crate::laws::insertions_leave_room) says what it leaves of the
+    /// room.
+    ///
+    /// The call fails with [`Cause::TooLarge`] if and only if there would be more than 2^64 - 1
+    /// stored places, or no number of slots up to 2^63 meets the load factor with them, and
+    /// otherwise with [`Cause::Memory`] if an allocation fails. If the slots and the memory are
+    /// there already, the call allocates nothing. A failed call leaves the vector as it was.
+    ///
+    /// ```text
+    /// let mut vector = SparseVec::new(alloc)?;
+    /// vector.set(3, 5)?;
+    /// vector.reserve_insertions(100)?;
+    /// vector    // {3: 5}
+    /// ```
+    pub fn reserve_insertions(&mut self, additional: usize) -> Result<(), Cause>
+        ensures reserved { OnOk result (IsRoomMade self.old additional self.new) }
+        ensures room { OnOk result (HasRoomInRow (λ key. key) self.new.walk self.new.capacity
+            load_factor additional) }
+        ensures any { OnOk result (HasRoom (λ key. key) (as_map self.new) additional) }
+        ensures err { OnErr result (self.new ≡ self.old) }
+        ensures too_large { (result ≡ Err Cause.TooLarge) ↔ NeedsTooMuchRoom self.old.capacity
+            (length self.old.walk + additional) load_factor }
+        ensures updates { HaveSameValues self.old.walk self.new.walk }
+        ensures len { length self.new.walk ≡ length self.old.walk }
+        ensures valid { IsSparseVec self.old }
+        ensures valid_after { IsSparseVec self.new }
+    {
+        self.values.reserve_insertions(additional)
     }
 
     /// The sum of the products of the values of both vectors, over all places.
@@ -258,9 +307,10 @@ impl<A: Allocator + Copy> IntoIterator for SparseVec<A> {
 }
 
 impl<A: Allocator + Copy> Clone for SparseVec<A> {
-    ghost is_clone = { λ vector made. made ≡ vector };
+    ghost is_clone = { λ vector made. made ≡ record vector { reserved = 0 } };
 
-    /// A vector with the same walk and number of slots. It fails only if an allocation fails.
+    /// A vector with the same walk and number of slots, in which nothing is reserved. It fails only
+    /// if an allocation fails.
     ///
     /// ```text
     /// let mut vector = SparseVec::new(alloc)?;
