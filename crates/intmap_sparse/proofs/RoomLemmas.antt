@@ -1,17 +1,16 @@
--- Room for further places: a vector has that of its map; what a value that is set leaves of it.
-use Rattle.std.proofs.Common.{◌≡◌, ◌∙◌, ℕ, ◌+◌, ◌^◌, ◌<◌, true, false, cond, refl, sym, ap, subst, length, inl, inr, arith}
+-- A map without zeros is a vector; what a value that is set leaves of the room for further places.
+use Rattle.std.proofs.Common.{◌≡◌, ◌∙◌, ℕ, ◌+◌, ◌^◌, ◌<◌, true, false, cond, refl, sym, subst, length, inl, inr, arith}
 use Rattle.std.specs.Prelude.{◌==◌, ◌↔◌, ℤ, MatchBool}
 use Rattle.std.proofs.lemmas.Bool.{cases_Bool, eq-eqb}
 use Rattle.intmap.specs.Bindings.{put_pair, take_key}
-use Rattle.intmap.specs.Growing as of_map
-use Rattle.intmap.specs.Growing.{MeetsFactor, NeedsTooMuchRoom}
+use Rattle.intmap.specs.Growing.{NeedsTooMuchRoom}
 use Rattle.intmap.specs.Map.{MapState, IsCapacityAfter, IsMap, IsMapWalk, after_insert, without_key}
-use Rattle.intmap.specs.Room.{HasRoom, HasRoomForAny, HasRoomInRow}
+use Rattle.intmap.specs.Room.{HasRoom}
 use Rattle.intmap.specs.Walk.{walk_of}
 use Rattle.intmap.proofs.InsertionLemmas.{IsInsertion-put}
 use Rattle.intmap.proofs.LoadFactorLemmas.{in_range-next}
 use Rattle.intmap.proofs.ReservedLemmas.{HasRoom-fewer, HasRoom-inserted, HasRoom-removed, HasRoom-takes}
-use Rattle.intmap_sparse.specs.Vectors.{Vector, HasNoZeros, IsAssignment, IsRoomMade, IsSparseVec, as_map, is_nonzero, load_factor, vector_of}
+use Rattle.intmap_sparse.specs.Vectors.{Vector, HasNoZeros, IsAssignment, IsSparseVec, as_map, is_nonzero, load_factor, vector_of}
 use Rattle.intmap_sparse.proofs.ValueLemmas.{IsVector-map}
 
 module _ (m : MapState ℕ ℤ) (v : Vector) (seen : vector_of m ≡ v) (kept : m.factor ≡ load_factor) where
@@ -22,31 +21,10 @@ module _ (m : MapState ℕ ℤ) (v : Vector) (seen : vector_of m ≡ v) (kept : 
     map = subst (λ F. IsMapWalk (λ key. key) (λ key. key < 2 ^ 64) m.walk m.capacity F) kept map;
   })
 
-  -- room that is made in the map is made in the vector
-  pub IsRoomMade-seen : (n : MapState ℕ ℤ) (d : ℕ) → of_map.IsRoomMade (λ key. key) m d n → IsRoomMade v d (vector_of n)
-  IsRoomMade-seen n d did = subst (λ u. IsRoomMade u d (vector_of n)) seen (record {
-    count = did.count;
-    meets = subst (λ F. MeetsFactor m.capacity (length m.walk + d) F n.capacity) kept did.meets;
-    state = ap vector_of did.state;
-    reserved = did.reserved;
-  })
-
   -- where none can be made in the map, none can be made in the vector
   pub NeedsTooMuchRoom-seen : (d : ℕ) {P : Type 0} → P ↔ NeedsTooMuchRoom m.capacity (length m.walk + d) m.factor → P ↔ NeedsTooMuchRoom v.capacity (length v.walk + d) load_factor
   NeedsTooMuchRoom-seen d {P} iff =
       subst (λ u. P ↔ NeedsTooMuchRoom u.capacity (length u.walk + d) load_factor) seen (subst (λ F. P ↔ NeedsTooMuchRoom m.capacity (length m.walk + d) F) kept iff)
-
-  -- room in the map is room in the vector
-  pub HasRoomInRow-seen : (d : ℕ) → HasRoomInRow (λ key. key) m.walk m.capacity m.factor d → HasRoomInRow (λ key. key) v.walk v.capacity load_factor d
-  HasRoomInRow-seen d room =
-      subst (λ u. HasRoomInRow (λ key. key) u.walk u.capacity load_factor d) seen (subst (λ F. HasRoomInRow (λ key. key) m.walk m.capacity F d) kept room)
-
-  pub HasRoom-seen : (d : ℕ) → HasRoom (λ key. key) m d → HasRoom (λ key. key) (as_map v) d
-  HasRoom-seen d room = subst (λ u. HasRoom (λ key. key) (as_map u) d) seen (subst (λ F. HasRoomForAny (λ key. key) m.walk m.capacity F m.reserved d) kept room)
-
-  -- and the other way round, for any places
-  pub seen-HasRoom : (d : ℕ) → HasRoom (λ key. key) (as_map v) d → HasRoom (λ key. key) m d
-  seen-HasRoom d room = subst (λ F. HasRoomForAny (λ key. key) m.walk m.capacity F m.reserved d) (sym kept) (subst (λ u. HasRoom (λ key. key) (as_map u) d) (sym seen) room)
 
 module _ (v w : Vector) (place : ℕ) (z : ℤ) (valid : IsSparseVec v) (did : IsAssignment v place z w) where
   -- a 0 that is set leaves the room
