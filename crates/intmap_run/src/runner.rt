@@ -182,7 +182,8 @@ fn entry_insert<K: IntKey, V: Drop, J: Judge<K, V>, A: Allocator + Copy>(
 ) -> Answer<K, V, J::Seen, A>
     ensures step { (judge : J) → StepsFrom K.number_of (J.sees judge) (J.keeps judge)
         map.old (command.EntryInsert key value) result map.new }
-    ensures room { StepKeepsRoom K.number_of map.old (command.EntryInsert key value) result map.new }
+    ensures room { StepKeepsRoom K.number_of map.old (command.EntryInsert key value) result
+        map.new }
     ensures valid_after { IsMap K.number_of K.is_valid map.new }
 {
     match map.entry(key) {

@@ -44,7 +44,8 @@ impl<K: IntKey, V: Drop, A: Allocator + Copy> IntMap<K, V, A> {
             → let asked = next_pairs K.number_of self.old.walk self.old.capacity at.old in
             0 < length asked → at.new.slot ≡ slot_number K.number_of
             (slice_index_or asked (length asked - 1) p).0 self.old.capacity }
-        ensures within { 0 < length (next_pairs K.number_of self.old.walk self.old.capacity at.old) → at.new.place
+        ensures within { 0 < length (next_pairs K.number_of self.old.walk self.old.capacity at.old)
+            → at.new.place
             ≤ length (slot_of K.number_of self.new.walk self.new.capacity at.new.slot) }
         ensures stays { next_pairs K.number_of self.old.walk self.old.capacity at.old ≡ []
             → at.new ≡ at.old }
